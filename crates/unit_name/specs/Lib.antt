@@ -1,0 +1,4 @@
+pub mod Parts
+pub mod Name
+pub mod Laws
+pub mod Specifiers

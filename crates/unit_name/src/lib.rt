@@ -1,0 +1,20 @@
+//! The names of units: systemd.unit(5), "Description" and "Specifiers".
+#![tactic(auto)]
+
+mod ample;
+mod compare;
+mod cut;
+mod fault;
+mod kind;
+mod laws;
+mod name;
+mod specifier;
+
+pub use fault::{ExpandError, InstanceError, InstanceFault, MAX_NAME, NameError, NameFault};
+pub use kind::{Kind, UnitType};
+pub use laws::{instances_keep_the_rest, names_have_no_fault, parts_are_read};
+pub use name::{UnitName, is_unit_name};
+pub use specifier::expand;
+
+#[cfg(test)]
+mod tests;
