@@ -8,6 +8,7 @@ mod fault;
 mod kind;
 mod laws;
 mod name;
+mod part;
 mod specifier;
 
 pub use fault::{ExpandError, InstanceError, InstanceFault, MAX_NAME, NameError, NameFault};

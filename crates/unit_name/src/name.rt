@@ -1,13 +1,11 @@
-ghost use Rattle.std.specs.Prelude.{◌≡◌, ◌≢◌, ◌↔◌, ◌≤◌, ℕ, List, length, IfOk, IsTrue, MatchOption, Some};
-ghost use Rattle.std.specs.List.{list_all, after_last};
-ghost use Rattle.std.specs.Option.{option_copied, option_map};
-ghost use Rattle.unit_name.specs.Parts.{is_name_byte, kind_of, IsUnitName};
-ghost use Rattle.unit_name.specs.Name.{stem_of, suffix_of, prefix_of, instance_of, type_of, part_fault, template_of, with_instance, name_fault, instance_fault, Parses, TakesInstance};
-ghost use Rattle.unit_name.specs.Specifiers.{specifier, is_dash};
+ghost use Rattle.std.specs.Prelude.{◌≡◌, ◌≢◌, ◌↔◌, IfOk, IsTrue, Some};
+ghost use Rattle.std.specs.Option.{option_copied};
+ghost use Rattle.unit_name.specs.Parts.{kind_of, IsUnitName};
+ghost use Rattle.unit_name.specs.Name.{instance_of, type_of, template_of, Parses, TakesInstance};
 
-use crate::cut::{cut_at_first, cut_at_last};
-use crate::fault::{InstanceError, InstanceFault, MAX_NAME, NameError, NameFault};
+use crate::fault::{InstanceError, NameError};
 use crate::kind::{Kind, UnitType};
+use crate::part::{fault_of, instance_fault_of, instance_in, text_with_instance, type_in};
 use std::alloc::{AllocError, Global};
 use std::marker::Model;
 
@@ -108,33 +106,6 @@ impl UnitName {
     }
 }
 
-impl UnitName {
-    /// What the specifier `%` with this letter stands for.
-    #[tactic(auto, unfolding(crate::specs::Specifiers::specifier))]
-    pub(crate) fn specifier(&self, letter: u8) -> Option<&[u8]>
-        ensures { option_copied result ≡ specifier self.now letter }
-    {
-        match letter {
-            b'i' => Some(self.instance().unwrap_or(&[])),
-            b'n' => Some(self.text()),
-            b'N' => Some(stem_in(self.text())),
-            b'p' => Some(prefix_in(self.text())),
-            b'j' => Some(after_last_dash(prefix_in(self.text()))),
-            b'%' => Some(b"%"),
-            _ => None,
-        }
-    }
-}
-
-fn after_last_dash(text: &[u8]) -> &[u8]
-    ensures { result.now ≡ after_last is_dash text.now }
-{
-    match cut_at_last(text, b'-') {
-        Some((_, after)) => after,
-        None => text,
-    }
-}
-
 /// Whether `UnitName::parse` takes the text, memory apart.
 pub fn is_unit_name(text: &[u8]) -> bool
     ensures { IsTrue result ↔ IsUnitName text.now }
@@ -143,121 +114,4 @@ pub fn is_unit_name(text: &[u8]) -> bool
         Some(_) => false,
         None => true,
     }
-}
-
-fn is_name_byte(b: u8) -> bool
-    ensures { result ≡ is_name_byte b }
-{
-    b.is_ascii_alphanumeric() || b":-_.\\@".contains(&b)
-}
-
-fn has_name_bytes(text: &[u8]) -> bool
-    ensures { result ≡ list_all is_name_byte text.now }
-{
-    text.iter().all(|b| is_name_byte(*b))
-}
-
-#[tactic(auto, unfolding(crate::specs::Name::stem_of))]
-fn stem_in(text: &[u8]) -> &[u8]
-    ensures stem { result.now ≡ stem_of text.now }
-    ensures short { length result.now ≤ length text.now }
-{
-    match cut_at_last(text, b'.') {
-        Some((stem, _)) => stem,
-        None => text,
-    }
-}
-
-#[tactic(auto, unfolding(crate::specs::Name::suffix_of))]
-fn suffix_in(text: &[u8]) -> &[u8]
-    ensures suffix { result.now ≡ suffix_of text.now }
-    ensures short { length result.now ≤ length text.now }
-{
-    match cut_at_last(text, b'.') {
-        Some((_, suffix)) => suffix,
-        None => &[],
-    }
-}
-
-#[tactic(auto, unfolding(crate::specs::Name::prefix_of))]
-fn prefix_in(text: &[u8]) -> &[u8]
-    ensures prefix { result.now ≡ prefix_of text.now }
-    ensures short { length result.now ≤ length text.now }
-{
-    let stem = stem_in(text);
-    match cut_at_first(stem, b'@') {
-        Some((prefix, _)) => prefix,
-        None => stem,
-    }
-}
-
-#[tactic(auto, unfolding(crate::specs::Name::instance_of))]
-fn instance_in(text: &[u8]) -> Option<&[u8]>
-    ensures { option_copied result ≡ instance_of text.now }
-{
-    match cut_at_first(stem_in(text), b'@') {
-        Some((_, instance)) => Some(instance),
-        None => None,
-    }
-}
-
-#[tactic(auto, unfolding(crate::specs::Name::type_of))]
-fn type_in(text: &[u8]) -> Option<UnitType>
-    ensures { result ≡ type_of text.now }
-{
-    UnitType::named(suffix_in(text))
-}
-
-#[tactic(auto, unfolding(crate::specs::Name::part_fault))]
-fn part_fault_of(text: &[u8]) -> Option<NameFault>
-    ensures { result ≡ part_fault text.now }
-{
-    if prefix_in(text).is_empty() {
-        return Some(NameFault::NoPrefix);
-    }
-    if type_in(text).is_none() {
-        return Some(NameFault::BadType);
-    }
-    None
-}
-
-#[tactic(auto, unfolding(crate::specs::Name::name_fault))]
-fn fault_of(text: &[u8]) -> Option<NameFault>
-    ensures { result ≡ name_fault text.now }
-{
-    if text.len() > MAX_NAME {
-        return Some(NameFault::TooLong);
-    }
-    if !has_name_bytes(text) {
-        return Some(NameFault::BadCharacter);
-    }
-    part_fault_of(text)
-}
-
-#[tactic(auto, unfolding(crate::specs::Name::instance_fault, crate::specs::Name::with_instance))]
-fn instance_fault_of(text: &[u8], instance: &[u8]) -> Option<InstanceFault>
-    requires { length text.now ≤ MAX_NAME }
-    ensures { result ≡ instance_fault text.now instance.now }
-{
-    if instance.len() > MAX_NAME
-        || prefix_in(text).len() + instance.len() + suffix_in(text).len() + 2 > MAX_NAME
-    {
-        return Some(InstanceFault::TooLong);
-    }
-    if !has_name_bytes(instance) {
-        return Some(InstanceFault::BadCharacter);
-    }
-    None
-}
-
-#[tactic(auto, unfolding(crate::specs::Name::with_instance))]
-fn text_with_instance(alloc: Global, text: &[u8], instance: &[u8]) -> Result<Vec<u8>, AllocError>
-    ensures { IfOk result (λ spelled. spelled.items ≡ with_instance text.now instance.now) }
-{
-    let mut spelled = Vec::from_slice(alloc, prefix_in(text))?;
-    spelled.push(b'@')?;
-    spelled.extend_from_slice(instance)?;
-    spelled.push(b'.')?;
-    spelled.extend_from_slice(suffix_in(text))?;
-    Ok(spelled)
 }

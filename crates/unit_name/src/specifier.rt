@@ -1,8 +1,12 @@
 ghost use Rattle.std.specs.Prelude.{◌≡◌, ◌<◌, length, IfOk, IfSome, IfNone, Some, None};
-ghost use Rattle.unit_name.specs.Specifiers.{expansion, onto};
+ghost use Rattle.std.specs.List.{after_last};
+ghost use Rattle.std.specs.Option.{option_copied};
+ghost use Rattle.unit_name.specs.Specifiers.{expansion, onto, specifier, is_dash};
 
+use crate::cut::cut_at_last;
 use crate::fault::ExpandError;
 use crate::name::UnitName;
+use crate::part::{prefix_in, stem_in};
 use std::alloc::Global;
 
 /// The word with each specifier replaced by what it stands for in the name: `%i` the instance, nothing
@@ -17,9 +21,8 @@ pub fn expand(alloc: Global, word: &[u8], name: &UnitName) -> Result<Vec<u8>, Ex
     let mut text = Vec::new(alloc);
     let mut rest = word;
     'pieces: while !rest.is_empty() {
-        let (piece, after) = match first_piece(name, rest) {
-            Some(cut) => cut,
-            None => return Err(ExpandError::UnknownSpecifier),
+        let Some((piece, after)) = first_piece(name, rest) else {
+            return Err(ExpandError::UnknownSpecifier);
         };
         text.extend_from_slice(piece)?;
         rest = after;
@@ -36,11 +39,36 @@ fn first_piece<'a>(name: &'a UnitName, word: &'a [u8]) -> Option<(&'a [u8], &'a 
     ensures unknown { IfNone result (expansion name.now word.now ≡ None) }
 {
     match word {
-        [b'%', letter, rest @ ..] => match name.specifier(*letter) {
+        [b'%', letter, rest @ ..] => match specifier_text(name, *letter) {
             Some(value) => Some((value, rest)),
             None => None,
         },
         [b'%'] => None,
         _ => Some((&word[..1], &word[1..])),
+    }
+}
+
+/// What the specifier `%` with this letter stands for.
+#[tactic(auto, unfolding(crate::specs::Specifiers::specifier))]
+fn specifier_text(name: &UnitName, letter: u8) -> Option<&[u8]>
+    ensures { option_copied result ≡ specifier name.now letter }
+{
+    match letter {
+        b'i' => Some(name.instance().unwrap_or(&[])),
+        b'n' => Some(name.text()),
+        b'N' => Some(stem_in(name.text())),
+        b'p' => Some(prefix_in(name.text())),
+        b'j' => Some(after_last_dash(prefix_in(name.text()))),
+        b'%' => Some(b"%"),
+        _ => None,
+    }
+}
+
+fn after_last_dash(text: &[u8]) -> &[u8]
+    ensures { result.now ≡ after_last is_dash text.now }
+{
+    match cut_at_last(text, b'-') {
+        Some((_, after)) => after,
+        None => text,
     }
 }

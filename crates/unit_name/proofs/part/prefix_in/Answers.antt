@@ -3,7 +3,7 @@ use Rattle.std.specs.List.{before_first}
 use Rattle.unit_name.specs.Parts.{is_at}
 use Rattle.unit_name.specs.Name.{prefix_of}
 use Rattle.unit_name.proofs.Cuts.{before_first-none}
-use Rattle.unit_name.proofs.name.prefix_in.Goals as goal
+use Rattle.unit_name.proofs.part.prefix_in.Goals as goal
 
 pub returns-in-None-clause-prefix : goal.returns-in-None-clause-prefix
 unfolding prefix_of
