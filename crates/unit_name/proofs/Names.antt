@@ -47,7 +47,7 @@ stem_of-seam : (stem suffix : List ℕ) → list_any is_dot suffix ≡ false →
 unfolding stem_of
 stem_of-seam stem suffix none = let cut = last_seam is_dot 0 stem 46 suffix refl none in rw cut.0 cut.1
 
-suffix_of-seam : (stem suffix : List ℕ) → list_any is_dot suffix ≡ false → suffix_of (stem ++ 46 ∷ suffix) ≡ suffix
+pub suffix_of-seam : (stem suffix : List ℕ) → list_any is_dot suffix ≡ false → suffix_of (stem ++ 46 ∷ suffix) ≡ suffix
 unfolding suffix_of
 suffix_of-seam stem suffix none = let cut = last_seam is_dot 0 stem 46 suffix refl none in rw cut.0 cut.2
 

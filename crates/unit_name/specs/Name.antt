@@ -66,6 +66,9 @@ name_fault text =
     else if not (list_all is_name_byte text) then Some BadCharacter
     else part_fault text
 
+abbrev pub is_unit_name : List ℕ → Bool
+is_unit_name text = is_none (name_fault text)
+
 -- What is wrong with an instance for a name: the first of these.
 unfoldable pub instance_fault : List ℕ → List ℕ → Option InstanceFault
 instance_fault text instance =

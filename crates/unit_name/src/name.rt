@@ -1,7 +1,7 @@
 ghost use Rattle.std.specs.Prelude.{◌≡◌, ◌≢◌, ◌↔◌, IfOk, IsTrue, Some};
 ghost use Rattle.std.specs.Option.{option_copied};
 ghost use Rattle.unit_name.specs.Parts.{kind_of, IsUnitName};
-ghost use Rattle.unit_name.specs.Name.{instance_of, type_of, template_of, Parses, TakesInstance};
+ghost use Rattle.unit_name.specs.Name.{instance_of, type_of, template_of, is_unit_name, Parses, TakesInstance};
 
 use crate::fault::{InstanceError, NameError};
 use crate::kind::{Kind, UnitType};
@@ -108,7 +108,8 @@ impl UnitName {
 
 /// Whether `UnitName::parse` takes the text, memory apart.
 pub fn is_unit_name(text: &[u8]) -> bool
-    ensures { IsTrue result ↔ IsUnitName text.now }
+    ensures name { IsTrue result ↔ IsUnitName text.now }
+    ensures test { result ≡ is_unit_name text.now }
 {
     match fault_of(text) {
         Some(_) => false,

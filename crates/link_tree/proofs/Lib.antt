@@ -1,0 +1,15 @@
+pub mod PathFacts
+pub mod Slashes
+pub mod Nulls
+pub mod Unders
+pub mod Known
+pub mod Lines
+pub mod Prefixes
+pub mod Maps
+pub mod Keys
+pub mod Shapes
+pub mod Aboves
+pub mod Beneaths
+pub mod Slots
+pub mod Entries
+pub mod Again

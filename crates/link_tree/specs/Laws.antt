@@ -1,0 +1,17 @@
+-- Laws of links, trees and inventories, each the contract of a public function.
+use Rattle.std.specs.Prelude.{◌≡◌, ◌≤◌, ℕ, true, List, ◌++◌, Ok}
+use Rattle.std.specs.List.{list_all}
+use Rattle.std.specs.FinMap as map
+use Rattle.link_tree.specs.Paths.{is_path, is_text_byte}
+use Rattle.link_tree.specs.Canonical.{canonical_text, fits}
+use Rattle.link_tree.specs.Trees.{Entries, inventory_text}
+use Rattle.link_tree.specs.Shape.{IsTree}
+use Rattle.link_tree.specs.Inventory.{inventory_of}
+
+-- Where a link leads is a path, but for the root and what is too long.
+abbrev pub CanonicalIsPath : Type 0
+CanonicalIsPath = (link target : List ℕ) → is_path link ≡ true → list_all is_text_byte target ≡ true → is_path (canonical_text link target) ≡ fits (canonical_text link target)
+
+-- What is written of a tree is read again as the same tree, whatever follows.
+abbrev pub ReadsBack : Type 0
+ReadsBack = (m : Entries) (rest : List ℕ) → IsTree m → map.len m ≤ 65536 → inventory_of (inventory_text m ++ rest) ≡ Ok (m, rest)

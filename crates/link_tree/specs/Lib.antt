@@ -1,0 +1,12 @@
+pub mod Paths
+pub mod Canonical
+pub mod Values
+pub mod Slots
+pub mod Trees
+pub mod Shape
+pub mod Streams
+pub mod Lines
+pub mod Inventory
+pub mod Reads
+pub mod TreeReads
+pub mod Laws

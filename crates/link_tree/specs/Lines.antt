@@ -1,0 +1,42 @@
+-- Lines of bytes that are read one after another.
+use Rattle.std.specs.Prelude.{◌≡◌, ℕ, ◌-◌, ◌==◌, if◌then◌else◌, List, [], ◌∷◌, ◌++◌, Option, Some, Result, Ok, Err}
+use Rattle.link_tree.specs.declared.reading.Line.{Line}
+use Rattle.link_tree.specs.declared.reading.Line.TheVariants as lines
+use Prim.Native.Char.{code}
+
+-- What stands at the front of some bytes: a line and what follows its end, a last line without an end, or too long a line.
+pub data Front : Type 0 where
+  Whole : (line rest : List ℕ) → Front
+  Last : (line : List ℕ) → Front
+  Long : Front
+
+-- with a byte before the line
+abbrev pub after_byte : ℕ → Front → Front
+after_byte b (Whole line rest) = Whole (b ∷ line) rest
+after_byte b (Last line) = Last (b ∷ line)
+after_byte b Long = Long
+
+-- with some bytes before the line
+abbrev pub after_bytes : List ℕ → Front → Front
+after_bytes bs (Whole line rest) = Whole (bs ++ line) rest
+after_bytes bs (Last line) = Last (bs ++ line)
+after_bytes bs Long = Long
+
+-- the line at the front, of at most so many bytes before its end
+unfoldable pub front_line : ℕ → List ℕ → Front
+front_line room [] = Last []
+front_line room (b ∷ bs) =
+    if b == code "\n" then Whole [] bs
+    else if room == 0 then Long
+    else after_byte b (front_line (room - 1) bs)
+
+-- what a line that was read says about the bytes
+abbrev pub IsFront : Line → Option (List ℕ) → Front → Type 0
+IsFront (lines.Whole text) left (Whole line rest) = (text.items ≡ line) × (left ≡ Some rest)
+IsFront (lines.Last text) left (Last line) = (text.items ≡ line) × (left ≡ Some [])
+IsFront lines.Long left Long = Unit {0}
+IsFront _ left _ = ⊥
+
+abbrev pub ReadsLine : {E : Type 0} → ℕ → Option (List ℕ) → Option (List ℕ) → Result Line E → Type 0
+ReadsLine room old new (Ok line) = (bytes : List ℕ) → old ≡ Some bytes → IsFront line new (front_line room bytes)
+ReadsLine room old new (Err e) = Unit {0}

@@ -1,0 +1,121 @@
+ghost use Rattle.std.specs.Prelude.{◌≡◌, IfOk, true, false};
+ghost use Rattle.link_tree.specs.Paths.{is_target};
+ghost use Rattle.link_tree.specs.declared.entry.Entry.TheVariants.{Link};
+
+use crate::fault::TargetError;
+use crate::part::is_target;
+use crate::path::TreePath;
+use std::alloc::{AllocError, Global};
+use std::marker::Model;
+
+/// Where a link leads, as it was written: 1 to 4,095 bytes without NUL, TAB and LF. Contracts see its text.
+#[derive(Clone, Debug, Drop)]
+pub struct Target {
+    text: Vec<u8>,
+}
+
+impl Model for Target {
+    ghost use Rattle.std.specs.Prelude.{List, ℕ, IsTrue};
+    ghost use Rattle.link_tree.specs.Paths.{is_target};
+
+    ghost Value = { List ℕ };
+
+    ghost view = { λ target. target.text.items };
+
+    ghost invariant = { λ target. IsTrue (is_target target.text.items) };
+}
+
+impl Target {
+    /// Reads a target.
+    pub fn parse(alloc: Global, text: &[u8]) -> Result<Target, TargetError>
+        ensures target { IfOk result (λ target. (target ≡ text.now) × (is_target text.now ≡ true)) }
+        ensures bad { result ≡ Err TargetError.BadTarget → is_target text.now ≡ false }
+    {
+        if !is_target(text) {
+            return Err(TargetError::BadTarget);
+        }
+        let text = Vec::from_slice(alloc, text)?;
+        Ok(Target { text })
+    }
+
+    pub fn text(&self) -> &[u8]
+        ensures text { result.now ≡ self.now }
+        ensures target { is_target self.now ≡ true }
+    {
+        &self.text
+    }
+
+    /// An equal target.
+    pub fn copy(&self) -> Result<Target, AllocError>
+        ensures { IfOk result (λ target. target ≡ self.now) }
+    {
+        self.clone()
+    }
+}
+
+/// What stands at a path.
+#[derive(Clone, Debug, Drop)]
+pub enum Entry {
+    Link(Target),
+}
+
+impl Entry {
+    ghost use Rattle.link_tree.specs.Values.{is_entry, bytes_of};
+
+    /// A link with this target.
+    pub fn link(alloc: Global, target: &[u8]) -> Result<Entry, TargetError>
+        ensures link { IfOk result (λ entry. (entry ≡ Link target.now) × (is_target target.now ≡ true)) }
+        ensures bad { result ≡ Err TargetError.BadTarget → is_target target.now ≡ false }
+    {
+        Ok(Entry::Link(Target::parse(alloc, target)?))
+    }
+
+    /// The text of the link's target.
+    pub fn bytes(&self) -> &[u8]
+        ensures bytes { result.now ≡ bytes_of self.now }
+        ensures entry { is_entry self.now ≡ true }
+    {
+        match self {
+            Entry::Link(target) => target.text(),
+        }
+    }
+
+    /// An equal entry.
+    pub fn copy(&self) -> Result<Entry, AllocError>
+        ensures { IfOk result (λ entry. entry ≡ self.now) }
+    {
+        match self {
+            Entry::Link(target) => Ok(Entry::Link(target.copy()?)),
+        }
+    }
+}
+
+/// What a command does at one path: the entry before, or none, becomes the entry after, or none.
+#[derive(Debug, Drop)]
+pub struct Change {
+    pub path: TreePath,
+    pub before: Option<Entry>,
+    pub after: Option<Entry>,
+}
+
+impl Change {
+    /// An equal change.
+    pub fn copy(&self) -> Result<Change, AllocError>
+        ensures { IfOk result (λ change. change ≡ self.now) }
+    {
+        Ok(Change {
+            path: self.path.copy()?,
+            before: copy_of(&self.before)?,
+            after: copy_of(&self.after)?,
+        })
+    }
+}
+
+fn copy_of(entry: &Option<Entry>) -> Result<Option<Entry>, AllocError>
+    ensures { IfOk result (λ copy. copy ≡ entry.now) }
+{
+    match entry {
+        Some(entry) => Ok(Some(entry.copy()?)),
+        None => Ok(None),
+    }
+}

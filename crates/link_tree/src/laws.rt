@@ -1,0 +1,13 @@
+//! What holds of all links and trees: each function does nothing, and its contract is the law.
+ghost use Rattle.link_tree.specs.Laws.{CanonicalIsPath, ReadsBack};
+
+/// Where a link leads is a path, but for the root and what is too long.
+pub fn links_lead_to_paths()
+    ensures { CanonicalIsPath }
+{}
+
+/// What is written of a tree is read again as that tree, whatever follows it, where it has at most as many
+/// entries as are read.
+pub fn inventories_are_read_back()
+    ensures { ReadsBack }
+{}

@@ -1,0 +1,31 @@
+//! Trees of links: systemd.unit(5), "Unit File Load Path", and the one text of a tree, its inventory.
+#![tactic(auto)]
+
+mod canonical_form;
+mod compare;
+mod entry;
+mod fault;
+mod inventory;
+mod laws;
+mod part;
+mod path;
+mod reading;
+mod shape;
+mod slot;
+mod standard;
+mod stream;
+mod tree;
+mod writing;
+
+pub use canonical_form::{canonical, is_null_link};
+pub use entry::{Change, Entry, Target};
+pub use fault::{MAX_PATH, PathError, TargetError};
+pub use inventory::{InventoryError, InventoryFault, MAX_ENTRIES, MAX_LINE, read_inventory};
+pub use laws::{inventories_are_read_back, links_lead_to_paths};
+pub use path::TreePath;
+pub use reading::{Line, ReadError, read_line};
+pub use slot::{Place, Scope, Slot};
+pub use standard::{FromRead, ToWrite};
+pub use stream::{PATIENCE, Sink, Source, Stop};
+pub use tree::{Tree, inventory_text};
+pub use writing::{WriteError, WriteFault, write_inventory, write_text};

@@ -1,0 +1,207 @@
+//! Trees of entries.
+ghost use Rattle.std.specs.Prelude.{◌≡◌, ◌++◌, All, IfOk, OnOk, OnErr, IsTrue, true, false, ◌↔◌, map as list_map};
+ghost use Rattle.std.specs.List.{flat_map, list_any};
+ghost use Rattle.std.specs.Option.{option_copied};
+ghost use Rattle.std.specs.FinMap as map;
+ghost use Rattle.link_tree.specs.Slots.{is_slot};
+ghost use Rattle.link_tree.specs.Shape.{fits_at, is_beneath, is_crowded, IsTree};
+ghost use Rattle.link_tree.specs.Trees.{AreFrom, after_changes, entry_line, inventory_text};
+
+use crate::entry::{Change, Entry};
+use crate::path::TreePath;
+use crate::shape::is_beneath;
+use std::alloc::{AllocError, Global};
+use std::collections::BTreeMap;
+use std::marker::Model;
+use std::ops::Bound;
+
+/// Entries by their paths, none beneath another and none where slots don't allow it. Contracts see a finite map.
+#[derive(Debug, Drop)]
+pub struct Tree {
+    entries: BTreeMap<TreePath, Entry>,
+}
+
+impl Model for Tree {
+    ghost use Rattle.std.specs.FinMap as map;
+    ghost use Rattle.link_tree.specs.Trees.{path_cmp};
+    ghost use Rattle.link_tree.specs.Values.{coded_path, coded_entry};
+    ghost use Rattle.link_tree.specs.declared.entry.Entry.{Entry};
+
+    ghost Value = { map.FinMap path_cmp Entry };
+
+    ghost coded = { map.code coded_path coded_entry };
+
+    ghost view = { λ tree. map.from_entries tree.entries.entries };
+
+    ghost use Rattle.link_tree.specs.Shape.{IsTree};
+
+    ghost invariant = { λ tree. IsTree (map.from_entries tree.entries.entries) };
+}
+
+impl Tree {
+    /// A tree with no entry.
+    pub fn empty(alloc: Global) -> Tree
+        ensures { result ≡ map.empty }
+    {
+        Tree {
+            entries: BTreeMap::new(alloc),
+        }
+    }
+
+    /// What stands at the path.
+    pub fn get(&self, path: &TreePath) -> Option<&Entry>
+        ensures { option_copied result ≡ map.get self.now path.now }
+    {
+        self.entries.get(path)
+    }
+
+    /// How many entries there are.
+    pub fn len(&self) -> usize
+        ensures { result ≡ map.len self.now }
+    {
+        self.entries.len()
+    }
+
+    /// Whether there is none.
+    pub fn is_empty(&self) -> bool
+        ensures { IsTrue result ↔ (map.len self.now ≡ 0) }
+    {
+        self.len() == 0
+    }
+
+    /// An equal tree.
+    pub fn copy(&self) -> Result<Tree, AllocError>
+        ensures { IfOk result (λ tree. tree ≡ self.now) }
+    {
+        Ok(Tree {
+            entries: self.entries.clone()?,
+        })
+    }
+
+    /// A tree has the shape of one: its entries may stand where they do, and none lies beneath another.
+    pub fn shape(&self)
+        ensures { IsTree self.now }
+    {
+        let _count = self.entries.len();
+    }
+
+    /// The tree with these changes made: each replaces what stands at a slot. The tree itself stays.
+    pub fn with_changes(&self, changes: &[Change]) -> Result<Tree, AllocError>
+        requires slots { All (λ change. is_slot change.path ≡ true) changes.now }
+        requires from { AreFrom self.now changes.now }
+        ensures { IfOk result (λ tree. tree ≡ after_changes changes.now self.now) }
+    {
+        let mut tree = self.copy()?;
+        for change in changes {
+            match &change.after {
+                Some(entry) => {
+                    let path = change.path.copy()?;
+                    let entry = entry.copy()?;
+                    let _path = path.text();
+                    let _valid = entry.bytes();
+                    tree.shape();
+                    tree.insert(path, entry)?;
+                }
+                None => tree.remove(&change.path),
+            }
+        }
+        Ok(tree)
+    }
+}
+
+impl Tree {
+    /// Puts an entry at the path.
+    pub(crate) fn insert(&mut self, path: TreePath, entry: Entry) -> Result<(), AllocError>
+        requires fits { fits_at path entry ≡ true }
+        requires apart { is_crowded self.old path ≡ false }
+        ensures ok { OnOk result (self.new ≡ map.insert self.old path entry) }
+        ensures err { OnErr result (self.new ≡ self.old) }
+    {
+        self.entries.insert(path, entry)?;
+        Ok(())
+    }
+
+    /// Takes the entry at the path away.
+    fn remove(&mut self, path: &TreePath)
+        ensures { self.new ≡ map.remove self.old path.now }
+    {
+        self.entries.remove(path);
+    }
+
+    /// Whether an entry lies beneath the path, or the path beneath an entry.
+    pub(crate) fn is_crowded(&self, path: &TreePath) -> Result<bool, AllocError>
+        ensures { IfOk result (λ crowded. crowded ≡ is_crowded self.now path.now) }
+    {
+        self.shape();
+        Ok(self.has_above(path)? || self.has_beneath(path)?)
+    }
+
+    /// Whether the path lies beneath an entry: each directory above it is looked up.
+    fn has_above(&self, path: &TreePath) -> Result<bool, AllocError>
+        requires { IsTree self.now }
+        ensures { IfOk result (λ found. found ≡ list_any (is_beneath path.now) (map.keys self.now)) }
+    {
+        let path = path.copy()?;
+        let mut above = path.into_parent();
+        'above: while let Some(dir) = above {
+            if self.get(&dir).is_some() {
+                return Ok(true);
+            }
+            above = dir.into_parent();
+        }
+        Ok(false)
+    }
+
+    /// Whether an entry lies beneath the path: the first that could is looked up.
+    fn has_beneath(&self, path: &TreePath) -> Result<bool, AllocError>
+        requires { IsTree self.now }
+        ensures { IfOk result (λ found. found ≡ list_any (λ other. is_beneath other path.now) (map.keys self.now)) }
+    {
+        let Some(first) = path.first_beneath()? else {
+            return Ok(false);
+        };
+        match self
+            .entries
+            .range((Bound::Included(first), Bound::Unbounded))
+            .next()
+        {
+            Some((other, _)) => Ok(is_beneath(other.text(), path.text())),
+            None => Ok(false),
+        }
+    }
+
+    /// The lines of the entries, in the order of their paths.
+    fn push_lines(&self, out: &mut Vec<u8>) -> Result<(), AllocError>
+        ensures { OnOk result (out.new.items ≡ out.old.items ++ flat_map entry_line (map.entries self.now)) }
+    {
+        for (path, entry) in self.entries.iter() {
+            push_line(out, path, entry)?;
+        }
+        Ok(())
+    }
+}
+
+fn push_line(out: &mut Vec<u8>, path: &TreePath, entry: &Entry) -> Result<(), AllocError>
+    ensures { OnOk result (out.new.items ≡ out.old.items ++ entry_line (path.now, entry.now)) }
+{
+    match entry {
+        Entry::Link(target) => {
+            out.extend_from_slice(b"L\t")?;
+            out.extend_from_slice(path.text())?;
+            out.push(b'\t')?;
+            out.extend_from_slice(target.text())?;
+            out.push(b'\n')?;
+        }
+    }
+    Ok(())
+}
+
+/// The one text of a tree.
+pub fn inventory_text(alloc: Global, tree: &Tree) -> Result<Vec<u8>, AllocError>
+    ensures { IfOk result (λ text. text.items ≡ inventory_text tree.now) }
+{
+    let mut out = Vec::from_slice(alloc, b"unitadm-inventory 1\n")?;
+    tree.push_lines(&mut out)?;
+    out.extend_from_slice(b"end\n")?;
+    Ok(out)
+}
