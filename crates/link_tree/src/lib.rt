@@ -6,6 +6,7 @@ mod compare;
 mod entry;
 mod fault;
 mod inventory;
+mod iter;
 mod laws;
 mod part;
 mod path;
@@ -21,6 +22,7 @@ pub use canonical_form::{canonical, is_null_link};
 pub use entry::{Change, Entry, Target};
 pub use fault::{MAX_PATH, PathError, TargetError};
 pub use inventory::{InventoryError, InventoryFault, MAX_ENTRIES, MAX_LINE, read_inventory};
+pub use iter::Iter;
 pub use laws::{inventories_are_read_back, links_lead_to_paths};
 pub use path::TreePath;
 pub use reading::{Line, ReadError, read_line};
@@ -29,3 +31,6 @@ pub use standard::{FromRead, ToWrite};
 pub use stream::{PATIENCE, Sink, Source, Stop};
 pub use tree::{Tree, inventory_text};
 pub use writing::{WriteError, WriteFault, write_inventory, write_text};
+
+#[cfg(test)]
+mod tests;

@@ -1,5 +1,5 @@
 //! Readers and writers of std as sources and sinks.
-ghost use Rattle.std.specs.Prelude.{◌≡◌, ℕ};
+ghost use Rattle.std.specs.Prelude.{◌≡◌, ℕ, Err};
 ghost use Rattle.link_tree.specs.Streams.{failures_after, interruptions_after};
 
 use crate::stream::{Sink, Source, Stop};
@@ -14,7 +14,12 @@ pub struct FromRead<R> {
 }
 
 impl<R: BufRead> FromRead<R> {
-    pub fn new(inner: R) -> FromRead<R> {
+    /// A source of the bytes that the reader has left.
+    pub fn new(inner: R) -> FromRead<R>
+        ensures left { ⟦<FromRead<R> as Source>⟧.left result ≡ R.remaining inner }
+        ensures failures { ⟦<FromRead<R> as Source>⟧.failures result ≡ 0 }
+        ensures interruptions { ⟦<FromRead<R> as Source>⟧.interruptions result ≡ 0 }
+    {
         FromRead {
             inner,
             failures: 0,
@@ -23,7 +28,7 @@ impl<R: BufRead> FromRead<R> {
     }
 }
 
-// Why a call stopped, with the counters.
+/// Why a call stopped, with the counters: a counter stops at its largest value.
 fn count(e: Error, failures: &mut u64, interruptions: &mut u64) -> Stop
     ensures failures { failures.new ≡ failures_after {T = ℕ} failures.old (Err result) }
     ensures interruptions { interruptions.new ≡ interruptions_after {T = ℕ} interruptions.old (Err result) }
@@ -63,14 +68,21 @@ pub struct ToWrite<W> {
     inner: W,
     failures: u64,
     interruptions: u64,
+    flushed: bool,
 }
 
 impl<W: Write> ToWrite<W> {
-    pub fn new(inner: W) -> ToWrite<W> {
+    /// A sink that writes behind what the writer has taken.
+    pub fn new(inner: W) -> ToWrite<W>
+        ensures written { ⟦<ToWrite<W> as Sink>⟧.written result ≡ W.contents inner }
+        ensures failures { ⟦<ToWrite<W> as Sink>⟧.failures result ≡ 0 }
+        ensures interruptions { ⟦<ToWrite<W> as Sink>⟧.interruptions result ≡ 0 }
+    {
         ToWrite {
             inner,
             failures: 0,
             interruptions: 0,
+            flushed: false,
         }
     }
 }
@@ -82,7 +94,10 @@ impl<W: Write> Sink for ToWrite<W> {
 
     ghost interruptions = { λ s. s.interruptions };
 
+    ghost flushed = { λ s. s.flushed };
+
     fn write(&mut self, bytes: &[u8]) -> Result<usize, Stop> {
+        self.flushed = false;
         match self.inner.write(bytes) {
             Ok(n) => {
                 self.interruptions = 0;
@@ -99,6 +114,7 @@ impl<W: Write> Sink for ToWrite<W> {
         match self.inner.flush() {
             Ok(()) => {
                 self.interruptions = 0;
+                self.flushed = true;
                 Ok(())
             }
             Err(e) => Err(count(e, &mut self.failures, &mut self.interruptions)),

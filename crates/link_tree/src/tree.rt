@@ -1,6 +1,8 @@
 //! Trees of entries.
 ghost use Rattle.std.specs.Prelude.{◌≡◌, ◌++◌, All, IfOk, OnOk, OnErr, IsTrue, true, false, ◌↔◌, map as list_map};
 ghost use Rattle.std.specs.List.{flat_map, list_any};
+ghost use Rattle.std.specs.Prelude.{ℕ, List, IsPermutation};
+ghost use Rattle.std.specs.Map.Iter.{ShowsInOrder, deref_pair};
 ghost use Rattle.std.specs.Option.{option_copied};
 ghost use Rattle.std.specs.FinMap as map;
 ghost use Rattle.link_tree.specs.Slots.{is_slot};
@@ -8,6 +10,7 @@ ghost use Rattle.link_tree.specs.Shape.{fits_at, is_beneath, is_crowded, IsTree}
 ghost use Rattle.link_tree.specs.Trees.{AreFrom, after_changes, entry_line, inventory_text};
 
 use crate::entry::{Change, Entry};
+use crate::iter::Iter;
 use crate::path::TreePath;
 use crate::shape::is_beneath;
 use std::alloc::{AllocError, Global};
@@ -67,6 +70,14 @@ impl Tree {
         ensures { IsTrue result ↔ (map.len self.now ≡ 0) }
     {
         self.len() == 0
+    }
+
+    /// Each path with its entry, once, in an order of the tree's own.
+    pub fn iter(&self) -> Iter<'_>
+        ensures entries { IsPermutation result (map.entries self.now) }
+        ensures runs { ShowsInOrder (deref_pair {K = List ℕ} {X = Entry}) }
+    {
+        Iter::new(self.entries.iter())
     }
 
     /// An equal tree.

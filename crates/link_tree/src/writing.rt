@@ -1,7 +1,7 @@
 //! What goes out.
 #![tactic(auto, using(crate::proofs::Known::known))]
 
-ghost use Rattle.std.specs.Prelude.{◌≡◌, ◌<◌, ◌≤◌, length, take, OnOk, OnErr, IfErr, IfNone, OnSome};
+ghost use Rattle.std.specs.Prelude.{◌≡◌, true, ◌<◌, ◌≤◌, length, take, OnOk, OnErr, IfErr, IfNone, OnSome};
 ghost use Rattle.std.specs.Bool.{OnFalse};
 ghost use Rattle.std.specs.Io.KnownBytes.{Appends, Keeps};
 ghost use Rattle.std.specs.Prelude.{◌⊎◌};
@@ -38,6 +38,7 @@ fn write_some<K: Sink>(bytes: &[u8], sink: &mut K) -> Option<usize>
 
 fn flush<K: Sink>(sink: &mut K) -> bool
     ensures bytes { Keeps (K.written sink.old) (K.written sink.new) }
+    ensures flushed { result ≡ true → K.flushed sink.new ≡ true }
     ensures cause { OnFalse result (HasCause (K.failures sink.old, K.interruptions sink.old) (K.failures sink.new, K.interruptions sink.new)) }
 {
     for _tried in 0..PATIENCE {
@@ -53,6 +54,7 @@ fn flush<K: Sink>(sink: &mut K) -> bool
 /// Writes the whole text, and flushes.
 pub fn write_text<K: Sink>(text: &[u8], sink: &mut K) -> Result<(), WriteFault>
     ensures ok { OnOk result (Appends (K.written sink.old) (K.written sink.new) text.now) }
+    ensures flushed { OnOk result (K.flushed sink.new ≡ true) }
     ensures fault { IfErr result (λ e. (e.0 ≤ length text.now) × Appends (K.written sink.old) (K.written sink.new) (take e.0 text.now)) }
     ensures cause { OnErr result (HasCause (K.failures sink.old, K.interruptions sink.old) (K.failures sink.new, K.interruptions sink.new)) }
 {
@@ -83,6 +85,7 @@ pub enum WriteError {
 /// of memory leaves nothing written.
 pub fn write_inventory<K: Sink>(alloc: Global, tree: &Tree, sink: &mut K) -> Result<(), WriteError>
     ensures ok { OnOk result (Appends (K.written sink.old) (K.written sink.new) (inventory_text tree.now)) }
+    ensures flushed { OnOk result (K.flushed sink.new ≡ true) }
     ensures fault { IfErr result (λ e. SentBefore e (K.written sink.old) (K.written sink.new) (inventory_text tree.now)) }
     ensures cause { IfErr result (λ e. e ≡ WriteError.OutOfMemory ⊎ HasCause (K.failures sink.old, K.interruptions sink.old) (K.failures sink.new, K.interruptions sink.new)) }
 {

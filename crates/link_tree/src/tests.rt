@@ -1,0 +1,4 @@
+mod links;
+mod reading;
+mod streams;
+mod writing;

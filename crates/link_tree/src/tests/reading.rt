@@ -1,0 +1,236 @@
+use crate::tests::streams::Faulty;
+use crate::{FromRead, InventoryError, InventoryFault, PATIENCE, Tree, read_inventory};
+use std::alloc::Global;
+use std::test::Fail;
+use unit_name::ample;
+
+/// Two links in no order, and what follows an inventory.
+const TWO_LINKS: &[u8] = b"unitadm-inventory 1\nL\t/b\t/x\nL\t/a/c\ty\nend\n== calls\n";
+
+/// How many of its bytes are the inventory's.
+const TWO_LINKS_LEN: usize = 41;
+
+fn read(alloc: Global, input: &[u8]) -> Result<Tree, InventoryError> {
+    ample!(
+        read_inventory(alloc, &mut Faulty::new(input, 100_000, 0)),
+        InventoryError::OutOfMemory
+    )
+}
+
+#[test]
+fn what_follows_an_inventory_is_left(rt: HostRuntime) -> Result<(), Fail> {
+    let alloc = rt.alloc();
+    let mut source = Faulty::new(TWO_LINKS, 100_000, 0);
+    let tree = ample!(
+        {
+            source = Faulty::new(TWO_LINKS, 100_000, 0);
+            read_inventory(alloc, &mut source)
+        },
+        InventoryError::OutOfMemory
+    )?;
+    assert_eq!(rt; tree.len(), 2);
+    assert_eq!(rt; source.left(), b"== calls\n".as_slice());
+
+    let mut bytes = TWO_LINKS;
+    let tree = ample!(
+        {
+            bytes = TWO_LINKS;
+            read_inventory(alloc, &mut FromRead::new(&mut bytes))
+        },
+        InventoryError::OutOfMemory
+    )?;
+    assert_eq!(rt; tree.len(), 2);
+    assert_eq!(rt; bytes, b"== calls\n".as_slice());
+    Ok(())
+}
+
+#[test]
+fn the_first_fault_is_named(rt: HostRuntime) {
+    let inputs: [(&[u8], InventoryFault, u32); 32] = [
+        (b"", InventoryFault::BadHeader, 0),
+        (b"unitadm-inventory 1", InventoryFault::BadHeader, 0),
+        (b"unitadm-inventory 2\nend\n", InventoryFault::BadHeader, 0),
+        (
+            b"unitadm-inventory 1\r\nend\n",
+            InventoryFault::BadHeader,
+            0,
+        ),
+        (b"unitadm-inventory 1\n", InventoryFault::Truncated, 1),
+        (b"unitadm-inventory 1\nend", InventoryFault::Truncated, 1),
+        (
+            b"unitadm-inventory 1\nL\t/a\tb",
+            InventoryFault::Truncated,
+            1,
+        ),
+        (
+            b"unitadm-inventory 1\nL\t/a\tb\nen",
+            InventoryFault::Truncated,
+            2,
+        ),
+        (b"unitadm-inventory 1\n\n", InventoryFault::BadLine, 1),
+        (b"unitadm-inventory 1\nend \n", InventoryFault::BadLine, 1),
+        (
+            b"unitadm-inventory 1\nF\t1\t/a\nx\nend\n",
+            InventoryFault::BadLine,
+            1,
+        ),
+        (b"unitadm-inventory 1\nL\t/a\n", InventoryFault::BadLine, 1),
+        (
+            b"unitadm-inventory 1\nL /a\tb\n",
+            InventoryFault::BadLine,
+            1,
+        ),
+        (
+            b"unitadm-inventory 1\nL\t/a\tb\tc\n",
+            InventoryFault::BadLine,
+            1,
+        ),
+        (
+            b"unitadm-inventory 1\nL\ta\tb\tc\n",
+            InventoryFault::BadLine,
+            1,
+        ),
+        (b"unitadm-inventory 1\nL\t\tb\n", InventoryFault::BadPath, 1),
+        (
+            b"unitadm-inventory 1\nL\ta\tb\n",
+            InventoryFault::BadPath,
+            1,
+        ),
+        (
+            b"unitadm-inventory 1\nL\t/a\t\n",
+            InventoryFault::BadPath,
+            1,
+        ),
+        (
+            b"unitadm-inventory 1\nL\t/a\0\tb\n",
+            InventoryFault::BadPath,
+            1,
+        ),
+        (
+            b"unitadm-inventory 1\nL\t/a\tb\0\n",
+            InventoryFault::BadPath,
+            1,
+        ),
+        (
+            b"unitadm-inventory 1\nL\t/etc/../a\tb\n",
+            InventoryFault::BadPath,
+            1,
+        ),
+        (
+            b"unitadm-inventory 1\nL\t/a\tb\nL\t/a\tb\n",
+            InventoryFault::Duplicate,
+            2,
+        ),
+        (
+            b"unitadm-inventory 1\nL\t/a\tb\nL\t/a/c/d\tb\n",
+            InventoryFault::UnderEntry,
+            2,
+        ),
+        (
+            b"unitadm-inventory 1\nL\t/a/c/d\tb\nL\t/a\tb\n",
+            InventoryFault::UnderEntry,
+            2,
+        ),
+        (
+            b"unitadm-inventory 1\nL\t/a-b\tb\nL\t/a/c\tb\nL\t/a\tb\n",
+            InventoryFault::UnderEntry,
+            3,
+        ),
+        (
+            b"unitadm-inventory 1\nL\t/etc/systemd/system/a.path\tb\nL\t/etc/systemd/system/a.path/c\tb\n",
+            InventoryFault::UnderEntry,
+            2,
+        ),
+        (
+            b"unitadm-inventory 1\nL\t/etc/systemd/system/x.target.wants\t/y\n",
+            InventoryFault::BadShape,
+            1,
+        ),
+        (
+            b"unitadm-inventory 1\nL\t/etc/systemd/system/a.service/b\t/y\n",
+            InventoryFault::BadShape,
+            1,
+        ),
+        (
+            b"unitadm-inventory 1\nL\t/usr/lib/systemd/system/a.target.wants/a.path/b\t/y\n",
+            InventoryFault::BadShape,
+            1,
+        ),
+        (
+            b"unitadm-inventory 1\nL\t/run/systemd/system-preset\t/y\n",
+            InventoryFault::BadShape,
+            1,
+        ),
+        (
+            b"unitadm-inventory 1\nL\t/usr/local/lib\t/y\n",
+            InventoryFault::BadShape,
+            1,
+        ),
+        (
+            b"unitadm-inventory 1\nL\t/etc\t/y\n",
+            InventoryFault::BadShape,
+            1,
+        ),
+    ];
+    for (input, fault, number) in inputs {
+        match read(rt.alloc(), input) {
+            Err(error) => assert_eq!(rt; error, InventoryError::Fault(fault, number)),
+            Ok(_) => panic!(rt; "accepted: {input:?}"),
+        }
+    }
+}
+
+#[test]
+fn a_line_has_at_most_16384_bytes(rt: HostRuntime) {
+    let mut input = [b'x'; 20 + 16385];
+    input[..20].copy_from_slice(b"unitadm-inventory 1\n");
+    for (len, fault) in [
+        (20 + 16384, InventoryFault::Truncated),
+        (20 + 16385, InventoryFault::BadLine),
+    ] {
+        match read(rt.alloc(), &input[..len]) {
+            Err(error) => assert_eq!(rt; error, InventoryError::Fault(fault, 1)),
+            Ok(_) => panic!(rt; "accepted"),
+        }
+    }
+}
+
+#[test]
+fn a_source_may_fail_anywhere(rt: HostRuntime) {
+    let mut number = 0;
+    for k in 0..TWO_LINKS_LEN {
+        let read = ample!(
+            read_inventory(rt.alloc(), &mut Faulty::new(TWO_LINKS, k, 0)),
+            InventoryError::OutOfMemory
+        );
+        match read {
+            Err(error) => assert_eq!(rt;
+                error,
+                InventoryError::ReadFault(number),
+                "after {k} bytes"
+            ),
+            Ok(_) => panic!(rt; "read to its end"),
+        }
+        if TWO_LINKS.get(k) == Some(&b'\n') {
+            number = number.saturating_add(1);
+        }
+    }
+}
+
+#[test]
+fn a_source_may_be_interrupted(rt: HostRuntime) -> Result<(), Fail> {
+    let patience = u64::from(PATIENCE);
+    let tree = ample!(
+        read_inventory(
+            rt.alloc(),
+            &mut Faulty::new(TWO_LINKS, 100_000, patience - 1)
+        ),
+        InventoryError::OutOfMemory
+    )?;
+    assert_eq!(rt; tree.len(), 2);
+    match read_inventory(rt.alloc(), &mut Faulty::new(TWO_LINKS, 100_000, patience)) {
+        Err(error) => assert_eq!(rt; error, InventoryError::ReadFault(0)),
+        Ok(_) => panic!(rt; "read in spite of it"),
+    }
+    Ok(())
+}
