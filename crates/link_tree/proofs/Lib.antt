@@ -13,3 +13,4 @@ pub mod Beneaths
 pub mod Slots
 pub mod Entries
 pub mod Again
+pub mod UnitSlots

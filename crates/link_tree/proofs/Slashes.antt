@@ -162,7 +162,7 @@ slash-text : (part : List ℕ) → list_all is_text_byte part ≡ true → list_
 unfolding is_text_byte
 slash-text part h = h
 
-front-part : (text part : List ℕ) → is_front text ≡ true → list_all is_part_byte part ≡ true → is_part part ≡ true → is_front (text ++ 47 ∷ part) ≡ true
+pub front-part : (text part : List ℕ) → is_front text ≡ true → list_all is_part_byte part ≡ true → is_part part ≡ true → is_front (text ++ 47 ∷ part) ≡ true
 front-part [] part front bytes is = front-from 47 part (slash-text part (part-text part bytes)) refl (one-part part bytes is)
 front-part (b ∷ bs) part front bytes is =
     let f = front-facts b bs front in
@@ -231,7 +231,7 @@ swapped : (x y : Bool) → y ≡ true → (x && true) ≡ (y && x)
 swapped true y e = sym (rw e refl)
 swapped false y e = sym (rw e refl)
 
-front-path : (text : List ℕ) → is_front text ≡ true → is_path text ≡ fits text
+pub front-path : (text : List ℕ) → is_front text ≡ true → is_path text ≡ fits text
 unfolding is_path is_absolute
 front-path [] front = refl
 front-path (b ∷ bs) front = ap (λ (t : Bool). nat_le (length (b ∷ bs)) 4095 && t) front ∙ swapped (nat_le (length (b ∷ bs)) 4095) (nat_lt 0 (length (b ∷ bs))) (lt-ltb 0 (length (b ∷ bs)) (omega arith))

@@ -10,6 +10,7 @@ use Rattle.link_tree.specs.declared.slot.Place.{Place}
 use Rattle.link_tree.specs.declared.slot.Place.TheVariants.{Etc, Run, Local, Vendor}
 use Rattle.link_tree.specs.declared.slot.Slot.{Slot}
 use Rattle.link_tree.specs.declared.slot.Slot.TheVariants as slots
+use Prim.Native.Char.{code}
 
 -- the directories of units: systemd.unit(5), "Unit File Load Path"
 unfoldable pub unit_directory : Place → List ℕ
@@ -17,6 +18,10 @@ unit_directory Etc = codes "/etc/systemd/system"
 unit_directory Run = codes "/run/systemd/system"
 unit_directory Local = codes "/usr/local/lib/systemd/system"
 unit_directory Vendor = codes "/usr/lib/systemd/system"
+
+-- where a unit's file or link stands in a directory
+abbrev pub unit_slot : Place → List ℕ → List ℕ
+unit_slot place name = unit_directory place ++ code "/" ∷ name
 
 abbrev pub places : List Place
 places = Etc ∷ Run ∷ Local ∷ Vendor ∷ []

@@ -111,7 +111,8 @@ impl Change {
     }
 }
 
-fn copy_of(entry: &Option<Entry>) -> Result<Option<Entry>, AllocError>
+/// An equal entry, or none.
+pub fn copy_of(entry: &Option<Entry>) -> Result<Option<Entry>, AllocError>
     ensures { IfOk result (λ copy. copy ≡ entry.now) }
 {
     match entry {

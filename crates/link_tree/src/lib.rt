@@ -19,7 +19,7 @@ mod tree;
 mod writing;
 
 pub use canonical_form::{canonical, is_null_link};
-pub use entry::{Change, Entry, Target};
+pub use entry::{Change, Entry, Target, copy_of};
 pub use fault::{MAX_PATH, PathError, TargetError};
 pub use inventory::{InventoryError, InventoryFault, MAX_ENTRIES, MAX_LINE, read_inventory};
 pub use iter::Iter;

@@ -1,11 +1,12 @@
 //! Slots: where the commands place entries.
-ghost use Rattle.std.specs.Prelude.{◌≡◌, Some};
+ghost use Rattle.std.specs.Prelude.{◌≡◌, Some, IfOk};
 ghost use Rattle.link_tree.specs.Canonical.{parent};
-ghost use Rattle.link_tree.specs.Slots.{unit_directory, preset_directory, place_of, preset_place_of, scope_place, name_at, is_list_of, list_slot, list_directory, slots_in, is_preset_name, is_name_for, named_slot, slot_of};
+ghost use Rattle.link_tree.specs.Slots.{unit_directory, unit_slot, preset_directory, place_of, preset_place_of, scope_place, name_at, is_list_of, list_slot, list_directory, slots_in, is_preset_name, is_name_for, named_slot, slot_of};
 
 use crate::canonical_form::parent_len;
 use crate::path::TreePath;
-use unit_name::is_unit_name;
+use std::alloc::{AllocError, Global};
+use unit_name::{UnitName, is_unit_name};
 
 /// Where a command's links are placed: `/etc`, or with `--runtime` `/run`. systemctl(1).
 #[derive(Clone, Copy, Debug, PartialEq, Eq, Hash, PartialOrd, Ord)]
@@ -69,6 +70,26 @@ impl Place {
             Place::Vendor => "/usr/lib/systemd/system-preset",
         }
     }
+}
+
+impl Place {
+    /// The slot of a unit in the directory: `DIR/NAME`.
+    pub fn slot(self, alloc: Global, name: &UnitName) -> Result<TreePath, AllocError>
+        ensures path { IfOk result (λ path. path ≡ unit_slot self name.now) }
+        ensures slot { IfOk result (λ path. slot_of path ≡ Some (Slot.Unit self)) }
+    {
+        let text = unit_slot(alloc, self, name.text())?;
+        Ok(TreePath::of_text(text).unwrap())
+    }
+}
+
+fn unit_slot(alloc: Global, place: Place, name: &[u8]) -> Result<Vec<u8>, AllocError>
+    ensures { IfOk result (λ text. text.items ≡ unit_slot place name.now) }
+{
+    let mut text = Vec::from_slice(alloc, place.directory().as_bytes())?;
+    text.push(b'/')?;
+    text.extend_from_slice(name)?;
+    Ok(text)
 }
 
 /// What a path is for that commands may change.

@@ -7,12 +7,13 @@ ghost use Rattle.std.specs.Option.{option_copied};
 ghost use Rattle.std.specs.FinMap as map;
 ghost use Rattle.link_tree.specs.Slots.{is_slot};
 ghost use Rattle.link_tree.specs.Shape.{fits_at, is_beneath, is_crowded, IsTree};
-ghost use Rattle.link_tree.specs.Trees.{AreFrom, after_changes, entry_line, inventory_text};
+ghost use Rattle.link_tree.specs.Trees.{AreFrom, set_entry, after_changes, entry_line, inventory_text};
 
-use crate::entry::{Change, Entry};
+use crate::entry::{Change, Entry, copy_of};
 use crate::iter::Iter;
 use crate::path::TreePath;
 use crate::shape::is_beneath;
+use crate::slot::slot_of;
 use std::alloc::{AllocError, Global};
 use std::collections::BTreeMap;
 use std::marker::Model;
@@ -96,6 +97,27 @@ impl Tree {
         let _count = self.entries.len();
     }
 
+    /// Puts an entry at a slot in place of what stands there, or with `None` takes that away.
+    pub fn set(&mut self, slot: &TreePath, entry: Option<Entry>) -> Result<(), AllocError>
+        requires { is_slot slot.now ≡ true }
+        ensures ok { OnOk result (self.new ≡ set_entry self.old slot.now entry) }
+        ensures err { OnErr result (self.new ≡ self.old) }
+    {
+        match entry {
+            Some(entry) => {
+                let path = slot.copy()?;
+                let _path = path.text();
+                let _valid = entry.bytes();
+                self.shape();
+                self.insert(path, entry)
+            }
+            None => {
+                self.remove(slot);
+                Ok(())
+            }
+        }
+    }
+
     /// The tree with these changes made: each replaces what stands at a slot. The tree itself stays.
     pub fn with_changes(&self, changes: &[Change]) -> Result<Tree, AllocError>
         requires slots { All (λ change. is_slot change.path ≡ true) changes.now }
@@ -104,17 +126,7 @@ impl Tree {
     {
         let mut tree = self.copy()?;
         for change in changes {
-            match &change.after {
-                Some(entry) => {
-                    let path = change.path.copy()?;
-                    let entry = entry.copy()?;
-                    let _path = path.text();
-                    let _valid = entry.bytes();
-                    tree.shape();
-                    tree.insert(path, entry)?;
-                }
-                None => tree.remove(&change.path),
-            }
+            tree.set(&change.path, copy_of(&change.after)?)?;
         }
         Ok(tree)
     }
@@ -139,11 +151,14 @@ impl Tree {
         self.entries.remove(path);
     }
 
-    /// Whether an entry lies beneath the path, or the path beneath an entry.
+    /// Whether an entry lies beneath the path, or the path beneath an entry. The shape leaves each slot free.
     pub(crate) fn is_crowded(&self, path: &TreePath) -> Result<bool, AllocError>
         ensures { IfOk result (λ crowded. crowded ≡ is_crowded self.now path.now) }
     {
         self.shape();
+        if slot_of(path.text()).is_some() {
+            return Ok(false);
+        }
         Ok(self.has_above(path)? || self.has_beneath(path)?)
     }
 

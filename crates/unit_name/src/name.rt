@@ -1,4 +1,4 @@
-ghost use Rattle.std.specs.Prelude.{◌≡◌, ◌≢◌, ◌↔◌, IfOk, IsTrue, Some};
+ghost use Rattle.std.specs.Prelude.{◌≡◌, ◌≢◌, ◌↔◌, IfOk, IsTrue, Some, true};
 ghost use Rattle.std.specs.Option.{option_copied};
 ghost use Rattle.unit_name.specs.Parts.{kind_of, IsUnitName};
 ghost use Rattle.unit_name.specs.Name.{instance_of, type_of, template_of, is_unit_name, Parses, TakesInstance};
@@ -45,6 +45,7 @@ impl UnitName {
     pub fn text(&self) -> &[u8]
         ensures text { result.now ≡ self.now }
         ensures name { IsUnitName self.now }
+        ensures test { is_unit_name self.now ≡ true }
     {
         &self.text
     }

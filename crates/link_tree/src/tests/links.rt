@@ -4,7 +4,7 @@ use crate::{
 };
 use std::alloc::{AllocError, Global};
 use std::test::Fail;
-use unit_name::ample;
+use unit_name::{NameError, UnitName, ample};
 
 fn path(alloc: Global, text: &[u8]) -> Result<TreePath, PathError> {
     ample!(TreePath::parse(alloc, text), PathError::OutOfMemory)
@@ -179,5 +179,29 @@ fn slots_have_four_forms(rt: HostRuntime) -> Result<(), Fail> {
     }
     assert_eq!(rt; Scope::Etc.place().directory(), "/etc/systemd/system");
     assert_eq!(rt; Scope::Run.place().directory(), "/run/systemd/system");
+    Ok(())
+}
+
+#[test]
+fn units_have_slots(rt: HostRuntime) -> Result<(), Fail> {
+    let alloc = rt.alloc();
+    let name = ample!(
+        UnitName::parse(alloc, b"getty@tty1.service"),
+        NameError::OutOfMemory
+    )?;
+    let places: [(Place, &[u8]); 4] = [
+        (Place::Etc, b"/etc/systemd/system/getty@tty1.service"),
+        (Place::Run, b"/run/systemd/system/getty@tty1.service"),
+        (
+            Place::Local,
+            b"/usr/local/lib/systemd/system/getty@tty1.service",
+        ),
+        (Place::Vendor, b"/usr/lib/systemd/system/getty@tty1.service"),
+    ];
+    for (place, text) in places {
+        let slot = ample!(place.slot(alloc, &name), AllocError)?;
+        assert_eq!(rt; slot.text(), text);
+        assert_eq!(rt; Slot::of(&slot), Some(Slot::Unit(place)));
+    }
     Ok(())
 }

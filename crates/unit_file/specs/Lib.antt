@@ -1,0 +1,6 @@
+pub mod Lines
+pub mod Install
+pub mod Reading
+pub mod Steps
+pub mod Identity
+pub mod Laws

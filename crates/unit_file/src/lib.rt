@@ -1,0 +1,20 @@
+//! Unit files: systemd.syntax(7), and the [Install] section of systemd.unit(5).
+#![tactic(auto)]
+
+mod default_instance;
+mod fault;
+mod install;
+mod laws;
+mod line;
+mod reading;
+mod word;
+
+pub use default_instance::identity;
+pub use fault::{InstallError, InstallFault, MAX_LINE};
+pub use install::InstallText;
+pub use laws::{comments_say_nothing, files_add_up, last_line_ends_itself};
+pub use reading::install_of;
+pub use word::{Word, Words};
+
+#[cfg(test)]
+mod tests;
