@@ -20,7 +20,7 @@ use Rattle.slot_commands.specs.Changes.{same, change, with_change, difference, d
 abbrev pub change_at : Entries → Entries → List ℕ → Option Change
 change_at t u q = cond (same (map.get t q) (map.get u q)) None (Some (change q (map.get t q) (map.get u q)))
 
-abbrev is_at : List ℕ → List ℕ → Bool
+abbrev pub is_at : List ℕ → List ℕ → Bool
 is_at q p = eq_by_cmp path_cmp q p
 
 find-piece : (q p : List ℕ) (b : Bool) (c : Change) (rest : List (List ℕ × Change)) → find path_cmp q (cond b [] ((p, c) ∷ []) ++ rest) ≡ cond (is_at q p) (cond b (find path_cmp q rest) (Some c)) (find path_cmp q rest)
@@ -99,7 +99,8 @@ same_is None (Some e) h = absurd (false≢true h)
 same_is (Some e) None h = absurd (false≢true h)
 same_is (Some (Link one)) (Some (Link other)) h = ap (λ target. Some (Link target)) ((bytes_eq-Decides one other).0 h)
 
-get-set_entry : (u : Entries) (p : List ℕ) (o : Option Entry) (q : List ℕ) → map.get (set_entry u p o) q ≡ cond (is_at q p) o (map.get u q)
+-- what stands at each path when an entry was set
+pub get-set_entry : (u : Entries) (p : List ℕ) (o : Option Entry) (q : List ℕ) → map.get (set_entry u p o) q ≡ cond (is_at q p) o (map.get u q)
 get-set_entry u p (Some e) q = map.get-insert nat_list_cmp_total u p e q
 get-set_entry u p None q = map.get-remove nat_list_cmp_total u p q
 

@@ -3,12 +3,14 @@
 
 mod changes;
 mod edit;
+mod laws;
 mod mask;
 mod net;
 mod outcome;
 mod units;
 
 pub use changes::Changes;
+pub use laws::{masks_fill_empty_slots, unmask_takes_masks_away};
 pub use mask::{Mask, Unmask};
 pub use outcome::{Answer, Outcome, Refusal};
 pub use units::Units;

@@ -1,0 +1,134 @@
+-- What mask and unmask leave, path by path.
+use Rattle.std.proofs.Common.{◌≡◌, ℕ, Bool, true, false, cond, not, ◌&&◌, List, [], ◌∷◌, Option, Some, None, Result, Ok, Err, refl, sym, ◌∙◌, ap, subst, inl, inr}
+use Rattle.std.specs.Prelude.{is_none, codes}
+use Rattle.std.specs.List.{list_any, find}
+use Rattle.std.specs.Option.{option_map_or}
+use Rattle.std.specs.Str.{bytes_eq}
+use Rattle.std.specs.FinMap as map
+use Rattle.std.proofs.lemmas.Bool.{cases_Bool, false≢true, not-true}
+use Rattle.std.proofs.lemmas.Slice.Eq.{bytes_eq-Decides}
+use Rattle.link_tree.specs.declared.entry.Entry.{Entry}
+use Rattle.link_tree.specs.Canonical.{is_null_target, merged, walked, with_part, start_of, begins_with_slash}
+use Rattle.link_tree.specs.Paths.{is_path, is_part, is_text_byte, is_absolute}
+use Rattle.link_tree.specs.Trees.{Entries, set_entry}
+use Rattle.link_tree.proofs.Keys.{same-found}
+use Rattle.link_tree.proofs.Shapes.{same_key}
+use Rattle.slot_commands.specs.declared.outcome.Refusal.{Refusal}
+use Rattle.slot_commands.specs.declared.outcome.Refusal.TheVariants.{Exists}
+use Rattle.slot_commands.specs.Commands.{mask_link, is_mask, mask_at, unmask_at, followed, followed_at}
+use Rattle.slot_commands.specs.Laws.{has_mask, is_in_the_way, masked, unmasked, FillsEmptyPaths}
+use Rattle.slot_commands.proofs.Differences.{is_at, get-set_entry}
+
+at_bytes : (q p : List ℕ) → is_at q p ≡ bytes_eq q p
+at_bytes q p = elim (cases_Bool (is_at q p)) [
+  | inl here ↦ here ∙ sym ((bytes_eq-Decides q p).1 (same_key q p here))
+  | inr away ↦ away ∙ sym (elim (cases_Bool (bytes_eq q p)) [
+    | inl same ↦ absurd (false≢true (sym away ∙ ap (is_at q) (sym ((bytes_eq-Decides q p).0 same)) ∙ same-found q))
+    | inr other ↦ other
+  ])
+]
+
+get-set : (t : Entries) (p : List ℕ) (o : Option Entry) (q : List ℕ) → map.get (set_entry t p o) q ≡ cond (bytes_eq q p) o (map.get t q)
+get-set t p o q = get-set_entry t p o q ∙ ap (λ b. cond b o (map.get t q)) (at_bytes q p)
+
+same_bytes : (q p : List ℕ) → bytes_eq q p ≡ true → q ≡ p
+same_bytes q p h = (bytes_eq-Decides q p).0 h
+
+-- what unmask leaves at a path
+abbrev left : List ℕ → Option Entry → Option Entry
+left path there = cond (has_mask path there) None there
+
+unmask_left : (path : List ℕ) (there : Option Entry) → unmask_at path there ≡ Ok (left path there)
+unmask_left path None = refl
+unmask_left path (Some entry) = elim (is_mask path entry) as (λ b. cond {A = Result (Option Entry) Refusal} b (Ok None) (Ok (Some entry)) ≡ Ok (cond b None (Some entry))) [ true ↦ refl | false ↦ refl ]
+
+left_unmasked : (path : List ℕ) (there : Option Entry) → has_mask path (left path there) ≡ false
+left_unmasked path None = refl
+left_unmasked path (Some entry) = elim (cases_Bool (is_mask path entry)) [
+  | inl mask ↦ rw mask refl
+  | inr other ↦ rw other other
+]
+
+followed-ok : (rule : List ℕ → Option Entry → Result (Option Entry) Refusal) (p : List ℕ) (ps : List (List ℕ)) (t : Entries) (o : Option Entry) → rule p (map.get t p) ≡ Ok o → followed rule (p ∷ ps) t ≡ followed rule ps (set_entry t p o)
+followed-ok rule p ps t o h = rw (h, followed, followed_at) refl
+
+and_off : (b : Bool) {A : Type 0} (x y : A) → cond (b && false) x y ≡ y
+and_off true x y = refl
+and_off false x y = refl
+
+unmasked-next : (t : Entries) (p : List ℕ) (ps : List (List ℕ)) (q : List ℕ) → unmasked (set_entry t p (left p (map.get t p))) ps q ≡ unmasked t (p ∷ ps) q
+unmasked-next t p ps q = ap (λ there. cond (list_any (bytes_eq q) ps && has_mask q there) None there) (get-set t p (left p (map.get t p)) q) ∙ elim (cases_Bool (bytes_eq q p)) [
+  | inl here ↦ rw here (subst (λ k. cond (list_any (bytes_eq q) ps && has_mask q (left k (map.get t k))) None (left k (map.get t k)) ≡ left q (map.get t q)) (same_bytes q p here) (settled q (list_any (bytes_eq q) ps) (map.get t q)))
+  | inr away ↦ rw away refl
+]
+  where
+    settled : (q : List ℕ) (b : Bool) (o : Option Entry) → cond (b && has_mask q (left q o)) None (left q o) ≡ left q o
+    settled q b o = ap (λ mask. cond (b && mask) None (left q o)) (left_unmasked q o) ∙ and_off b None (left q o)
+
+pub empties : (t : Entries) (paths : List (List ℕ)) → (u : Entries) × (followed unmask_at paths t ≡ Ok u) × ((path : List ℕ) → map.get u path ≡ unmasked t paths path)
+empties t [] = (t, refl, λ q. refl)
+empties t (p ∷ ps) =
+    let rest = empties (set_entry t p (left p (map.get t p))) ps in
+    (rest.0, followed-ok unmask_at p ps t _ (unmask_left p (map.get t p)) ∙ rest.1, λ q. rest.2 q ∙ unmasked-next t p ps q)
+
+null_link : (path : List ℕ) → is_null_target path (codes "/dev/null") ≡ true
+unfolding is_null_target is_path merged walked with_part is_part start_of begins_with_slash is_text_byte is_absolute
+null_link path = refl
+
+-- what mask puts where nothing is in the way
+abbrev filled : Option Entry → Option Entry
+filled None = Some mask_link
+filled (Some entry) = Some entry
+
+abbrev obstructs : List ℕ → Option Entry → Bool
+obstructs path there = option_map_or (λ entry. not (is_mask path entry)) there false
+
+mask_filled : (path : List ℕ) (there : Option Entry) → obstructs path there ≡ false → mask_at path there ≡ Ok (filled there)
+mask_filled path None free = refl
+mask_filled path (Some entry) free = elim (cases_Bool (is_mask path entry)) [
+  | inl mask ↦ rw mask refl
+  | inr other ↦ absurd (false≢true (sym free ∙ ap not other))
+]
+
+mask_refused : (path : List ℕ) (there : Option Entry) → obstructs path there ≡ true → mask_at path there ≡ Err (Exists path)
+mask_refused path None h = absurd (false≢true h)
+mask_refused path (Some entry) h = rw (not-true (is_mask path entry) h) refl
+
+filled_free : (path : List ℕ) (there : Option Entry) → obstructs path there ≡ false → obstructs path (filled there) ≡ false
+filled_free path None free = ap not (null_link path)
+filled_free path (Some entry) free = free
+
+followed-err : (rule : List ℕ → Option Entry → Result (Option Entry) Refusal) (p : List ℕ) (ps : List (List ℕ)) (t : Entries) (refusal : Refusal) → rule p (map.get t p) ≡ Err refusal → followed rule (p ∷ ps) t ≡ Err refusal
+followed-err rule p ps t refusal h = rw (h, followed, followed_at) refl
+
+module _ (t : Entries) (p : List ℕ) (ps : List (List ℕ)) (free : obstructs p (map.get t p) ≡ false) where
+  abbrev next : Entries
+  next = set_entry t p (filled (map.get t p))
+
+  -- the rest of the paths see the same in the way
+  alike : (q : List ℕ) → is_in_the_way next q ≡ is_in_the_way t q
+  alike q = ap (obstructs q) (get-set t p (filled (map.get t p)) q) ∙ elim (cases_Bool (bytes_eq q p)) [
+    | inl here ↦ rw here (subst (λ k. obstructs k (filled (map.get t p)) ≡ obstructs k (map.get t k)) (sym (same_bytes q p here)) (filled_free p (map.get t p) free ∙ sym free))
+    | inr away ↦ rw away refl
+  ]
+
+  masked-next : (q : List ℕ) → masked next ps q ≡ masked t (p ∷ ps) q
+  masked-next q = ap (λ there. cond (list_any (bytes_eq q) ps && is_none there) (Some mask_link) there) (get-set t p (filled (map.get t p)) q) ∙ elim (cases_Bool (bytes_eq q p)) [
+    | inl here ↦ rw here (subst (λ k. cond (list_any (bytes_eq q) ps && is_none (filled (map.get t k))) (Some mask_link) (filled (map.get t k)) ≡ cond (is_none (map.get t q)) (Some mask_link) (map.get t q)) (same_bytes q p here) (settled (list_any (bytes_eq q) ps) (map.get t q)))
+    | inr away ↦ rw away refl
+  ]
+    where
+      settled : (b : Bool) (o : Option Entry) → cond (b && is_none (filled o)) (Some mask_link) (filled o) ≡ cond (is_none o) (Some mask_link) o
+      settled b None = and_off b (Some mask_link) (Some mask_link)
+      settled b (Some entry) = and_off b (Some mask_link) (Some entry)
+
+  later : (found : Option (List ℕ)) → FillsEmptyPaths next ps found → FillsEmptyPaths t (p ∷ ps) found
+  later (Some path) rest = followed-ok mask_at p ps t (filled (map.get t p)) (mask_filled p (map.get t p) free) ∙ rest
+  later None rest = (rest.0, followed-ok mask_at p ps t (filled (map.get t p)) (mask_filled p (map.get t p) free) ∙ rest.1, λ q. rest.2 q ∙ masked-next q)
+
+pub fills : (t : Entries) (paths : List (List ℕ)) → FillsEmptyPaths t paths (find (is_in_the_way t) paths)
+fills t [] = (t, refl, λ q. refl)
+fills t (p ∷ ps) = elim (cases_Bool (is_in_the_way t p)) [
+  | inl here ↦ rw here (followed-err mask_at p ps t (Exists p) (mask_refused p (map.get t p) here))
+  | inr free ↦ rw free (subst (λ (way : List ℕ → Bool). FillsEmptyPaths t (p ∷ ps) (find way ps)) (λ i q. alike t p ps free q i) (later t p ps free _ (fills (next t p ps free) ps)))
+]
