@@ -14,3 +14,4 @@ pub mod Slots
 pub mod Entries
 pub mod Again
 pub mod UnitSlots
+pub mod Changed

@@ -1,10 +1,11 @@
 -- Laws of links, trees and inventories, each the contract of a public function.
 use Rattle.std.specs.Prelude.{◌≡◌, ◌≤◌, ℕ, true, List, ◌++◌, Ok}
+use Rattle.link_tree.specs.declared.entry.Change.{Change}
 use Rattle.std.specs.List.{list_all}
 use Rattle.std.specs.FinMap as map
 use Rattle.link_tree.specs.Paths.{is_path, is_text_byte}
 use Rattle.link_tree.specs.Canonical.{canonical_text, fits}
-use Rattle.link_tree.specs.Trees.{Entries, inventory_text}
+use Rattle.link_tree.specs.Trees.{Entries, AreFrom, after_changes, turned, inventory_text}
 use Rattle.link_tree.specs.Shape.{IsTree}
 use Rattle.link_tree.specs.Inventory.{inventory_of}
 
@@ -15,3 +16,8 @@ CanonicalIsPath = (link target : List ℕ) → is_path link ≡ true → list_al
 -- What is written of a tree is read again as the same tree, whatever follows.
 abbrev pub ReadsBack : Type 0
 ReadsBack = (m : Entries) (rest : List ℕ) → IsTree m → map.len m ≤ 65536 → inventory_of (inventory_text m ++ rest) ≡ Ok (m, rest)
+
+-- Changes from what stands in a tree can be taken back, and then it is the very tree again.
+abbrev pub TakenBack : Type 0
+TakenBack = (m : Entries) (changes : List Change) → AreFrom m changes
+    → AreFrom (after_changes changes m) (turned changes) × (after_changes (turned changes) (after_changes changes m) ≡ m)

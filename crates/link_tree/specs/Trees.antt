@@ -1,5 +1,5 @@
 -- A tree is a finite map from paths, in the order of their bytes, to entries.
-use Rattle.std.specs.Prelude.{◌≡◌, false, ℕ, List, [], ◌∷◌, ◌++◌, Option, Some, None, codes}
+use Rattle.std.specs.Prelude.{◌≡◌, false, ℕ, List, [], ◌∷◌, ◌++◌, map as list_map, Option, Some, None, codes}
 use Rattle.std.specs.List.{flat_map}
 use Rattle.std.specs.Ordering.{nat_cmp}
 use Rattle.std.specs.Cmp.Lexicographic.{slice_cmp}
@@ -46,3 +46,11 @@ KeepsPath path (change ∷ changes) = (bytes_eq path change.path ≡ false) × K
 abbrev pub AreFrom : Entries → List Change → Type 0
 AreFrom m [] = Unit {0}
 AreFrom m (change ∷ changes) = (map.get m change.path ≡ change.before) × KeepsPath change.path changes × AreFrom m changes
+
+-- the change that takes this one back
+abbrev pub taken_back : Change → Change
+taken_back change = record { path = change.path; before = change.after; after = change.before }
+
+-- the changes that take these back, in the same order
+abbrev pub turned : List Change → List Change
+turned changes = list_map taken_back changes

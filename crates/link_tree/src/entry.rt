@@ -1,5 +1,6 @@
 ghost use Rattle.std.specs.Prelude.{◌≡◌, IfOk, true, false};
 ghost use Rattle.link_tree.specs.Paths.{is_target};
+ghost use Rattle.link_tree.specs.Trees.{taken_back};
 ghost use Rattle.link_tree.specs.declared.entry.Entry.TheVariants.{Link};
 
 use crate::fault::TargetError;
@@ -107,6 +108,17 @@ impl Change {
             path: self.path.copy()?,
             before: copy_of(&self.before)?,
             after: copy_of(&self.after)?,
+        })
+    }
+
+    /// The change that takes this one back.
+    pub fn taken_back(&self) -> Result<Change, AllocError>
+        ensures { IfOk result (λ change. change ≡ taken_back self.now) }
+    {
+        Ok(Change {
+            path: self.path.copy()?,
+            before: copy_of(&self.after)?,
+            after: copy_of(&self.before)?,
         })
     }
 }

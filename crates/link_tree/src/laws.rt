@@ -1,5 +1,5 @@
 //! What holds of all links and trees: each function does nothing, and its contract is the law.
-ghost use Rattle.link_tree.specs.Laws.{CanonicalIsPath, ReadsBack};
+ghost use Rattle.link_tree.specs.Laws.{CanonicalIsPath, ReadsBack, TakenBack};
 
 /// Where a link leads is a path, but for the root and what is too long.
 pub fn links_lead_to_paths()
@@ -10,4 +10,9 @@ pub fn links_lead_to_paths()
 /// entries as are read.
 pub fn inventories_are_read_back()
     ensures { ReadsBack }
+{}
+
+/// Changes from what stands in a tree can be taken back, and then it is the very tree again.
+pub fn changes_are_taken_back()
+    ensures { TakenBack }
 {}

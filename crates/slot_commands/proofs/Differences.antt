@@ -2,7 +2,6 @@
 use Rattle.std.proofs.Common.{◌≡◌, ℕ, Bool, true, false, cond, ◌||◌, List, [], ◌∷◌, ◌++◌, Option, Some, None, refl, sym, ◌∙◌, ap, subst, inl, inr}
 use Rattle.std.specs.Prelude.{is_some}
 use Rattle.std.specs.List.{flat_map, list_any}
-use Rattle.std.specs.Ordering.{eq_by_cmp}
 use Rattle.std.specs.Cmp.Lexicographic.{nat_list_cmp_total}
 use Rattle.std.specs.FinMap as map
 use Rattle.std.specs.FinMap.{find}
@@ -14,14 +13,12 @@ use Rattle.link_tree.specs.Trees.{path_cmp, Entries, set_entry}
 use Rattle.std.proofs.lemmas.Map.Lookups.{exact_bytes}
 use Rattle.std.proofs.lemmas.Slice.Eq.{bytes_eq-Decides}
 use Rattle.link_tree.proofs.Shapes.{same_key}
+use Rattle.link_tree.proofs.Changed.{is_at, get-set_entry}
 use Rattle.slot_commands.specs.Changes.{same, change, with_change, difference, differences}
 
 -- what the changes hold at a path
 abbrev pub change_at : Entries → Entries → List ℕ → Option Change
 change_at t u q = cond (same (map.get t q) (map.get u q)) None (Some (change q (map.get t q) (map.get u q)))
-
-abbrev pub is_at : List ℕ → List ℕ → Bool
-is_at q p = eq_by_cmp path_cmp q p
 
 find-piece : (q p : List ℕ) (b : Bool) (c : Change) (rest : List (List ℕ × Change)) → find path_cmp q (cond b [] ((p, c) ∷ []) ++ rest) ≡ cond (is_at q p) (cond b (find path_cmp q rest) (Some c)) (find path_cmp q rest)
 find-piece q p true c rest = sym (cond_same (is_at q p) (find path_cmp q rest))
@@ -85,7 +82,7 @@ module _ (t u : Entries) (q : List ℕ) where
 same_differences : (m n : map.FinMap path_cmp Change) → ((q : List ℕ) → map.get m q ≡ map.get n q) → m ≡ n
 same_differences m n h = map.same_map nat_list_cmp_total exact_bytes m n h
 
-same-itself : (o : Option Entry) → same o o ≡ true
+pub same-itself : (o : Option Entry) → same o o ≡ true
 same-itself None = refl
 same-itself (Some (Link target)) = (bytes_eq-Decides target target).1 refl
 
@@ -93,16 +90,11 @@ same-itself (Some (Link target)) = (bytes_eq-Decides target target).1 refl
 pub differences-same : (t : Entries) → differences t t ≡ map.empty
 differences-same t = same_differences (differences t t) map.empty (λ q. get-differences t t q ∙ ap (λ b. cond b None (Some (change q (map.get t q) (map.get t q)))) (same-itself (map.get t q)) ∙ sym (map.get-empty path_cmp q))
 
-same_is : (o p : Option Entry) → same o p ≡ true → o ≡ p
+pub same_is : (o p : Option Entry) → same o p ≡ true → o ≡ p
 same_is None None h = refl
 same_is None (Some e) h = absurd (false≢true h)
 same_is (Some e) None h = absurd (false≢true h)
 same_is (Some (Link one)) (Some (Link other)) h = ap (λ target. Some (Link target)) ((bytes_eq-Decides one other).0 h)
-
--- what stands at each path when an entry was set
-pub get-set_entry : (u : Entries) (p : List ℕ) (o : Option Entry) (q : List ℕ) → map.get (set_entry u p o) q ≡ cond (is_at q p) o (map.get u q)
-get-set_entry u p (Some e) q = map.get-insert nat_list_cmp_total u p e q
-get-set_entry u p None q = map.get-remove nat_list_cmp_total u p q
 
 -- the change at a path, by what stands there now
 abbrev change_to : Entries → List ℕ → Option Entry → Option Change

@@ -6,33 +6,15 @@ use Rattle.std.specs.Option.{option_map_or}
 use Rattle.std.specs.Str.{bytes_eq}
 use Rattle.std.specs.FinMap as map
 use Rattle.std.proofs.lemmas.Bool.{cases_Bool, false≢true, not-true}
-use Rattle.std.proofs.lemmas.Slice.Eq.{bytes_eq-Decides}
 use Rattle.link_tree.specs.declared.entry.Entry.{Entry}
 use Rattle.link_tree.specs.Canonical.{is_null_target, merged, walked, with_part, start_of, begins_with_slash}
 use Rattle.link_tree.specs.Paths.{is_path, is_part, is_text_byte, is_absolute}
 use Rattle.link_tree.specs.Trees.{Entries, set_entry}
-use Rattle.link_tree.proofs.Keys.{same-found}
-use Rattle.link_tree.proofs.Shapes.{same_key}
+use Rattle.link_tree.proofs.Changed.{same_bytes, get-set}
 use Rattle.slot_commands.specs.declared.outcome.Refusal.{Refusal}
 use Rattle.slot_commands.specs.declared.outcome.Refusal.TheVariants.{Exists}
 use Rattle.slot_commands.specs.Commands.{mask_link, is_mask, mask_at, unmask_at, followed, followed_at}
 use Rattle.slot_commands.specs.Laws.{has_mask, is_in_the_way, masked, unmasked, FillsEmptyPaths}
-use Rattle.slot_commands.proofs.Differences.{is_at, get-set_entry}
-
-at_bytes : (q p : List ℕ) → is_at q p ≡ bytes_eq q p
-at_bytes q p = elim (cases_Bool (is_at q p)) [
-  | inl here ↦ here ∙ sym ((bytes_eq-Decides q p).1 (same_key q p here))
-  | inr away ↦ away ∙ sym (elim (cases_Bool (bytes_eq q p)) [
-    | inl same ↦ absurd (false≢true (sym away ∙ ap (is_at q) (sym ((bytes_eq-Decides q p).0 same)) ∙ same-found q))
-    | inr other ↦ other
-  ])
-]
-
-get-set : (t : Entries) (p : List ℕ) (o : Option Entry) (q : List ℕ) → map.get (set_entry t p o) q ≡ cond (bytes_eq q p) o (map.get t q)
-get-set t p o q = get-set_entry t p o q ∙ ap (λ b. cond b o (map.get t q)) (at_bytes q p)
-
-same_bytes : (q p : List ℕ) → bytes_eq q p ≡ true → q ≡ p
-same_bytes q p h = (bytes_eq-Decides q p).0 h
 
 -- what unmask leaves at a path
 abbrev left : List ℕ → Option Entry → Option Entry

@@ -1,4 +1,5 @@
 pub mod Changes
 pub mod Commands
+pub mod Edits
 pub mod Laws
 pub mod Outcomes

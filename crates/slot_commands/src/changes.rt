@@ -1,5 +1,6 @@
 //! Lists of changes.
 ghost use Rattle.std.specs.Prelude.{◌≡◌, ◌++◌, ◌∷◌, [], IfOk, OnOk, OnErr};
+ghost use Rattle.link_tree.specs.Trees.{turned};
 
 use link_tree::Change;
 use std::alloc::{AllocError, Global};
@@ -53,5 +54,16 @@ impl Changes {
             copy.push(change.copy()?)?;
         }
         Ok(copy)
+    }
+
+    /// The changes that take these back, in the same order.
+    pub fn turned(&self) -> Result<Changes, AllocError>
+        ensures { IfOk result (λ changes. changes ≡ turned self.now) }
+    {
+        let mut turned = Changes::none(*self.items.allocator());
+        for change in self.as_slice() {
+            turned.push(change.taken_back()?)?;
+        }
+        Ok(turned)
     }
 }

@@ -1,5 +1,5 @@
 //! Trees that are edited.
-ghost use Rattle.std.specs.Prelude.{◌≡◌, true, IfOk};
+ghost use Rattle.std.specs.Prelude.{◌≡◌, true, All, IfOk};
 ghost use Rattle.link_tree.specs.Slots.{is_slot};
 ghost use Rattle.link_tree.specs.Trees.{set_entry};
 ghost use Rattle.slot_commands.specs.Changes.{changes_between};
@@ -19,12 +19,11 @@ pub(crate) struct Edit<'a> {
 }
 
 impl<'a> Model for Edit<'a> {
-    ghost use Rattle.std.specs.Prelude.{◌≡◌};
     ghost use Rattle.std.specs.FinMap as map;
     ghost use Rattle.std.specs.Coded.{coded×};
     ghost use Rattle.link_tree.specs.Trees.{Entries};
     ghost use Rattle.link_tree.specs.Values.{coded_path, coded_entry};
-    ghost use Rattle.slot_commands.specs.Changes.{differences};
+    ghost use Rattle.slot_commands.specs.Edits.{IsEdit};
 
     ghost Value = { Entries × Entries };
 
@@ -32,7 +31,7 @@ impl<'a> Model for Edit<'a> {
 
     ghost view = { λ edit. (edit.first.now, edit.tree) };
 
-    ghost invariant = { λ edit. edit.changes ≡ differences edit.first.now edit.tree };
+    ghost invariant = { λ edit. IsEdit edit.first.now edit.tree edit.changes };
 }
 
 impl<'a> Edit<'a> {
@@ -73,7 +72,8 @@ impl<'a> Edit<'a> {
 
     /// All that has changed.
     pub fn into_changes(self, alloc: Global) -> Result<Changes, AllocError>
-        ensures { IfOk result (λ changes. changes ≡ changes_between self.entry.0 self.entry.1) }
+        ensures changes { IfOk result (λ changes. changes ≡ changes_between self.entry.0 self.entry.1) }
+        ensures slots { IfOk result (λ changes. All (λ change. is_slot change.path ≡ true) changes) }
     {
         self.changes.into_changes(alloc)
     }

@@ -10,7 +10,7 @@ mod outcome;
 mod units;
 
 pub use changes::Changes;
-pub use laws::{masks_fill_empty_slots, unmask_takes_masks_away};
+pub use laws::{changes_lead_from_tree_to_tree, masks_fill_empty_slots, unmask_takes_masks_away};
 pub use mask::{Mask, Unmask};
 pub use outcome::{Answer, Outcome, Refusal};
 pub use units::Units;

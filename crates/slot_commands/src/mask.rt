@@ -1,6 +1,7 @@
 //! mask and unmask.
-ghost use Rattle.std.specs.Prelude.{◌≡◌, IfOk, Ok};
+ghost use Rattle.std.specs.Prelude.{◌≡◌, true, All, IfOk, Ok};
 ghost use Rattle.std.specs.Option.{option_copied};
+ghost use Rattle.link_tree.specs.Slots.{is_slot};
 ghost use Rattle.slot_commands.specs.Commands.{mask_link, is_mask, mask_at, unmask_at, rule_of, slots_of, followed, masking, unmasking};
 ghost use Rattle.slot_commands.specs.Outcomes.{outcome};
 
@@ -94,7 +95,8 @@ impl Rule {
         units: &[UnitName],
         tree: &Tree,
     ) -> Result<Outcome, AllocError>
-        ensures { IfOk result (λ done. done ≡ outcome tree.now (followed (rule_of self) (slots_of scope units.now) tree.now)) }
+        ensures outcome { IfOk result (λ done. done ≡ outcome tree.now (followed (rule_of self) (slots_of scope units.now) tree.now)) }
+        ensures slots { IfOk result (λ done. All (λ change. is_slot change.path ≡ true) done.changes) }
     {
         let mut edit = Edit::new(alloc, tree)?;
         for unit in units {
@@ -119,7 +121,8 @@ impl Rule {
 impl Mask {
     /// What the command comes to on the tree.
     pub fn run(&self, alloc: Global, tree: &Tree) -> Result<Outcome, AllocError>
-        ensures { IfOk result (λ done. done ≡ masking self.now tree.now) }
+        ensures outcome { IfOk result (λ done. done ≡ masking self.now tree.now) }
+        ensures slots { IfOk result (λ done. All (λ change. is_slot change.path ≡ true) done.changes) }
     {
         Rule::Mask.run(alloc, self.scope, self.units.as_slice(), tree)
     }
@@ -138,7 +141,8 @@ impl Mask {
 impl Unmask {
     /// What the command comes to on the tree.
     pub fn run(&self, alloc: Global, tree: &Tree) -> Result<Outcome, AllocError>
-        ensures { IfOk result (λ done. done ≡ unmasking self.now tree.now) }
+        ensures outcome { IfOk result (λ done. done ≡ unmasking self.now tree.now) }
+        ensures slots { IfOk result (λ done. All (λ change. is_slot change.path ≡ true) done.changes) }
     {
         Rule::Unmask.run(alloc, self.scope, self.units.as_slice(), tree)
     }

@@ -136,3 +136,28 @@ fn unmask_takes_masks_away(rt: HostRuntime) -> Result<(), Fail> {
     assert_changes(&rt, &changes, &rows);
     Ok(())
 }
+
+#[test]
+fn changes_are_turned(rt: HostRuntime) -> Result<(), Fail> {
+    let alloc = rt.alloc();
+    let tree = tree(alloc)?;
+    let unmask = Unmask {
+        scope: Scope::Etc,
+        units: units(alloc, b"d.service a.service")?,
+    };
+    let outcome = ample!(unmask.run(alloc, &tree), AllocError)?;
+    let turned = ample!(outcome.changes.turned(), AllocError)?;
+    assert_changes(
+        &rt,
+        &turned,
+        &[
+            (b"/etc/systemd/system/a.service", b"", b"/dev/null"),
+            (
+                b"/etc/systemd/system/d.service",
+                b"",
+                b"../../../dev/./null",
+            ),
+        ],
+    );
+    Ok(())
+}

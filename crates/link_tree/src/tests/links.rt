@@ -205,3 +205,27 @@ fn units_have_slots(rt: HostRuntime) -> Result<(), Fail> {
     }
     Ok(())
 }
+
+#[test]
+fn a_change_is_taken_back(rt: HostRuntime) -> Result<(), Fail> {
+    let alloc = rt.alloc();
+    let change = Change {
+        path: path(alloc, b"/etc/systemd/system/a.service")?,
+        before: Some(link(alloc, b"b.service")?),
+        after: Some(link(alloc, b"/dev/null")?),
+    };
+    let back = ample!(change.taken_back(), AllocError)?;
+    assert_eq!(rt;
+        back.path.text(),
+        b"/etc/systemd/system/a.service".as_slice()
+    );
+    assert_eq!(rt;
+        back.before.as_ref().map(|entry| entry.bytes()),
+        Some(b"/dev/null".as_slice())
+    );
+    assert_eq!(rt;
+        back.after.as_ref().map(|entry| entry.bytes()),
+        Some(b"b.service".as_slice())
+    );
+    Ok(())
+}

@@ -1,7 +1,11 @@
 use Rattle.std.proofs.Common.{ap, ◌∙◌, sym}
+use Rattle.std.specs.FinMap as map
 use Rattle.slot_commands.specs.Changes.{differences}
 use Rattle.slot_commands.proofs.Differences.{differences-same}
 use Rattle.slot_commands.proofs.edit.Edit.new.Goals as goal
 
 pub invariant_of-result : goal.invariant_of-result
-invariant_of-result c = c.none.ensures ∙ sym (differences-same c.args.tree.now) ∙ ap (differences c.args.tree.now) (sym c.in_ok-copy.ensures)
+invariant_of-result c = record {
+  noted = c.none.ensures ∙ sym (differences-same c.args.tree.now) ∙ ap (differences c.args.tree.now) (sym c.in_ok-copy.ensures);
+  at_slots = λ path off. ap (λ m. map.get m path) (sym c.in_ok-copy.ensures);
+}

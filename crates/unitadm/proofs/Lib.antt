@@ -1,0 +1,5 @@
+pub mod Calls
+pub mod NameLists
+pub mod Numbers
+pub mod Padded
+pub mod Replayed

@@ -1,0 +1,160 @@
+-- Scripts, as texts: the calls, or the first bad line.
+use Rattle.std.specs.Prelude.{ℕ, ◌+◌, ◌*◌, ◌-◌, ◌^◌, Bool, true, false, ◌&&◌, ◌==◌, nat_lt, nat_le, if◌then◌else◌, List, [], ◌∷◌, ◌++◌, Option, Some, None, Result, Ok, Err, codes, zero, suc}
+use Rattle.std.specs.List.{filter, list_all, slice_split}
+use Rattle.std.specs.Str.{bytes_eq}
+use Rattle.std.specs.Option.{option_map_or}
+use Rattle.unit_name.specs.Name.{is_unit_name}
+use Rattle.link_tree.specs.declared.slot.Scope.{Scope}
+use Rattle.link_tree.specs.declared.slot.Scope.TheVariants.{Etc, Run}
+use Rattle.link_tree.specs.Lines.{front_line, Front, Whole, Last, Long}
+use Rattle.link_tree.specs.Inventory.{◌>>=◌}
+use Rattle.unitadm.specs.Operators.{is_operator}
+use Rattle.unitadm.specs.declared.action.Action.TheVariants as actions
+use Rattle.unitadm.specs.declared.call.Call.{Call}
+use Rattle.unitadm.specs.declared.call.Request.{Request}
+use Rattle.unitadm.specs.declared.call.Request.TheVariants.{Do, Undo}
+use Rattle.unitadm.specs.declared.reason.Reason.{Reason}
+use Rattle.unitadm.specs.declared.reason.Reason.TheVariants.{TooManyLines, LineTooLong, BadOperator, UnknownVerb, WrongArguments, BadName, BadNumber}
+use Rattle.unitadm.specs.declared.reason.ScriptFault.{ScriptFault}
+use Rattle.unitadm.specs.declared.reason.ScriptFault.TheVariants.{NoCalls, Bad}
+use Rattle.unitadm.specs.declared.script.TheConstants.{MAX_LINE, MAX_LINES}
+use Prim.Native.Char.{code}
+
+abbrev pub is_space : ℕ → Bool
+is_space b = b == code " "
+
+abbrev pub is_word : List ℕ → Bool
+is_word [] = false
+is_word (b ∷ bs) = true
+
+-- the words of a line, with spaces between them
+unfoldable pub words_of : List ℕ → List (List ℕ)
+words_of line = filter is_word (slice_split is_space line)
+
+abbrev pub is_digit : ℕ → Bool
+is_digit b = nat_le (code "0") b && nat_le b (code "9")
+
+-- the number that digits make after those of n, if it is below 2^32
+unfoldable pub number_from : ℕ → List ℕ → Option ℕ
+number_from n [] = Some n
+number_from n (b ∷ bs) = if is_digit b && nat_lt (n * 10 + (b - code "0")) (2 ^ 32) then number_from (n * 10 + (b - code "0")) bs else None
+
+-- the number of a word of digits
+unfoldable pub number_of : List ℕ → Option ℕ
+number_of word = if is_word word then number_from 0 word else None
+
+unfoldable pub name_of : List ℕ → Result (List ℕ) Reason
+name_of word = if is_unit_name word then Ok word else Err BadName
+
+-- words that are all names of units
+unfoldable pub names_of : List (List ℕ) → Result (List (List ℕ)) Reason
+names_of words = if list_all is_unit_name words then Ok words else Err BadName
+
+-- the names of units, of which one at least is given
+abbrev pub units_of : List (List ℕ) → Result (List (List ℕ)) Reason
+units_of [] = Err WrongArguments
+units_of (word ∷ words) = names_of (word ∷ words)
+
+abbrev pub is_runtime : List ℕ → Bool
+is_runtime word = bytes_eq word (codes "--runtime")
+
+-- the scope that an option before all arguments sets
+abbrev pub scope_of : List (List ℕ) → Scope
+scope_of [] = Etc
+scope_of (word ∷ words) = if is_runtime word then Run else Etc
+
+-- the words without that option
+abbrev pub arguments_of : List (List ℕ) → List (List ℕ)
+arguments_of [] = []
+arguments_of (word ∷ words) = if is_runtime word then words else word ∷ words
+
+abbrev pub mask_of : List (List ℕ) → Result Request Reason
+mask_of words = units_of (arguments_of words) >>= λ units. Ok (Do (actions.Mask (record { scope = scope_of words; units = units })))
+
+abbrev pub unmask_of : List (List ℕ) → Result Request Reason
+unmask_of words = units_of (arguments_of words) >>= λ units. Ok (Do (actions.Unmask (record { scope = scope_of words; units = units })))
+
+abbrev pub undo_of_word : List ℕ → Result Request Reason
+undo_of_word word = option_map_or (λ n. Ok (Undo n)) (number_of word) (Err BadNumber)
+
+-- the undo of the row that the one word names
+abbrev pub undo_of : List (List ℕ) → Result Request Reason
+undo_of [] = Err WrongArguments
+undo_of (word ∷ []) = undo_of_word word
+undo_of (word ∷ other ∷ words) = Err WrongArguments
+
+-- what a verb asks for with the words after it
+unfoldable pub request_of_verb : List ℕ → List (List ℕ) → Result Request Reason
+request_of_verb verb words =
+    if bytes_eq verb (codes "mask") then mask_of words
+    else if bytes_eq verb (codes "unmask") then unmask_of words
+    else if bytes_eq verb (codes "undo") then undo_of words
+    else Err UnknownVerb
+
+abbrev pub request_of : List (List ℕ) → Result Request Reason
+request_of [] = Err UnknownVerb
+request_of (verb ∷ words) = request_of_verb verb words
+
+-- the call of an operator with the words after its name
+unfoldable pub call_of : List ℕ → List (List ℕ) → Result (Option Call) Reason
+call_of operator words =
+    if is_operator operator then (request_of words >>= λ request. Ok (Some (record { operator = operator; request = request })))
+    else Err BadOperator
+
+abbrev pub call_of_words : List (List ℕ) → Result (Option Call) Reason
+call_of_words [] = Ok None
+call_of_words (operator ∷ words) = call_of operator words
+
+abbrev pub is_comment : List ℕ → Bool
+is_comment [] = false
+is_comment (b ∷ bs) = b == code "#"
+
+-- a line's call; comments and lines without a word are skipped
+unfoldable pub call_of_line : List ℕ → Result (Option Call) Reason
+call_of_line line = if is_comment line then Ok None else call_of_words (words_of line)
+
+-- the call of the line at the front, and the bytes after the line, if it had an end
+abbrev pub call_of_front : Front → Result (Option Call × Option (List ℕ)) Reason
+call_of_front Long = Err LineTooLong
+call_of_front (Last line) = call_of_line line >>= λ call. Ok (call, None)
+call_of_front (Whole line rest) = call_of_line line >>= λ call. Ok (call, Some rest)
+
+-- a reason with the number of its line
+abbrev pub in_line : {A : Type 0} → ℕ → Result A Reason → Result A ScriptFault
+in_line number (Ok x) = Ok x
+in_line number (Err reason) = Err (Bad number reason)
+
+-- with one call more, or with none for a line that is skipped
+abbrev pub with_call : List Call → Option Call → List Call
+with_call calls None = calls
+with_call calls (Some call) = calls ++ call ∷ []
+
+abbrev pub is_no_line : Front → Bool
+is_no_line Long = false
+is_no_line (Last []) = true
+is_no_line (Last (b ∷ bs)) = false
+is_no_line (Whole line rest) = false
+
+-- nothing is left, or else the line is one too many
+abbrev pub at_limit : ℕ → List Call → Front → Result (List Call) ScriptFault
+at_limit number calls front = if is_no_line front then Ok calls else Err (Bad number TooManyLines)
+
+-- the calls so far with those of the bytes, which begin with the line of this number; so many more lines may come
+unfoldable pub calls_at : ℕ → ℕ → List Call → List ℕ → Result (List Call) ScriptFault
+calls_at zero number calls bytes = at_limit number calls (front_line 0 bytes)
+calls_at (suc more) number calls bytes = do
+  found ← in_line number (call_of_front (front_line MAX_LINE bytes))
+  option_map_or (calls_at more (number + 1) (with_call calls found.0)) found.1 (Ok (with_call calls found.0))
+
+abbrev pub is_calls_line : List ℕ → Bool
+is_calls_line line = bytes_eq line (codes "== calls")
+
+-- what follows the line that comes before all calls, if it had an end
+abbrev pub after_calls_line : Front → Result (Option (List ℕ)) ScriptFault
+after_calls_line Long = Err NoCalls
+after_calls_line (Last line) = if is_calls_line line then Ok None else Err NoCalls
+after_calls_line (Whole line rest) = if is_calls_line line then Ok (Some rest) else Err NoCalls
+
+-- the calls of a script
+abbrev pub script_of : List ℕ → Result (List Call) ScriptFault
+script_of bytes = after_calls_line (front_line 8 bytes) >>= λ rest. option_map_or (calls_at MAX_LINES 1 []) rest (Ok [])

@@ -1,0 +1,122 @@
+//! From input to output.
+ghost use Rattle.std.specs.Prelude.{◌≡◌, ◌<◌, ◌≤◌, ℕ, List, [], length, Option, Some, true, OnOk, IfOk, IfErr, IsErrOf};
+ghost use Rattle.link_tree.specs.Inventory.{inventory_of};
+ghost use Rattle.unitadm.specs.Machine.{rows_of};
+ghost use Rattle.unitadm.specs.Script.{script_of};
+ghost use Rattle.unitadm.specs.declared.row.TheConstants.{MAX_ROWS};
+ghost use Rattle.unitadm.specs.Texts.{text_of};
+ghost use Rattle.unitadm.specs.Runs.{TreeOfInput, outcome_of, text_of_calls, in_inventory, in_script, GivesInput, InputCause, WritesAll, FaultOf, Silent, FaultCause};
+
+use crate::call::Call;
+use crate::history::{CallError, History};
+use crate::reason::ScriptError;
+use crate::reply::push_rows;
+use crate::run_fault::{InputError, InputFault, RunFault};
+use crate::script::read_script;
+use link_tree::{
+    InventoryError, Sink, Source, Tree, WriteFault, inventory_text, read_inventory, write_text,
+};
+use std::alloc::{AllocError, Global};
+
+/// The history of all calls, one after another.
+fn history_of(alloc: Global, tree: Tree, calls: Vec<Call>) -> Result<History, CallError>
+    ensures first { IfOk result (λ history. history.0 ≡ tree) }
+    ensures rows { IfOk result (λ history. history.1 ≡ rows_of tree [] calls.items) }
+    ensures room { OnOk result (length calls.items ≤ MAX_ROWS) }
+    ensures full { IsErrOf result CallError.Full → MAX_ROWS < length calls.items }
+{
+    let mut history = History::new(alloc, tree)?;
+    for call in calls {
+        match history.call(alloc, call) {
+            Ok(()) => {}
+            Err(e) => return Err(e),
+        }
+    }
+    Ok(history)
+}
+
+fn text_of_history(alloc: Global, history: &History) -> Result<Vec<u8>, AllocError>
+    ensures { IfOk result (λ text. text.items ≡ text_of history.now.0 history.now.1) }
+{
+    let mut out = Vec::new(alloc);
+    push_rows(&mut out, alloc, history.rows())?;
+    out.extend_from_slice(b"== tree\n")?;
+    out.extend_from_slice(&inventory_text(alloc, history.tree())?)?;
+    Ok(out)
+}
+
+fn text_of_rows(alloc: Global, tree: Tree, calls: Vec<Call>) -> Result<Vec<u8>, CallError>
+    ensures text { IfOk result (λ text. text.items ≡ text_of tree (rows_of tree [] calls.items)) }
+    ensures room { OnOk result (length calls.items ≤ MAX_ROWS) }
+    ensures full { IsErrOf result CallError.Full → MAX_ROWS < length calls.items }
+{
+    let history = history_of(alloc, tree, calls)?;
+    Ok(text_of_history(alloc, &history)?)
+}
+
+#[tactic(auto, unfolding(crate::specs::Runs::text_of_calls))]
+fn text_of_calls(alloc: Global, tree: Tree, calls: Vec<Call>) -> Result<Vec<u8>, InputError>
+    ensures text { GivesInput (λ text. text.items) result (text_of_calls tree calls.items) }
+    ensures cause { IfErr result (λ e. (old new : ℕ × ℕ) → InputCause e old new) }
+{
+    match text_of_rows(alloc, tree, calls) {
+        Ok(text) => Ok(text),
+        Err(CallError::Full) => Err(InputError::Fault(InputFault::Full)),
+        Err(CallError::OutOfMemory) => Err(InputError::OutOfMemory),
+    }
+}
+
+fn read_tree<S: Source>(alloc: Global, source: &mut S) -> Result<Tree, InputError>
+    ensures tree { (input : List ℕ) → S.left source.old ≡ Some input → TreeOfInput (S.left source.new) result (in_inventory (inventory_of input)) }
+    ensures calm { OnOk result (S.failures source.new ≡ S.failures source.old) }
+    ensures cause { IfErr result (λ e. InputCause e (S.failures source.old, S.interruptions source.old) (S.failures source.new, S.interruptions source.new)) }
+{
+    match read_inventory(alloc, source) {
+        Ok(tree) => Ok(tree),
+        Err(InventoryError::Fault(fault, n)) => {
+            Err(InputError::Fault(InputFault::Inventory(fault, n)))
+        }
+        Err(InventoryError::ReadFault(n)) => Err(InputError::InventoryRead(n)),
+        Err(InventoryError::OutOfMemory) => Err(InputError::OutOfMemory),
+    }
+}
+
+fn read_calls<S: Source>(alloc: Global, source: &mut S) -> Result<Vec<Call>, InputError>
+    ensures calls { (bytes : List ℕ) → S.left source.old ≡ Some bytes → GivesInput (λ calls. calls.items) result (in_script (script_of bytes)) }
+    ensures cause { IfErr result (λ e. InputCause e (S.failures source.old, S.interruptions source.old) (S.failures source.new, S.interruptions source.new)) }
+{
+    match read_script(alloc, source) {
+        Ok(calls) => Ok(calls),
+        Err(ScriptError::Fault(fault)) => Err(InputError::Fault(InputFault::Script(fault))),
+        Err(ScriptError::ReadFault) => Err(InputError::ReadFault),
+        Err(ScriptError::OutOfMemory) => Err(InputError::OutOfMemory),
+    }
+}
+
+/// The whole text for the input.
+fn text_of_input<S: Source>(alloc: Global, source: &mut S) -> Result<Vec<u8>, InputError>
+    ensures text { (input : List ℕ) → S.left source.old ≡ Some input → GivesInput (λ text. text.items) result (outcome_of input) }
+    ensures cause { IfErr result (λ e. InputCause e (S.failures source.old, S.interruptions source.old) (S.failures source.new, S.interruptions source.new)) }
+{
+    let tree = read_tree(alloc, source)?;
+    let calls = read_calls(alloc, source)?;
+    text_of_calls(alloc, tree, calls)
+}
+
+/// Reads an inventory and a script of calls, and writes a reply to each call and the tree that they leave. The
+/// output is made whole before its first byte goes out.
+pub fn run<S: Source, K: Sink>(alloc: Global, source: &mut S, sink: &mut K) -> Result<(), RunFault>
+    ensures ok { OnOk result ((input : List ℕ) → S.left source.old ≡ Some input → WritesAll (K.written sink.old) (K.written sink.new) (outcome_of input)) }
+    ensures flushed { OnOk result (K.flushed sink.new ≡ true) }
+    ensures fault { IfErr result (λ e. (input : List ℕ) → S.left source.old ≡ Some input → FaultOf e (K.written sink.old) (K.written sink.new) (outcome_of input)) }
+    ensures silent { IfErr result (λ e. Silent e (K.written sink.old) (K.written sink.new)) }
+    ensures cause { IfErr result (λ e. FaultCause e (S.failures source.old, S.interruptions source.old) (S.failures source.new, S.interruptions source.new) (K.failures sink.old, K.interruptions sink.old) (K.failures sink.new, K.interruptions sink.new)) }
+{
+    match text_of_input(alloc, source) {
+        Ok(text) => match write_text(&text, sink) {
+            Ok(()) => Ok(()),
+            Err(WriteFault(sent)) => Err(RunFault::WriteFault(sent)),
+        },
+        Err(e) => Err(e.run_fault()),
+    }
+}
