@@ -1,4 +1,5 @@
 //! What the words ask for.
+ghost use Rattle.std.specs.Prelude.{◌≡◌};
 
 use clap::error::ErrorKind;
 use clap::{Arg, ArgAction, Command};
@@ -35,7 +36,10 @@ impl<T: Drop> From<AllocFailed<T>> for ArgumentError {
 
 impl ArgumentError {
     /// The status with which the program ends.
-    pub fn status(self) -> u8 {
+    pub fn status(self) -> u8
+        ensures bad { self ≡ ArgumentError.BadArguments → result ≡ 2 }
+        ensures memory { self ≡ ArgumentError.OutOfMemory → result ≡ 1 }
+    {
         match self {
             ArgumentError::BadArguments => 2,
             ArgumentError::OutOfMemory => 1,

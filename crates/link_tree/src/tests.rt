@@ -1,4 +1,3 @@
 mod links;
 mod reading;
-mod streams;
 mod writing;

@@ -38,7 +38,7 @@ pub no_changes : (c : Action) (t : Entries) (refusal : Refusal) → (outcome c t
 no_changes (Mask mask) t refusal h = refused_none t (followed mask_at (slots_of mask.scope mask.units) t) refusal h
 no_changes (Unmask unmask) t refusal h = refused_none t (followed unmask_at (slots_of unmask.scope unmask.units) t) refusal h
 
-replay-push : (t : Entries) (rows : List Row) (row : Row) → replay t (rows ++ row ∷ []) ≡ after (survivor row) (replay t rows)
+pub replay-push : (t : Entries) (rows : List Row) (row : Row) → replay t (rows ++ row ∷ []) ≡ after (survivor row) (replay t rows)
 replay-push t [] row = refl
 replay-push t (r ∷ rows) row = replay-push (after (survivor r) t) rows row
 
@@ -59,7 +59,7 @@ by_answer : (c : Action) (call : Call) (t : Entries) (answer : Answer) → (outc
 by_answer c call t Done is = (refl, (refl, refl))
 by_answer c call t (Refused refusal) is = (ap (λ (cs : List Change). after_changes cs t) (sym (no_changes c t refusal is)), tt)
 
-new_row : (c : Action) (call : Call) (t : Entries) → call.request ≡ Do c
+pub new_row : (c : Action) (call : Call) (t : Entries) → call.request ≡ Do c
     → (after (survivor (answered call (outcome c t))) t ≡ after_changes (outcome c t).changes t) × AnswersHere (survivor (answered call (outcome c t))) t (answered call (outcome c t))
 new_row c call t asks =
     subst (λ (r : Request). (after (surviving r (Answered (outcome c t).answer) None) t ≡ after_changes (outcome c t).changes t) × AnswersHere (surviving r (Answered (outcome c t).answer) None) t (answered call (outcome c t)))
@@ -89,7 +89,7 @@ pub rows_after-undo : (call : Call) (n : ℕ) (first : Entries) (rows : List Row
 rows_after-undo call n first rows refusal asks is = ap (rows_undone call rows n) is ∙ ap (rows_by first rows call) (sym asks)
 
 -- the row of an undo changes nothing
-undo_row : (call : Call) (n : ℕ) (reply : RowReply) → call.request ≡ Undo n → survivor (row_of_undo call reply) ≡ None
+pub undo_row : (call : Call) (n : ℕ) (reply : RowReply) → call.request ≡ Undo n → survivor (row_of_undo call reply) ≡ None
 undo_row call n reply asks = ap (λ (r : Request). surviving r reply None) asks
 
 pub kept-undo_row : (call : Call) (n : ℕ) (reply : RowReply) (first tree : Entries) (rows : List Row) → call.request ≡ Undo n → length rows < 1000000 → IsKept first tree rows
@@ -110,7 +110,7 @@ not_first None at rest h = (refl, h)
 not_first (Some c) at rest h = cc
 
 -- rows without a survivor leave any tree as it is
-no_survivor : (rows : List Row) (t : Entries) (at : ℕ) → first_survivor rows at ≡ None → (replay t rows ≡ t) × AnswersAlike t rows
+pub no_survivor : (rows : List Row) (t : Entries) (at : ℕ) → first_survivor rows at ≡ None → (replay t rows ≡ t) × AnswersAlike t rows
 no_survivor [] t at h = (refl, tt)
 no_survivor (row ∷ rows) t at h =
     let parts = not_first (survivor row) at (first_survivor rows (at + 1)) h in
@@ -176,7 +176,7 @@ row_at_within rows (suc k) h = let row = row_standing rows (suc k) (slice_get ro
 pub row_at_read : (rows : List Row) (n : ℕ) (row : Row) → 0 < n → n ≤ length rows → row ≡ get_or rows (n - 1) row → row_at rows n ≡ Some row
 row_at_read rows n row pos le is = sym (row_at_is rows n pos) ∙ slice_get_read rows (length rows) (n - 1) row refl (omega arith) is
 
-undone_is : (rows : List Row) (n by : ℕ) → 0 < n → mark rows (n - 1) by ≡ undone rows n by
+pub undone_is : (rows : List Row) (n by : ℕ) → 0 < n → mark rows (n - 1) by ≡ undone rows n by
 undone_is rows zero by h = absurd (omega arith)
 undone_is rows (suc k) by h = let one : suc k - 1 ≡ k = omega arith in ap (λ (j : ℕ). mark rows j by) one
 

@@ -1,5 +1,5 @@
 -- The machine of one thread: its whole state is the first tree and the rows, one for each call.
-use Rattle.std.specs.Prelude.{◌≡◌, ◌+◌, ◌≤◌, ℕ, true, Option, Some, None, is_some, if◌then◌else◌, List, [], ◌∷◌, ◌++◌, length, slice_get, drop, zero, suc, All}
+use Rattle.std.specs.Prelude.{◌≡◌, ◌+◌, ◌≤◌, ℕ, Bool, true, false, Option, Some, None, is_some, if◌then◌else◌, List, [], ◌∷◌, ◌++◌, length, slice_get, drop, zero, suc, All}
 use Rattle.link_tree.specs.Slots.{is_slot}
 use Rattle.link_tree.specs.Trees.{Entries, after_changes}
 use Rattle.slot_commands.specs.declared.outcome.Answer.TheVariants.{Done, Refused}
@@ -108,6 +108,25 @@ rows_after first rows call = rows_by first rows call call.request
 abbrev pub rows_of : Entries → List Row → List Call → List Row
 rows_of first rows [] = rows
 rows_of first rows (call ∷ calls) = rows_of first (rows_after first rows call) calls
+
+-- whether a call was refused
+abbrev pub is_refusal : RowReply → Bool
+is_refusal (Answered Done) = false
+is_refusal (Answered (Refused refusal)) = true
+is_refusal (Undid n) = false
+is_refusal (UndoRefused refusal) = true
+
+-- A refused call changes nothing: the rows before its own are as they were, and so is the tree.
+abbrev pub RefusedStays : Entries → List Row → List Row → Type 0
+RefusedStays first old new = (before : List Row) (row : Row) → new ≡ before ++ row ∷ [] → is_refusal row.reply ≡ true
+    → (before ≡ old) × (replay first new ≡ replay first old)
+
+-- A command that is undone at once, with nothing but refusals after it, may be undone, and then the tree is the very one
+-- on which it ran.
+abbrev pub GivesBack : Entries → List Row → Call → List Row → Type 0
+GivesBack first old call new = (before later : List Row) (row : Row) → old ≡ before ++ row ∷ later → is_some (survivor row) ≡ true
+    → All (λ refused. is_refusal refused.reply ≡ true) later → call.request ≡ Undo (length before + 1)
+    → (undo_refusal old (length before + 1) ≡ None) × (replay first new ≡ replay first before)
 
 -- In the replay a survivor answers and changes what its row says.
 abbrev pub AnswersHere : Option Action → Entries → Row → Type 0

@@ -3,7 +3,7 @@ ghost use Rattle.std.specs.Prelude.{◌≡◌, ◌≤◌, ◌<◌, ◌^◌, ◌+
 ghost use Rattle.link_tree.specs.Slots.{is_slot};
 ghost use Rattle.link_tree.specs.Trees.{AreFrom, after_changes, turned};
 ghost use Rattle.unitadm.specs.Actions.{outcome};
-ghost use Rattle.unitadm.specs.Machine.{replay, rows_after, rows_undone, first_survivor, undo_refusal, row_at, AnswersAlike};
+ghost use Rattle.unitadm.specs.Machine.{replay, rows_after, rows_undone, first_survivor, undo_refusal, row_at, RefusedStays, GivesBack, AnswersAlike};
 ghost use Rattle.unitadm.specs.declared.call.Request.TheVariants.{Do, Undo};
 ghost use Rattle.unitadm.specs.declared.row.TheConstants.{MAX_ROWS};
 ghost use Rattle.unitadm.specs.declared.history.CallError.TheVariants.{OutOfMemory};
@@ -98,6 +98,20 @@ impl History {
     pub fn call(&mut self, alloc: Global, call: Call) -> Result<(), CallError>
         ensures first { self.new.0 ≡ self.old.0 }
         ensures rows { OnOk result (self.new.1 ≡ rows_after self.old.0 self.old.1 call) }
+        ensures refused { OnOk result (RefusedStays self.old.0 self.old.1 self.new.1) }
+        ensures at_once { OnOk result (GivesBack self.old.0 self.old.1 call self.new.1) }
+        ensures err { OnErr result (self.new ≡ self.old) }
+        ensures full { IsErrOf result CallError.Full → length self.old.1 ≡ MAX_ROWS }
+        ensures room { OnOk result (length self.old.1 < MAX_ROWS) }
+    {
+        self.add_row(alloc, call)?;
+        Ok(())
+    }
+
+    /// One call more, by its row.
+    fn add_row(&mut self, alloc: Global, call: Call) -> Result<(), CallError>
+        ensures first { self.new.0 ≡ self.old.0 }
+        ensures rows { OnOk result (self.new.1 ≡ rows_after self.old.0 self.old.1 call) }
         ensures err { OnErr result (self.new ≡ self.old) }
         ensures full { IsErrOf result CallError.Full → length self.old.1 ≡ MAX_ROWS }
         ensures room { OnOk result (length self.old.1 < MAX_ROWS) }
@@ -150,12 +164,12 @@ impl History {
     {
         let place = n as usize - 1;
         let back = self.rows[place].changes.turned()?;
-        let tree = self.tree.with_changes(back.as_slice())?;
+        let restored = self.tree.with_changes(back.as_slice())?;
         self.rows
             .push(Row::of_undo(alloc, call, RowReply::Undid(n)))?;
         let by = self.rows.len() as u32;
         self.rows[place].undone_by = Some(by);
-        self.tree = tree;
+        self.tree = restored;
         Ok(())
     }
 }

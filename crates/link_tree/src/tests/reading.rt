@@ -1,5 +1,4 @@
-use crate::tests::streams::Faulty;
-use crate::{FromRead, InventoryError, InventoryFault, PATIENCE, Tree, read_inventory};
+use crate::{FromRead, InventoryError, InventoryFault, Tree, read_inventory};
 use std::alloc::Global;
 use std::test::Fail;
 use unit_name::ample;
@@ -7,12 +6,13 @@ use unit_name::ample;
 /// Two links in no order, and what follows an inventory.
 const TWO_LINKS: &[u8] = b"unitadm-inventory 1\nL\t/b\t/x\nL\t/a/c\ty\nend\n== calls\n";
 
-/// How many of its bytes are the inventory's.
-const TWO_LINKS_LEN: usize = 41;
-
 fn read(alloc: Global, input: &[u8]) -> Result<Tree, InventoryError> {
+    let mut bytes = input;
     ample!(
-        read_inventory(alloc, &mut Faulty::new(input, 100_000, 0)),
+        {
+            bytes = input;
+            read_inventory(alloc, &mut FromRead::new(&mut bytes))
+        },
         InventoryError::OutOfMemory
     )
 }
@@ -20,17 +20,6 @@ fn read(alloc: Global, input: &[u8]) -> Result<Tree, InventoryError> {
 #[test]
 fn what_follows_an_inventory_is_left(rt: HostRuntime) -> Result<(), Fail> {
     let alloc = rt.alloc();
-    let mut source = Faulty::new(TWO_LINKS, 100_000, 0);
-    let tree = ample!(
-        {
-            source = Faulty::new(TWO_LINKS, 100_000, 0);
-            read_inventory(alloc, &mut source)
-        },
-        InventoryError::OutOfMemory
-    )?;
-    assert_eq!(rt; tree.len(), 2);
-    assert_eq!(rt; source.left(), b"== calls\n".as_slice());
-
     let mut bytes = TWO_LINKS;
     let tree = ample!(
         {
@@ -193,44 +182,4 @@ fn a_line_has_at_most_16384_bytes(rt: HostRuntime) {
             Ok(_) => panic!(rt; "accepted"),
         }
     }
-}
-
-#[test]
-fn a_source_may_fail_anywhere(rt: HostRuntime) {
-    let mut number = 0;
-    for k in 0..TWO_LINKS_LEN {
-        let read = ample!(
-            read_inventory(rt.alloc(), &mut Faulty::new(TWO_LINKS, k, 0)),
-            InventoryError::OutOfMemory
-        );
-        match read {
-            Err(error) => assert_eq!(rt;
-                error,
-                InventoryError::ReadFault(number),
-                "after {k} bytes"
-            ),
-            Ok(_) => panic!(rt; "read to its end"),
-        }
-        if TWO_LINKS.get(k) == Some(&b'\n') {
-            number = number.saturating_add(1);
-        }
-    }
-}
-
-#[test]
-fn a_source_may_be_interrupted(rt: HostRuntime) -> Result<(), Fail> {
-    let patience = u64::from(PATIENCE);
-    let tree = ample!(
-        read_inventory(
-            rt.alloc(),
-            &mut Faulty::new(TWO_LINKS, 100_000, patience - 1)
-        ),
-        InventoryError::OutOfMemory
-    )?;
-    assert_eq!(rt; tree.len(), 2);
-    match read_inventory(rt.alloc(), &mut Faulty::new(TWO_LINKS, 100_000, patience)) {
-        Err(error) => assert_eq!(rt; error, InventoryError::ReadFault(0)),
-        Ok(_) => panic!(rt; "read in spite of it"),
-    }
-    Ok(())
 }

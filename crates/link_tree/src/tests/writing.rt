@@ -1,9 +1,9 @@
-use crate::tests::streams::{Faulty, Narrow};
 use crate::{
-    Change, Entry, InventoryError, PathError, Slot, TargetError, ToWrite, Tree, TreePath,
+    Change, Entry, FromRead, InventoryError, PathError, Slot, TargetError, ToWrite, Tree, TreePath,
     WriteError, read_inventory, write_inventory,
 };
 use std::alloc::{AllocError, Global};
+use std::process::Abort;
 use std::test::Fail;
 use unit_name::ample;
 
@@ -13,57 +13,44 @@ const LINKS: &[u8] = b"unitadm-inventory 1\nL\t/a/z\ty\nL\t/a-b/c\ty\nL\t/a/b/c\
 const IN_ORDER: &[u8] = b"unitadm-inventory 1\nL\t/a-b/c\ty\nL\t/a/b/c\ty\nL\t/a/z\ty\nend\n";
 
 fn links(alloc: Global) -> Result<Tree, InventoryError> {
+    let mut bytes = LINKS;
     ample!(
-        read_inventory(alloc, &mut Faulty::new(LINKS, 100_000, 0)),
+        {
+            bytes = LINKS;
+            read_inventory(alloc, &mut FromRead::new(&mut bytes))
+        },
         InventoryError::OutOfMemory
     )
 }
 
-#[test]
-fn entries_are_written_in_order(rt: HostRuntime) -> Result<(), Fail> {
-    let tree = links(rt.alloc())?;
-    let mut sink = Narrow::new(1000, 7, true);
+fn assert_written(
+    rt: &impl Abort,
+    alloc: Global,
+    tree: &Tree,
+    text: &[u8],
+) -> Result<(), WriteError> {
+    let mut taken = [0; 512];
+    let mut room = taken.as_mut_slice();
     ample!(
-        write_inventory(rt.alloc(), &tree, &mut sink),
+        write_inventory(alloc, tree, &mut ToWrite::new(&mut room)),
         WriteError::OutOfMemory
     )?;
-    assert_eq!(rt; sink.taken(), IN_ORDER);
-
-    let mut empty = Narrow::new(1000, 1000, true);
-    let tree = Tree::empty(rt.alloc());
-    ample!(
-        write_inventory(rt.alloc(), &tree, &mut empty),
-        WriteError::OutOfMemory
-    )?;
-    assert_eq!(rt; empty.taken(), b"unitadm-inventory 1\nend\n".as_slice());
+    let len = 512usize.saturating_sub(room.len());
+    assert_eq!(rt; len, text.len());
+    assert!(rt; taken.starts_with(text));
     Ok(())
 }
 
 #[test]
-fn a_sink_may_fail_anywhere(rt: HostRuntime) -> Result<(), Fail> {
-    let tree = links(rt.alloc())?;
-    for k in 0..IN_ORDER.len() {
-        let mut sink = Narrow::new(k, 3, true);
-        let written = ample!(
-            write_inventory(rt.alloc(), &tree, &mut sink),
-            WriteError::OutOfMemory
-        );
-        assert_eq!(rt; written, Err(WriteError::Fault(k)));
-        assert_eq!(rt; sink.taken(), IN_ORDER.get(..k).unwrap_or(&[]));
-    }
-    let mut idle = Narrow::new(1000, 0, true);
-    let written = ample!(
-        write_inventory(rt.alloc(), &tree, &mut idle),
-        WriteError::OutOfMemory
-    );
-    assert_eq!(rt; written, Err(WriteError::Fault(0)));
-    let mut unflushed = Narrow::new(1000, 1000, false);
-    let written = ample!(
-        write_inventory(rt.alloc(), &tree, &mut unflushed),
-        WriteError::OutOfMemory
-    );
-    assert_eq!(rt; written, Err(WriteError::Fault(IN_ORDER.len())));
-    assert_eq!(rt; unflushed.taken(), IN_ORDER);
+fn entries_are_written_in_order(rt: HostRuntime) -> Result<(), Fail> {
+    let alloc = rt.alloc();
+    assert_written(&rt, alloc, &links(alloc)?, IN_ORDER)?;
+    assert_written(
+        &rt,
+        alloc,
+        &Tree::empty(alloc),
+        b"unitadm-inventory 1\nend\n",
+    )?;
     Ok(())
 }
 

@@ -1,13 +1,15 @@
-use Rattle.std.proofs.Common.{◌≡◌, ◌<◌, All, true, length, subst, arith}
-use Rattle.link_tree.specs.Slots.{is_slot}
-use Rattle.slot_commands.specs.declared.outcome.Outcome.{Outcome}
-use Rattle.unitadm.proofs.Replayed.{kept-call}
+use Rattle.std.proofs.Common.{List, subst, sym}
+use Rattle.unitadm.specs.Machine.{RefusedStays, GivesBack}
+use Rattle.unitadm.specs.declared.row.Row.{Row}
+use Rattle.unitadm.proofs.AtOnce.{refused_stays, gives_back}
 use Rattle.unitadm.proofs.history.History.call.Goals as goal
 
-pub invariant_of-self-in-Do : goal.invariant_of-self-in-Do
-invariant_of-self-in-Do c =
-    let rows = c.self.inside.rows.items in
-    let room : length rows < 1000000 = omega (arith, c.self.invariant.few, c.if-len-eq-MAX_ROWS.false, c.len.ensures, c.self.inside.rows.ok.0) in
-    let slots = subst (λ (o : Outcome). All (λ change. is_slot change.path ≡ true) o.changes) c.in_ok-outcome-in-Do.ensures.outcome c.in_ok-outcome-in-Do.ensures.slots in
-    let kept = kept-call c.in-Do.action c.args.call c.self.inside.first c.self.inside.tree rows c.in-Do.is room slots c.self.invariant in
-    rw (c.in_ok-push-in-Do.ensures.items, c.answered.ensures, c.in_ok-outcome-in-Do.ensures.outcome, c.in_ok-outcome-in-Do.ensures.after) kept
+pub returns-clause-refused : goal.returns-clause-refused
+returns-clause-refused c =
+    subst (λ (rows : List Row). RefusedStays c.args.self.now.0 c.args.self.now.1 rows) (sym c.in_ok-add_row.ensures.rows)
+    (refused_stays c.args.self.now.0 c.args.self.now.1 c.args.call)
+
+pub returns-clause-at_once : goal.returns-clause-at_once
+returns-clause-at_once c =
+    subst (λ (rows : List Row). GivesBack c.args.self.now.0 c.args.self.now.1 c.args.call rows) (sym c.in_ok-add_row.ensures.rows)
+    (gives_back c.args.self.now.0 c.args.self.now.1 c.args.call)

@@ -47,7 +47,7 @@ invariant_of-self-2 c =
     let can = can_be_taken_back c.args.call c.self.inside.first c.self.inside.tree rows c.args.n c.index.result.now c.requires.asks room c.self.invariant free here in
     let pushed = c.in_ok-push.ensures.items ∙ ap (λ (row : Row). rows ++ row ∷ []) c.of_undo.ensures in
     let marked = marked_read rows c.push.new.self.items c.args.n c.len-by.result c.index_mut.result.now (row_of_undo c.args.call (Undid c.args.n)) pushed within.0 within.1 c.index_mut.ensures.value (c.len-by.ensures ∙ c.push.new.self.ok.0) in
-    rw (c.in_ok-tree.ensures, c.as_slice.ensures, c.in_ok-back.ensures) (rw marked can.kept)
+    rw (c.in_ok-restored.ensures, c.as_slice.ensures, c.in_ok-back.ensures) (rw marked can.kept)
 
 pub returns-clause-rows : goal.returns-clause-rows
 returns-clause-rows c =

@@ -1,7 +1,7 @@
 //! A source and a sink that fail when they are told to.
 ghost use Rattle.std.specs.Prelude.{None};
 
-use crate::stream::{Sink, Source, Stop};
+use link_tree::{Sink, Source, Stop};
 
 /// Gives these bytes, each after so many interruptions, and fails after some of them.
 #[derive(Drop)]
