@@ -6,7 +6,7 @@ use crate::run_fault::RunFault;
 use crate::running::run;
 use arguments::{ArgumentError, arguments_of};
 use link_tree::{FromRead, ToWrite};
-use std::io::{BufReader, BufWriter};
+use std::io::BufReader;
 use std::{env, io};
 use thiserror::Error;
 
@@ -53,13 +53,11 @@ fn run_standard(rt: &HostRuntime) -> Result<(), RunFault> {
     let Ok(reader) = BufReader::new(rt.alloc(), rt.reader()) else {
         return Err(RunFault::OutOfMemory);
     };
-    let Ok(writer) = BufWriter::new(rt.alloc(), io::writer(rt)) else {
-        return Err(RunFault::OutOfMemory);
-    };
+    // No buffer: the output comes whole, and a fault is to tell how much of it went out.
     run(
         rt.alloc(),
         &mut FromRead::new(reader),
-        &mut ToWrite::new(writer),
+        &mut ToWrite::new(io::writer(rt)),
     )
 }
 
