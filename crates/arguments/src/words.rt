@@ -1,5 +1,6 @@
 //! What the words ask for.
 ghost use Rattle.std.specs.Prelude.{◌≡◌};
+ghost use Rattle.arguments.specs.Statuses.{status_of};
 
 use clap::error::ErrorKind;
 use clap::{Arg, ArgAction, Command};
@@ -37,8 +38,7 @@ impl<T: Drop> From<AllocFailed<T>> for ArgumentError {
 impl ArgumentError {
     /// The status with which the program ends.
     pub fn status(self) -> u8
-        ensures bad { self ≡ ArgumentError.BadArguments → result ≡ 2 }
-        ensures memory { self ≡ ArgumentError.OutOfMemory → result ≡ 1 }
+        ensures { result ≡ status_of self }
     {
         match self {
             ArgumentError::BadArguments => 2,

@@ -31,7 +31,7 @@ abbrev pub is_line_byte : ℕ → Bool
 is_line_byte b = not (b == 10)
 
 -- a line and its end
-whole : (room : ℕ) (line rest : List ℕ) → list_all is_line_byte line ≡ true → length line ≤ room → front_line room (line ++ 10 ∷ rest) ≡ Whole line rest
+pub whole : (room : ℕ) (line rest : List ℕ) → list_all is_line_byte line ≡ true → length line ≤ room → front_line room (line ++ 10 ∷ rest) ≡ Whole line rest
 unfolding front_line
 whole room [] rest all short = refl
 whole room (b ∷ bs) rest all short =

@@ -1,5 +1,5 @@
 -- Calls that are refused, and commands that are undone at once.
-use Rattle.std.proofs.Common.{◌≡◌, ◌+◌, ◌<◌, ℕ, zero, suc, Bool, true, false, cond, List, [], ◌∷◌, ◌++◌, Option, Some, None, is_some, slice_get, drop, length, length-append, refl, sym, ap, subst, ◌∙◌, arith, All}
+use Rattle.std.proofs.Common.{◌≡◌, ◌+◌, ℕ, suc, true, List, [], ◌∷◌, ◌++◌, Option, Some, None, is_some, slice_get, drop, length, length-append, refl, sym, ap, subst, ◌∙◌, arith, All}
 use Rattle.std.proofs.Math.Seq.{drop-append-add}
 use Rattle.std.proofs.lemmas.Bool.{false≢true}
 use Rattle.std.proofs.lemmas.List.Elements.{All-head, All-tail}
@@ -17,7 +17,7 @@ use Rattle.unitadm.specs.declared.row.Row.{Row}
 use Rattle.unitadm.specs.declared.row.RowReply.{RowReply}
 use Rattle.unitadm.specs.declared.row.RowReply.TheVariants.{Answered, Undid, UndoRefused}
 use Rattle.unitadm.specs.Actions.{outcome}
-use Rattle.unitadm.specs.Machine.{surviving, survivor, after, replay, first_survivor, answered, row_of_undo, mark, undone, row_refusal, or_blocked, refusal_at, undo_refusal, row_at, rows_undone, rows_by, rows_after, is_refusal, RefusedStays, GivesBack}
+use Rattle.unitadm.specs.Machine.{surviving, survivor, after, replay, first_survivor, answered, row_of_undo, mark, undone, row_refusal, or_blocked, refusal_at, undo_refusal, rows_undone, rows_by, rows_after, is_refusal, RefusedStays, GivesBack}
 use Rattle.unitadm.proofs.Replayed.{no_changes, new_row, undo_row, replay-push, no_survivor}
 
 -- lists that end with one element each

@@ -14,22 +14,22 @@ use Rattle.unitadm.specs.declared.script.TheConstants.{MAX_LINE, MAX_LINES}
 use Rattle.unitadm.specs.Script.{call_of_front, with_call, calls_at, at_limit}
 use Rattle.unitadm.specs.ScriptReads.{CallOf, ReadsCall, script_error_of, GivesScript, FailsScript}
 
-calls_at-end : (more number : ℕ) (calls : List Call) (call : Option Call) (bytes : List ℕ) → 0 < more → call_of_front (front_line MAX_LINE bytes) ≡ Ok (call, None) → calls_at more number calls bytes ≡ Ok (with_call calls call)
+pub calls_at-end : (more number : ℕ) (calls : List Call) (call : Option Call) (bytes : List ℕ) → 0 < more → call_of_front (front_line MAX_LINE bytes) ≡ Ok (call, None) → calls_at more number calls bytes ≡ Ok (with_call calls call)
 unfolding calls_at
 calls_at-end zero number calls call bytes some e = absurd (omega arith)
 calls_at-end (suc more) number calls call bytes some e = rw e refl
 
-calls_at-bad : (more number : ℕ) (calls : List Call) (bytes : List ℕ) (reason : Reason) → 0 < more → call_of_front (front_line MAX_LINE bytes) ≡ Err reason → calls_at more number calls bytes ≡ Err (Bad number reason)
+pub calls_at-bad : (more number : ℕ) (calls : List Call) (bytes : List ℕ) (reason : Reason) → 0 < more → call_of_front (front_line MAX_LINE bytes) ≡ Err reason → calls_at more number calls bytes ≡ Err (Bad number reason)
 unfolding calls_at
 calls_at-bad zero number calls bytes reason some e = absurd (omega arith)
 calls_at-bad (suc more) number calls bytes reason some e = rw e refl
 
-calls_at-limit : (more number : ℕ) (calls : List Call) (bytes : List ℕ) → more ≡ 0 → calls_at more number calls bytes ≡ at_limit number calls (front_line 0 bytes)
+pub calls_at-limit : (more number : ℕ) (calls : List Call) (bytes : List ℕ) → more ≡ 0 → calls_at more number calls bytes ≡ at_limit number calls (front_line 0 bytes)
 unfolding calls_at
 calls_at-limit zero number calls bytes none = refl
 calls_at-limit (suc more) number calls bytes none = absurd (omega arith)
 
-calls_at-step : (more number : ℕ) (calls : List Call) (call : Option Call) (bytes rest : List ℕ) → 0 < more → call_of_front (front_line MAX_LINE bytes) ≡ Ok (call, Some rest) → calls_at more number calls bytes ≡ calls_at (more - 1) (number + 1) (with_call calls call) rest
+pub calls_at-step : (more number : ℕ) (calls : List Call) (call : Option Call) (bytes rest : List ℕ) → 0 < more → call_of_front (front_line MAX_LINE bytes) ≡ Ok (call, Some rest) → calls_at more number calls bytes ≡ calls_at (more - 1) (number + 1) (with_call calls call) rest
 unfolding calls_at
 calls_at-step zero number calls call bytes rest some e = absurd (omega arith)
 calls_at-step (suc more) number calls call bytes rest some e =

@@ -4,3 +4,4 @@ pub mod NameLists
 pub mod Numbers
 pub mod Padded
 pub mod Replayed
+pub mod ScriptLines

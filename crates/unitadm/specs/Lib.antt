@@ -1,7 +1,9 @@
 pub mod Actions
+pub mod Laws
 pub mod Machine
 pub mod Operators
 pub mod Runs
 pub mod Script
 pub mod ScriptReads
+pub mod Statuses
 pub mod Texts

@@ -11,6 +11,7 @@ use Rattle.unitadm.specs.declared.call.Request.TheVariants.{Do, Undo}
 use Rattle.unitadm.specs.declared.row.UndoRefusal.{UndoRefusal}
 use Rattle.unitadm.specs.declared.row.UndoRefusal.TheVariants.{NoSuchRow, NotACommand, AlreadyUndone, Blocked}
 use Rattle.unitadm.specs.declared.row.Row.{Row}
+use Rattle.unitadm.specs.declared.row.TheConstants.{MAX_ROWS}
 use Rattle.unitadm.specs.declared.row.RowReply.{RowReply}
 use Rattle.unitadm.specs.declared.row.RowReply.TheVariants.{Answered, Undid, UndoRefused}
 use Rattle.unitadm.specs.Actions.{outcome}
@@ -146,4 +147,4 @@ pub record IsKept (first tree : Entries) (rows : List Row) : Type 0 where
   pub tree_is : tree ≡ replay first rows
   pub alike : AnswersAlike first rows
   pub slots : All ChangesSlots rows
-  pub few : length rows ≤ 1000000
+  pub few : length rows ≤ MAX_ROWS

@@ -1,5 +1,5 @@
 //! The calls so far, and the tree that they leave.
-ghost use Rattle.std.specs.Prelude.{◌≡◌, ◌≤◌, ◌<◌, ◌^◌, ◌+◌, [], None, Some, length, drop, true, All, IfOk, OnOk, OnErr, IsErrOf};
+ghost use Rattle.std.specs.Prelude.{◌≡◌, ◌≤◌, ◌<◌, ◌^◌, ◌+◌, [], None, Some, Err, length, drop, true, All, IfOk, OnOk, OnErr, IsErrOf};
 ghost use Rattle.link_tree.specs.Slots.{is_slot};
 ghost use Rattle.link_tree.specs.Trees.{AreFrom, after_changes, turned};
 ghost use Rattle.unitadm.specs.Actions.{outcome};
@@ -102,6 +102,7 @@ impl History {
         ensures at_once { OnOk result (GivesBack self.old.0 self.old.1 call self.new.1) }
         ensures err { OnErr result (self.new ≡ self.old) }
         ensures full { IsErrOf result CallError.Full → length self.old.1 ≡ MAX_ROWS }
+        ensures limit { length self.old.1 ≡ MAX_ROWS → result ≡ Err CallError.Full }
         ensures room { OnOk result (length self.old.1 < MAX_ROWS) }
     {
         self.add_row(alloc, call)?;
@@ -114,6 +115,7 @@ impl History {
         ensures rows { OnOk result (self.new.1 ≡ rows_after self.old.0 self.old.1 call) }
         ensures err { OnErr result (self.new ≡ self.old) }
         ensures full { IsErrOf result CallError.Full → length self.old.1 ≡ MAX_ROWS }
+        ensures limit { length self.old.1 ≡ MAX_ROWS → result ≡ Err CallError.Full }
         ensures room { OnOk result (length self.old.1 < MAX_ROWS) }
     {
         if self.rows.len() == MAX_ROWS {
@@ -205,7 +207,7 @@ fn refusal(rows: &[Row], n: u32) -> Option<UndoRefusal>
 
 /// The number, from `at` on, of the first survivor.
 fn first_survivor(rows: &[Row], at: u32) -> Option<u32>
-    requires { at + length rows.now ≤ 1000001 }
+    requires { at + length rows.now ≤ MAX_ROWS + 1 }
     ensures { result ≡ first_survivor rows.now at }
 {
     let mut number = at;

@@ -4,6 +4,7 @@
 mod action;
 mod call;
 mod history;
+mod laws;
 mod operator;
 mod program;
 mod reason;

@@ -1,6 +1,6 @@
 //! The program: its words, and a run from standard input to standard output.
 ghost use Rattle.std.specs.Prelude.{◌≡◌};
-ghost use Rattle.unitadm.specs.declared.run_fault.RunFault.{RunFault as RunFaultSeen};
+ghost use Rattle.unitadm.specs.Statuses.{failure_status};
 
 use crate::run_fault::RunFault;
 use crate::running::run;
@@ -22,7 +22,7 @@ pub(crate) enum Failure {
 impl Failure {
     /// The status with which the program ends.
     pub fn status(self) -> u8
-        ensures run { (fault : RunFaultSeen) → self ≡ Failure.Run fault → result ≡ 1 }
+        ensures { result ≡ failure_status self }
     {
         match self {
             Failure::Arguments(e) => e.status(),

@@ -1,0 +1,8 @@
+-- The status with which a program ends that its words stop.
+use Rattle.std.specs.Prelude.{ℕ}
+use Rattle.arguments.specs.declared.words.ArgumentError.{ArgumentError}
+use Rattle.arguments.specs.declared.words.ArgumentError.TheVariants.{BadArguments, OutOfMemory}
+
+abbrev pub status_of : ArgumentError → ℕ
+status_of BadArguments = 2
+status_of OutOfMemory = 1

@@ -1,0 +1,31 @@
+-- Laws of scripts, each the contract of a public function.
+use Rattle.std.specs.Prelude.{◌≡◌, ◌≤◌, ◌+◌, ℕ, Bool, true, not, ◌&&◌, ◌==◌, nat_le, List, [], ◌∷◌, ◌++◌, length, Result, Ok, codes}
+use Rattle.std.specs.List.{flat_map, list_all}
+use Rattle.link_tree.specs.Inventory.{◌>>=◌}
+use Rattle.unitadm.specs.declared.call.Call.{Call}
+use Rattle.unitadm.specs.declared.reason.ScriptFault.{ScriptFault}
+use Rattle.unitadm.specs.declared.script.TheConstants.{MAX_LINE, MAX_LINES}
+use Rattle.unitadm.specs.Script.{call_of_line, in_line, with_call, script_of}
+use Prim.Native.Char.{code}
+
+abbrev pub is_line_byte : ℕ → Bool
+is_line_byte b = not (b == code "\n")
+
+-- a line holds no line end, and isn't too long
+abbrev pub is_line : List ℕ → Bool
+is_line text = list_all is_line_byte text && nat_le (length text) MAX_LINE
+
+abbrev pub lines_text : List (List ℕ) → List ℕ
+lines_text lines = flat_map (λ line. line ++ codes "\n") lines
+
+-- the calls of lines from this number on, or the first bad one
+abbrev pub calls_of : ℕ → List (List ℕ) → Result (List Call) ScriptFault
+calls_of number [] = Ok []
+calls_of number (line ∷ lines) = do
+  call ← in_line number (call_of_line line)
+  calls ← calls_of (number + 1) lines
+  Ok (with_call [] call ++ calls)
+
+-- A script is its lines: it gives the calls of all of them in order, or the first that is bad.
+abbrev pub ScriptIsLines : Type 0
+ScriptIsLines = (lines : List (List ℕ)) → list_all is_line lines ≡ true → length lines ≤ MAX_LINES → script_of (codes "== calls\n" ++ lines_text lines) ≡ calls_of 1 lines
