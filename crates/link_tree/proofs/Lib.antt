@@ -5,6 +5,7 @@ pub mod Unders
 pub mod Known
 pub mod Lines
 pub mod Prefixes
+pub mod Lying
 pub mod Maps
 pub mod Keys
 pub mod Shapes

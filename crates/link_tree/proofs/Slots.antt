@@ -163,7 +163,7 @@ unfolding begins_with_slash
 slash_first rest = refl
 
 -- a slot above a path stands somewhere in it
-under_parts : (done path : List ℕ) → is_under_slot done path ≡ true → (front rest : List ℕ) × (path ≡ front ++ 47 ∷ rest) × (is_slot (done ++ front) ≡ true)
+pub under_parts : (done path : List ℕ) → is_under_slot done path ≡ true → (front rest : List ℕ) × (path ≡ front ++ 47 ∷ rest) × (is_slot (done ++ front) ≡ true)
 unfolding is_under_slot
 under_parts done [] h = absurd (false≢true h)
 under_parts done (b ∷ bs) h = elim (or_cases (is_slash b && is_slot done) (is_under_slot (done ++ b ∷ []) bs) h) [

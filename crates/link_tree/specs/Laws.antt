@@ -1,13 +1,15 @@
 -- Laws of links, trees and inventories, each the contract of a public function.
-use Rattle.std.specs.Prelude.{◌≡◌, ◌≤◌, ℕ, true, List, ◌++◌, Ok}
+use Rattle.std.specs.Prelude.{◌≡◌, ◌≤◌, ◌↔◌, ℕ, true, List, [], ◌∷◌, ◌++◌, Ok}
 use Rattle.link_tree.specs.declared.entry.Change.{Change}
 use Rattle.std.specs.List.{list_all}
 use Rattle.std.specs.FinMap as map
 use Rattle.link_tree.specs.Paths.{is_path, is_text_byte}
 use Rattle.link_tree.specs.Canonical.{canonical_text, fits}
 use Rattle.link_tree.specs.Trees.{Entries, AreFrom, after_changes, turned, inventory_text}
-use Rattle.link_tree.specs.Shape.{IsTree}
+use Rattle.link_tree.specs.Shape.{IsTree, is_beneath, is_under_slot}
+use Rattle.link_tree.specs.Slots.{is_slot}
 use Rattle.link_tree.specs.Inventory.{inventory_of}
+use Prim.Native.Char.{code}
 
 -- Where a link leads is a path, but for the root and what is too long.
 abbrev pub CanonicalIsPath : Type 0
@@ -21,3 +23,14 @@ ReadsBack = (m : Entries) (rest : List ℕ) → IsTree m → map.len m ≤ 65536
 abbrev pub TakenBack : Type 0
 TakenBack = (m : Entries) (changes : List Change) → AreFrom m changes
     → AreFrom (after_changes changes m) (turned changes) × (after_changes (turned changes) (after_changes changes m) ≡ m)
+
+-- A path lies beneath another where it goes on after it, with a slash between.
+abbrev pub BeneathGoesOn : Type 0
+BeneathGoesOn = (path above : List ℕ) → (is_beneath path above ≡ true) ↔ ((rest : List ℕ) × (path ≡ above ++ code "/" ∷ rest))
+
+-- A path is under a slot where it lies beneath one.
+abbrev pub UnderIsBeneathSlot : Type 0
+UnderIsBeneathSlot = (path : List ℕ) → (is_under_slot [] path ≡ true) ↔ ((slot : List ℕ) × (is_slot slot ≡ true) × (is_beneath path slot ≡ true))
+
+abbrev pub PathsLieBeneath : Type 0
+PathsLieBeneath = BeneathGoesOn × UnderIsBeneathSlot

@@ -1,5 +1,5 @@
 //! What holds of all links and trees: each function does nothing, and its contract is the law.
-ghost use Rattle.link_tree.specs.Laws.{CanonicalIsPath, ReadsBack, TakenBack};
+ghost use Rattle.link_tree.specs.Laws.{CanonicalIsPath, ReadsBack, TakenBack, PathsLieBeneath};
 
 /// Where a link leads is a path, but for the root and what is too long.
 pub fn links_lead_to_paths()
@@ -15,4 +15,10 @@ pub fn inventories_are_read_back()
 /// Changes from what stands in a tree can be taken back, and then it is the very tree again.
 pub fn changes_are_taken_back()
     ensures { TakenBack }
+{}
+
+/// A path lies beneath another where it goes on after it, with a slash between; and it is under a slot where it lies
+/// beneath one.
+pub fn paths_lie_beneath()
+    ensures { PathsLieBeneath }
 {}

@@ -23,7 +23,9 @@ pub use entry::{Change, Entry, Target, copy_of};
 pub use fault::{MAX_PATH, PathError, TargetError};
 pub use inventory::{InventoryError, InventoryFault, MAX_ENTRIES, MAX_LINE, read_inventory};
 pub use iter::Iter;
-pub use laws::{changes_are_taken_back, inventories_are_read_back, links_lead_to_paths};
+pub use laws::{
+    changes_are_taken_back, inventories_are_read_back, links_lead_to_paths, paths_lie_beneath,
+};
 pub use path::TreePath;
 pub use reading::{Line, ReadError, read_line};
 pub use slot::{Place, Scope, Slot};
