@@ -16,18 +16,18 @@ mod script;
 mod words;
 
 use program::run_program;
-use std::io;
 use std::process::ExitCode;
 
 #[cfg(test)]
 mod tests;
 
-fn main(rt: HostRuntime) -> io::Result<ExitCode> {
+fn main(rt: HostRuntime) -> ExitCode {
     match run_program(&rt) {
-        Ok(()) => Ok(ExitCode::SUCCESS),
+        Ok(()) => ExitCode::SUCCESS,
         Err(failure) => {
-            eprintln!(rt; "unitadm: {failure}")?;
-            Ok(ExitCode::from(failure.status()))
+            // The status tells, also where nothing can be said.
+            let _said = eprintln!(rt; "unitadm: {failure}");
+            ExitCode::from(failure.status())
         }
     }
 }
