@@ -142,3 +142,29 @@ fn an_inventory_may_fail_anywhere(rt: HostRuntime) -> Result<(), Fail> {
     }
     Ok(())
 }
+
+#[test]
+fn an_inventory_may_be_interrupted_or_held_back(rt: HostRuntime) -> Result<(), Fail> {
+    let alloc = rt.alloc();
+    let patience = u64::from(PATIENCE);
+    let tree = ample!(
+        read_inventory(alloc, &mut Faulty::new(LINKS, ALL, patience - 1)),
+        InventoryError::OutOfMemory
+    )?;
+    assert_eq!(rt; tree.len(), 2);
+    let read = ample!(
+        read_inventory(alloc, &mut Faulty::new(LINKS, ALL, patience)),
+        InventoryError::OutOfMemory
+    );
+    assert_eq!(rt; read.err(), Some(InventoryError::ReadFault(0)));
+    for (at_once, flushes, sent) in [(0, true, 0), (ALL, false, IN_ORDER.len())] {
+        let mut sink = Narrow::new(ALL, at_once, flushes);
+        let written = ample!(
+            write_inventory(alloc, &tree, &mut sink),
+            WriteError::OutOfMemory
+        );
+        assert_eq!(rt; written, Err(WriteError::Fault(sent)));
+        assert_eq!(rt; sink.taken(), IN_ORDER.get(..sent).unwrap_or(&[]));
+    }
+    Ok(())
+}
