@@ -246,6 +246,15 @@ can_be_taken_back call first tree rows (suc k) row asks room kept is here =
           });
     }
 
+-- the same, of the row that is read, where the history is seen as a whole
+pub undo_seen : (call : Call) (first tree : Entries) (rows : List Row) (seen : Entries × List Row) (n : ℕ) (row : Row) → ◌≡◌ {A = Entries × List Row} (first, rows) seen → call.request ≡ Undo n → length seen.1 < 1000000 → undo_refusal seen.1 n ≡ None → IsKept first tree rows → row ≡ get_or rows (n - 1) row
+    → (0 < n) × (n ≤ length rows) × CanBeTakenBack call first tree rows n row
+undo_seen call first tree rows seen n row is asks room free kept read =
+    let few : length rows < 1000000 = subst (λ (v : Entries × List Row). length v.1 < 1000000) (sym is) room in
+    let may : undo_refusal rows n ≡ None = subst (λ (v : Entries × List Row). undo_refusal v.1 n ≡ None) (sym is) free in
+    let within = row_at_within rows n may in
+    (within.0, within.1, can_be_taken_back call first tree rows n row asks few kept may (row_at_read rows n row within.0 within.1 read))
+
 length-undone : (rows : List Row) (n by : ℕ) → length (undone rows n by) ≡ length rows
 length-undone rows zero by = refl
 length-undone rows (suc k) by = length-mark rows k by
