@@ -289,3 +289,14 @@ fn templates_have_the_identity_of_an_instance(rt: HostRuntime) -> Result<(), Fai
     }
     Ok(())
 }
+
+#[test]
+fn words_are_copied(rt: HostRuntime) -> Result<(), Fail> {
+    for bytes in [b"".as_slice(), b"a", b"%i.service", b"\xff \n"] {
+        let word = ample!(Word::from_slice(rt.alloc(), bytes), AllocError)?;
+        assert_eq!(rt; word.bytes(), bytes);
+        let copy = ample!(word.copy(), AllocError)?;
+        assert_eq!(rt; copy.bytes(), bytes);
+    }
+    Ok(())
+}

@@ -22,7 +22,8 @@ impl Model for Word {
 }
 
 impl Word {
-    pub(crate) fn from_slice(alloc: Global, bytes: &[u8]) -> Result<Word, AllocError>
+    /// Copies some bytes.
+    pub fn from_slice(alloc: Global, bytes: &[u8]) -> Result<Word, AllocError>
         ensures { IfOk result (λ word. word ≡ bytes.now) }
     {
         Ok(Word {
@@ -34,6 +35,13 @@ impl Word {
         ensures { result.now ≡ self.now }
     {
         &self.bytes
+    }
+
+    /// An equal word.
+    pub fn copy(&self) -> Result<Word, AllocError>
+        ensures { IfOk result (λ word. word ≡ self.now) }
+    {
+        self.clone()
     }
 }
 
