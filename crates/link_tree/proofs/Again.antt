@@ -1,7 +1,12 @@
 -- What is written of a tree is read again.
-use Rattle.std.proofs.Common.{◌≡◌, ℕ, ◌+◌, ◌-◌, ◌≤◌, Bool, true, false, cond, ◌&&◌, ◌||◌, not, List, [], ◌∷◌, ◌++◌, length, take, drop, Option, Some, None, Ok, refl, sym, ◌∙◌, ap, arith, rules, suc, subst, append_assoc, T, inl, inr, length-append, append-nil}
+use Rattle.std.proofs.Common.{◌≡◌, ℕ, ◌+◌, ◌-◌, ◌<◌, ◌≤◌, Bool, true, false, cond, ◌&&◌, ◌||◌, not, List, [], ◌∷◌, ◌++◌, length, drop, Some, None, Ok, refl, sym, ◌∙◌, ap, arith, rules, zero, suc, subst, append_assoc, T, inl, inr, length-append, append-nil}
 use Rattle.std.specs.List.{list_all, list_any, flat_map, position}
 use Rattle.std.specs.Prelude.{codes, is_some, nat_le, nat_lt, ◌==◌}
+use Rattle.std.specs.Char.{is_ascii_digit}
+use Rattle.std.specs.Fmt.{decimal}
+use Rattle.std.proofs.lemmas.Fmt.{length-decimal-le}
+use Rattle.std.proofs.Math.Seq.{take-append_seam, drop-append_seam}
+use Rattle.std.proofs.lemmas.Bool.Decides.{nat_tests}
 use Rattle.std.specs.Option.{option_map}
 use Rattle.std.specs.FinMap as map
 use Rattle.std.specs.FinMap.{find, is_sorted, from_entries, from_entries_push, get-from_entries, get-entries, entries_sorted, len-entries, same_map, contains_key-keys}
@@ -12,20 +17,25 @@ use Rattle.std.specs.declared.cmp.Ordering.TheVariants.{Less, Equal, Greater}
 use Rattle.std.specs.Cmp.Lexicographic.{nat_list_cmp_total}
 use Rattle.std.specs.Cmp.{eq_by_cmp_equiv}
 use Rattle.std.proofs.lemmas.Map.Lookups.{exact_bytes}
-use Rattle.std.proofs.lemmas.Bool.{cases_Bool, and_parts, and_from, eqb-false, not-true, false≢true, leb-true}
+use Rattle.std.proofs.lemmas.Bool.{cases_Bool, and_parts, and_from, eqb-false, eq-eqb, not-true, false≢true, leb-true}
 use Rattle.std.proofs.lemmas.Grind.{common_steps}
 use Rattle.std.proofs.lemmas.List.Folds.{list_all-append}
 use Rattle.link_tree.specs.Paths.{is_path, is_target, is_text_byte}
 use Rattle.link_tree.specs.Lines.{Whole, front_line, after_byte}
 use Rattle.link_tree.specs.Trees.{Entries, path_cmp, entry_line}
-use Rattle.link_tree.specs.Inventory.{inventory_of, after_prefix, entries_at, entry_of_front, entry_of_line, entry_of_fields, placed, two_fields, cut_at_tab, is_tab}
+use Rattle.link_tree.specs.Files.{is_contents}
+use Rattle.link_tree.specs.Values.{is_entry}
+use Rattle.link_tree.specs.EntryLines.{fields_of, two_fields, cut_at_tab, is_tab, file_line, by_letter, line_of}
+use Rattle.link_tree.specs.Inventory.{inventory_of, after_prefix, entries_at, entry_at, contents_at, placed}
+use Rattle.link_tree.specs.declared.entry_line.EntryLine.TheVariants as lines
 use Rattle.link_tree.specs.Shape.{IsTree, fits_at, is_crowded, is_close, is_bad_shape}
 use Rattle.link_tree.specs.declared.entry.Entry.{Entry}
-use Rattle.link_tree.specs.declared.entry.Entry.TheVariants.{Link}
+use Rattle.link_tree.specs.declared.entry.Entry.TheVariants.{File, Link}
 use Rattle.link_tree.specs.Laws.{ReadsBack}
 use Rattle.link_tree.proofs.Keys.{same-found, any-keys}
 use Rattle.link_tree.proofs.Lines.{front_line-byte}
-use Rattle.link_tree.proofs.Entries.{entries_at-end, entries_at-more}
+use Rattle.link_tree.proofs.Entries.{next_of, entries_at-end, entries_at-more}
+use Rattle.link_tree.proofs.Lengths.{digit_bounds, decimal_digits, length_of_decimal}
 
 abbrev pub is_line_byte : ℕ → Bool
 is_line_byte b = not (b == 10)
@@ -63,18 +73,17 @@ tab-at : (p t : List ℕ) → list_all is_text_byte p ≡ true → position is_t
 tab-at [] t all = grind (arith, common_steps)
 tab-at (b ∷ bs) t all = let parts = and_parts (is_text_byte b) (list_all is_text_byte bs) all in position-no b (bs ++ 9 ∷ t) (text_byte b parts.0).0 ∙ ap (option_map (λ n. suc n)) (tab-at bs t parts.1)
 
-take-front : (p t : List ℕ) → take (length p) (p ++ t) ≡ p
-take-front [] t = refl
-take-front (b ∷ bs) t = ap (λ (l : List ℕ). b ∷ l) (take-front bs t)
-
 drop-after : (p t : List ℕ) → drop (suc (length p)) (p ++ 9 ∷ t) ≡ t
 drop-after [] t = refl
 drop-after (b ∷ bs) t = drop-after bs t
 
+same-letter : (b : ℕ) → (b == b) ≡ true
+same-letter b = eq-eqb b b refl
+
 cut : (p t : List ℕ) → list_all is_text_byte p ≡ true → cut_at_tab (p ++ 9 ∷ t) ≡ Some (p, t)
 cut p t all =
     let more : length p + 1 ≡ suc (length p) = omega arith in
-    rw (tab-at p t all, take-front p (9 ∷ t), more, drop-after p t) refl
+    rw (tab-at p t all, take-append_seam p (9 ∷ t), more, drop-after p t) refl
 
 target-text : (t : List ℕ) → is_target t ≡ true → (list_all is_text_byte t ≡ true) × (length t ≤ 4095)
 unfolding is_target
@@ -89,36 +98,82 @@ path-text p is =
     let x = and_parts (nat_le (length p) 4095) _ is in
     ((and_parts (list_all is_text_byte p) _ x.1).0, leb-true (length p) 4095 x.0)
 
--- the line of a link
-abbrev pub link_line : List ℕ → List ℕ → List ℕ
-link_line p t = 76 ∷ 9 ∷ p ++ 9 ∷ t
+-- a digit is a byte of texts
+digit_text : (b : ℕ) → is_ascii_digit b ≡ true → is_text_byte b ≡ true
+unfolding is_text_byte
+digit_text b digit = let bounds = digit_bounds b digit in grind (arith, nat_tests, bounds.0, bounds.1)
 
-line-read : (p t : List ℕ) → is_path p ≡ true → is_target t ≡ true → entry_of_line (link_line p t) ≡ Ok (Some (p, t))
-unfolding entry_of_line
-line-read p t path target = ap (λ (o : Option (List ℕ × List ℕ)). entry_of_fields (two_fields o)) (cut p t (path-text p path).0) ∙ rw (text_tabs t (target-text t target).0, path, target) refl
+digits_text : (ds : List ℕ) → list_all is_ascii_digit ds ≡ true → list_all is_text_byte ds ≡ true
+digits_text [] all = refl
+digits_text (b ∷ bs) all = let parts = and_parts (is_ascii_digit b) (list_all is_ascii_digit bs) all in and_from _ _ (digit_text b parts.0) (digits_text bs parts.1)
 
-line-bytes : (p t : List ℕ) → is_path p ≡ true → is_target t ≡ true → (list_all is_line_byte (link_line p t) ≡ true) × (length (link_line p t) ≤ 16384)
-line-bytes p t path target =
-    let x = path-text p path in
-    let y = target-text t target in (
-      list_all-append is_line_byte (76 ∷ 9 ∷ p) (9 ∷ t) ∙ and_from _ _ (text_line p x.0) (text_line t y.0),
-      omega (arith, length-append p (9 ∷ t), x.1, y.1),
-    )
+-- a letter and two fields
+abbrev pub fields_line : ℕ → List ℕ → List ℕ → List ℕ
+fields_line letter first second = letter ∷ 9 ∷ first ++ 9 ∷ second
 
-line-again : (p t more : List ℕ) → entry_line (p, Link t) ++ more ≡ link_line p t ++ 10 ∷ more
-line-again p t more = search (rules, append_assoc)
+-- what is read of a field
+record IsField (text : List ℕ) : Type 0 where
+  bytes : list_all is_text_byte text ≡ true
+  short : length text ≤ 4095
 
-entry-read : (p t more : List ℕ) → is_path p ≡ true → is_target t ≡ true → entry_of_front (front_line 16384 (entry_line (p, Link t) ++ more)) ≡ Ok (Some (p, t), more)
-entry-read p t more path target =
-    let bytes = line-bytes p t path target in
-    ap (λ (l : List ℕ). entry_of_front (front_line 16384 l)) (line-again p t more) ∙ ap entry_of_front (whole 16384 (link_line p t) more bytes.0 bytes.1) ∙ rw (line-read p t path target) refl
+fields-read : (letter : ℕ) (first second : List ℕ) → IsField first → IsField second → fields_of letter (fields_line letter first second) ≡ Some (first, second)
+fields-read letter first second one two =
+    rw (same-letter letter) (ap two_fields (cut first second one.bytes) ∙ rw (text_tabs second two.bytes) refl)
 
-end-line : entry_of_line (codes "end") ≡ Ok None
-unfolding entry_of_line
+fields-front : (letter : ℕ) (first second rest : List ℕ) → is_line_byte letter ≡ true → IsField first → IsField second → front_line 16384 (fields_line letter first second ++ 10 ∷ rest) ≡ Whole (fields_line letter first second) rest
+fields-front letter first second rest printed one two =
+    let bytes : list_all is_line_byte (fields_line letter first second) ≡ true = list_all-append is_line_byte (letter ∷ 9 ∷ first) (9 ∷ second) ∙ and_from _ _ (and_from _ _ printed (text_line first one.bytes)) (text_line second two.bytes) in
+    whole 16384 (fields_line letter first second) rest bytes (omega (arith, length-append first (9 ∷ second), one.short, two.short))
+
+path-field : (p : List ℕ) → is_path p ≡ true → IsField p
+path-field p is = let x = path-text p is in record { bytes = x.0; short = x.1 }
+
+target-field : (t : List ℕ) → is_target t ≡ true → IsField t
+target-field t is = let x = target-text t is in record { bytes = x.0; short = x.1 }
+
+size-field : (n : ℕ) → n ≤ 1048576 → IsField (decimal n)
+size-field n few = record {
+  bytes = digits_text (decimal n) (decimal_digits n (omega (arith, few)));
+  short = omega (arith, length-decimal-le 7 n (omega arith) (omega (arith, few)) (omega (arith, few)));
+}
+
+link-line : (p t : List ℕ) → is_path p ≡ true → is_target t ≡ true → line_of (fields_line 76 p t) ≡ Ok (lines.Link p t)
+unfolding line_of
+link-line p t path target = ap (by_letter None) (fields-read 76 p t (path-field p path) (target-field t target)) ∙ rw (path, target) refl
+
+file-line : (n : ℕ) (p : List ℕ) → is_path p ≡ true → n ≤ 1048576 → line_of (fields_line 70 (decimal n) p) ≡ Ok (lines.File p n)
+unfolding line_of
+file-line n p path few =
+    let large : nat_lt 1048576 n ≡ false = grind (arith, nat_tests) in
+    ap (λ fields. by_letter fields None) (fields-read 70 (decimal n) p (size-field n few) (path-field p path))
+    ∙ ap (λ size. file_line size p) (length_of_decimal n (omega (arith, few))) ∙ rw (path, large) refl
+
+-- a file's bytes and the line end
+contents-read : (bytes more : List ℕ) → contents_at (length bytes) (bytes ++ 10 ∷ more) ≡ Ok (bytes, more)
+unfolding contents_at
+contents-read bytes more =
+    let long : nat_lt (length (bytes ++ 10 ∷ more)) (length bytes) ≡ false = grind (arith, nat_tests, length-append bytes (10 ∷ more)) in
+    rw (long, take-append_seam bytes (10 ∷ more), drop-append_seam bytes (10 ∷ more)) refl
+
+entry-again : (p : List ℕ) (e : Entry) (more : List ℕ) → is_path p ≡ true → is_entry e ≡ true → entry_at true (front_line 16384 (entry_line (p, e) ++ more)) ≡ Ok (Some (p, e), more)
+unfolding is_contents
+entry-again p (Link t) more path target =
+    let line : entry_line (p, Link t) ++ more ≡ fields_line 76 p t ++ 10 ∷ more = search (rules, append_assoc) in
+    ap (λ l. entry_at true (front_line 16384 l)) line ∙ ap (entry_at true) (fields-front 76 p t more refl (path-field p path) (target-field t target)) ∙ rw (link-line p t path target) refl
+entry-again p (File c) more path sized =
+    let few : length c ≤ 1048576 = leb-true (length c) 1048576 sized in
+    let line : entry_line (p, File c) ++ more ≡ fields_line 70 (decimal (length c)) p ++ 10 ∷ (c ++ 10 ∷ more) = search (rules, append_assoc) in
+    ap (λ l. entry_at true (front_line 16384 l)) line
+    ∙ ap (entry_at true) (fields-front 70 (decimal (length c)) p (c ++ 10 ∷ more) refl (size-field (length c) few) (path-field p path))
+    ∙ rw (file-line (length c) p path few) (rw (contents-read c more) refl)
+
+end-line : line_of (codes "end") ≡ Ok lines.End
+unfolding line_of
 end-line = refl
 
-end-read : (rest : List ℕ) → entry_of_front (front_line 16384 (codes "end\n" ++ rest)) ≡ Ok (None, rest)
-end-read rest = ap entry_of_front (whole 16384 (codes "end") rest refl (omega arith)) ∙ rw end-line refl
+end-read : (more : ℕ) (rest : List ℕ) → next_of more (codes "end\n" ++ rest) ≡ Ok (None, rest)
+end-read zero rest = ap (entry_at false) (whole 16384 (codes "end") rest refl (omega arith)) ∙ rw end-line refl
+end-read (suc more) rest = ap (entry_at true) (whole 16384 (codes "end") rest refl (omega arith)) ∙ rw end-line refl
 
 second : (a b : Bool) → T (a && b) → T b
 second true b h = h
@@ -177,34 +232,40 @@ not-crowded done e es none tree = any-keys (is_close e.0) (map.keys (from_entrie
     let stands = ap is_some (get-from_entries nat_list_cmp_total (done ++ e ∷ es) q) ∙ find-front q done (e ∷ es) was in
     tree.apart e.0 q (ap is_some (found-at done e es none)) stands)
 
-link-fits : (p t : List ℕ) → fits_at p (Link t) ≡ true → (is_path p ≡ true) × (is_target t ≡ true) × (is_bad_shape p ≡ false)
+entry-fits : (p : List ℕ) (e : Entry) → fits_at p e ≡ true → (is_path p ≡ true) × (is_entry e ≡ true) × (is_bad_shape p ≡ false)
 unfolding fits_at
-link-fits p t h =
-    let x = and_parts (is_path p && is_target t) (not (is_bad_shape p)) h in
-    let y = and_parts (is_path p) (is_target t) x.0 in
+entry-fits p e h =
+    let x = and_parts (is_path p && is_entry e) (not (is_bad_shape p)) h in
+    let y = and_parts (is_path p) (is_entry e) x.0 in
     (y.0, y.1, not-true (is_bad_shape p) x.1)
 
-placed-next : (m : Entries) (p t : List ℕ) → map.get m p ≡ None → is_crowded m p ≡ false → is_bad_shape p ≡ false → placed m (p, t) ≡ Ok (map.insert m p (Link t))
+placed-next : (m : Entries) (p : List ℕ) (e : Entry) → map.get m p ≡ None → is_crowded m p ≡ false → is_bad_shape p ≡ false → placed m (p, e) ≡ Ok (map.insert m p e)
 unfolding placed
-placed-next m p t none apart shape = rw (none, apart, shape) refl
+placed-next m p e none apart shape = rw (none, apart, shape) refl
+
+next-read : (more : ℕ) (p : List ℕ) (e : Entry) (rest : List ℕ) → 0 < more → is_path p ≡ true → is_entry e ≡ true → next_of more (entry_line (p, e) ++ rest) ≡ Ok (Some (p, e), rest)
+next-read zero p e rest some path entry = absurd (omega arith)
+next-read (suc more) p e rest some path entry = entry-again p e rest path entry
 
 -- the entries to come, read after those done
 again : (more number : ℕ) (done todo : List (List ℕ × Entry)) (rest : List ℕ) → Before done todo → T (is_sorted path_cmp todo) → IsTree (from_entries (done ++ todo)) → length todo ≤ more
     → entries_at more number (from_entries done) (flat_map entry_line todo ++ (codes "end\n" ++ rest)) ≡ Ok (from_entries (done ++ todo), rest)
 again more number done [] rest before sorted tree few =
-    entries_at-end more number (from_entries done) (codes "end\n" ++ rest) rest (end-read rest) ∙ ap (λ (es : List (List ℕ × Entry)). Ok (from_entries es, rest)) (sym (append-nil done))
-again more number done ((p, Link t) ∷ es) rest before sorted tree few =
-    let none = none-done done (p, Link t) es before in
-    let fits = link-fits p t (tree.fits p (Link t) (found-at done (p, Link t) es none)) in
+    entries_at-end more number (from_entries done) (codes "end\n" ++ rest) rest (end-read more rest) ∙ ap (λ (es : List (List ℕ × Entry)). Ok (from_entries es, rest)) (sym (append-nil done))
+again more number done ((p, e) ∷ es) rest before sorted tree few =
+    let none = none-done done (p, e) es before in
+    let fits = entry-fits p e (tree.fits p e (found-at done (p, e) es none)) in
     let tail : List ℕ = flat_map entry_line es ++ (codes "end\n" ++ rest) in
-    let grown = from_entries_push nat_list_cmp_total exact_bytes done p (Link t) none in
-    let place : placed (from_entries done) (p, t) ≡ Ok (from_entries (done ++ (p, Link t) ∷ [])) =
-    placed-next (from_entries done) p t (get-from_entries nat_list_cmp_total done p ∙ none) (not-crowded done (p, Link t) es none tree) fits.2 ∙ ap (λ (m : Entries). Ok m) (sym grown) in
-    let whole_list : (done ++ (p, Link t) ∷ []) ++ es ≡ done ++ (p, Link t) ∷ es = append_assoc done ((p, Link t) ∷ []) es in
-    let next = again (more - 1) (number + 1) (done ++ (p, Link t) ∷ []) es rest (before-more done (p, Link t) es before (first _ _ sorted)) (second _ _ sorted)
-    (subst (λ (l : List (List ℕ × Entry)). IsTree (from_entries l)) (sym whole_list) tree) (omega arith) in
-    ap (entries_at more number (from_entries done)) (append_assoc (entry_line (p, Link t)) (flat_map entry_line es) (codes "end\n" ++ rest))
-    ∙ entries_at-more more number (from_entries done) (from_entries (done ++ (p, Link t) ∷ [])) (entry_line (p, Link t) ++ tail) tail (p, t) (omega arith) (entry-read p t tail fits.0 fits.1) place
+    let grown = from_entries_push nat_list_cmp_total exact_bytes done p e none in
+    let place : placed (from_entries done) (p, e) ≡ Ok (from_entries (done ++ (p, e) ∷ [])) =
+    placed-next (from_entries done) p e (get-from_entries nat_list_cmp_total done p ∙ none) (not-crowded done (p, e) es none tree) fits.2 ∙ ap (λ (m : Entries). Ok m) (sym grown) in
+    let whole_list : (done ++ (p, e) ∷ []) ++ es ≡ done ++ (p, e) ∷ es = append_assoc done ((p, e) ∷ []) es in
+    let room : 0 < more = omega (arith, few) in
+    let fewer : length es ≤ more - 1 = omega (arith, few) in
+    let next = again (more - 1) (number + 1) (done ++ (p, e) ∷ []) es rest (before-more done (p, e) es before (first _ _ sorted)) (second _ _ sorted)
+    (subst (λ (l : List (List ℕ × Entry)). IsTree (from_entries l)) (sym whole_list) tree) fewer in
+    ap (entries_at more number (from_entries done)) (append_assoc (entry_line (p, e)) (flat_map entry_line es) (codes "end\n" ++ rest))
+    ∙ entries_at-more more number (from_entries done) (from_entries (done ++ (p, e) ∷ [])) (entry_line (p, e) ++ tail) tail (p, e) room (next-read more p e tail room fits.0 fits.1) place
     ∙ next ∙ ap (λ (l : List (List ℕ × Entry)). Ok (from_entries l, rest)) whole_list
 
 -- a tree is made of its entries

@@ -51,7 +51,7 @@ get-set m p o q = get-set_entry m p o q ∙ ap (λ b. cond b o (map.get m q)) (a
 get-set_same : (m : Entries) (p : List ℕ) (o : Option Entry) → map.get (set_entry m p o) p ≡ o
 get-set_same m p o = get-set m p o p ∙ ap (λ b. cond b o (map.get m p)) ((bytes_eq-Decides p p).1 refl)
 
-get-set_other : (m : Entries) (p : List ℕ) (o : Option Entry) (q : List ℕ) → bytes_eq q p ≡ false → map.get (set_entry m p o) q ≡ map.get m q
+pub get-set_other : (m : Entries) (p : List ℕ) (o : Option Entry) (q : List ℕ) → bytes_eq q p ≡ false → map.get (set_entry m p o) q ≡ map.get m q
 get-set_other m p o q away = get-set m p o q ∙ ap (λ b. cond b o (map.get m q)) away
 
 -- trees in which the same stands at each path are one

@@ -7,12 +7,9 @@ use Rattle.std.specs.Str.{bytes_eq}
 use Rattle.std.proofs.lemmas.Bool.{cases_Bool, and_parts, leb-true}
 use Rattle.std.proofs.lemmas.Bool.Decides.{Decides-eqb}
 use Rattle.std.proofs.lemmas.Slice.Eq.{bytes_eq-Decides, starts_is}
-use Rattle.link_tree.specs.declared.entry.Entry.{Entry}
-use Rattle.link_tree.specs.declared.entry.Entry.TheVariants.{Link}
 use Rattle.link_tree.specs.declared.fault.TheConstants.{MAX_PATH}
 use Rattle.link_tree.specs.Paths.{is_path, is_absolute, is_text_byte, is_part, is_target}
 use Rattle.link_tree.specs.Canonical.{merged}
-use Rattle.link_tree.specs.Values.{is_entry, bytes_of}
 
 abbrev null : List ℕ
 null = codes "/dev/null"
@@ -52,6 +49,6 @@ merged_null text =
       | inr other ↦ rw other (self_null text)
     ]
 
-pub short_entry : (entry : Entry) → is_entry entry ≡ true → length (bytes_of entry) ≤ MAX_PATH
+pub short_target : (target : List ℕ) → is_target target ≡ true → length target ≤ MAX_PATH
 unfolding is_target
-short_entry (Link target) is = leb-true (length target) MAX_PATH (and_parts (nat_le (length target) MAX_PATH) _ (and_parts _ _ is).1).0
+short_target target is = leb-true (length target) MAX_PATH (and_parts (nat_le (length target) MAX_PATH) _ (and_parts _ _ is).1).0

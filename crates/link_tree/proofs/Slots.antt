@@ -75,7 +75,7 @@ same_bytes : (xs ys : List ℕ) → bytes_eq xs ys ≡ true → xs ≡ ys
 same_bytes xs ys h = (bytes_eq-Decides xs ys).0 h
 
 -- what holds of each directory of units holds of any
-place_all : (P : List ℕ → Type 0) (dir : List ℕ) → is_some (place_of dir) ≡ true → ((place : Place) → P (unit_directory place)) → P dir
+pub place_all : (P : List ℕ → Type 0) (dir : List ℕ) → is_some (place_of dir) ≡ true → ((place : Place) → P (unit_directory place)) → P dir
 unfolding place_of
 place_all P dir some all = elim (pick (bytes_eq dir (unit_directory Etc)) _ _ some) [
   | inl e ↦ subst P (sym (same_bytes dir _ e)) (all Etc)
@@ -92,7 +92,7 @@ place_all P dir some all = elim (pick (bytes_eq dir (unit_directory Etc)) _ _ so
 ]
 
 -- and of presets
-preset_all : (P : List ℕ → Type 0) (dir : List ℕ) → is_some (preset_place_of dir) ≡ true → P (preset_directory Etc) → P (preset_directory Run) → P (preset_directory Vendor) → P dir
+pub preset_all : (P : List ℕ → Type 0) (dir : List ℕ) → is_some (preset_place_of dir) ≡ true → P (preset_directory Etc) → P (preset_directory Run) → P (preset_directory Vendor) → P dir
 unfolding preset_place_of
 preset_all P dir some etc run vendor = elim (pick (bytes_eq dir (preset_directory Etc)) _ _ some) [
   | inl e ↦ subst P (sym (same_bytes dir _ e)) etc

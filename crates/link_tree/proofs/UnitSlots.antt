@@ -1,5 +1,5 @@
 -- The slot of a unit in a directory is a path and a slot.
-use Rattle.std.proofs.Common.{◌≡◌, ℕ, ◌+◌, ◌<◌, ◌≤◌, Bool, true, false, ◌&&◌, not, List, [], ◌∷◌, ◌++◌, length, get_or, drop, Option, Some, None, refl, sym, ◌∙◌, ap, arith, subst, inl, inr, suc}
+use Rattle.std.proofs.Common.{◌≡◌, ℕ, ◌+◌, ◌<◌, ◌≤◌, Bool, true, false, cond, ◌&&◌, not, List, [], ◌∷◌, ◌++◌, length, get_or, drop, Option, Some, None, refl, sym, ◌∙◌, ap, arith, subst, inl, inr, suc}
 use Rattle.std.specs.Prelude.{is_none, ◌==◌, nat_le, nat_lt}
 use Rattle.std.specs.List.{list_all, list_any}
 use Rattle.std.proofs.lemmas.Bool.{cases_Bool, and_parts, and_from, eqb-true, not-true, false≢true, lt-ltb, le-leb}
@@ -32,7 +32,7 @@ part_bytes : (name : List ℕ) → list_all is_name_byte name ≡ true → list_
 part_bytes [] h = refl
 part_bytes (b ∷ bs) h = let x = and_parts (is_name_byte b) (list_all is_name_byte bs) h in and_from _ _ (part_byte b x.0) (part_bytes bs x.1)
 
-no_slash : (name : List ℕ) → list_all is_part_byte name ≡ true → list_any is_slash name ≡ false
+pub no_slash : (name : List ℕ) → list_all is_part_byte name ≡ true → list_any is_slash name ≡ false
 no_slash [] h = refl
 no_slash (b ∷ bs) h =
     let x = and_parts (is_part_byte b) (list_all is_part_byte bs) h in
@@ -68,7 +68,7 @@ none_of : {F : Type 0} (o : Option F) → is_none o ≡ true → o ≡ None
 none_of None h = refl
 none_of (Some fault) h = absurd (false≢true h)
 
-name_facts : (name : List ℕ) → is_unit_name name ≡ true → NameFacts name
+pub name_facts : (name : List ℕ) → is_unit_name name ≡ true → NameFacts name
 unfolding name_fault
 name_facts name h =
     let first = cond_none (nat_lt 255 (length name)) _ _ (none_of (name_fault name) h) in
@@ -82,14 +82,14 @@ name_facts name h =
     not_false true h = refl
     not_false false h = absurd (false≢true (sym h))
 
-directory_front : (place : Place) → is_front (unit_directory place) ≡ true
+pub directory_front : (place : Place) → is_front (unit_directory place) ≡ true
 unfolding unit_directory is_text_byte is_part
 directory_front Etc = refl
 directory_front Run = refl
 directory_front Local = refl
 directory_front Vendor = refl
 
-directory_short : (place : Place) → length (unit_directory place) ≤ 30
+pub directory_short : (place : Place) → length (unit_directory place) ≤ 30
 unfolding unit_directory
 directory_short Etc = omega arith
 directory_short Run = omega arith
@@ -103,17 +103,21 @@ directory_slots Run = refl
 directory_slots Local = refl
 directory_slots Vendor = refl
 
-slot_parent : (place : Place) (name : List ℕ) → list_any is_slash name ≡ false → parent (unit_slot place name) ≡ unit_directory place
-slot_parent place name none =
-    let dir = unit_directory place in
-    sym (parent-at (dir ++ 47 ∷ name) (length dir) (omega (arith, length-append dir (47 ∷ name))) (at_seam dir name) (ap (λ (n : ℕ). list_any is_slash (drop n (dir ++ 47 ∷ name))) (suc_is (length dir)) ∙ ap (list_any is_slash) (drop-append-add dir (47 ∷ name) 1) ∙ none)) ∙ take-append_seam dir (47 ∷ name)
+-- what stands before the last slash, and after it
+pub front_parent : (front name : List ℕ) → list_any is_slash name ≡ false → parent (front ++ 47 ∷ name) ≡ front
+front_parent front name none =
+    sym (parent-at (front ++ 47 ∷ name) (length front) (omega (arith, length-append front (47 ∷ name))) (at_seam front name) (ap (λ (n : ℕ). list_any is_slash (drop n (front ++ 47 ∷ name))) (suc_is (length front)) ∙ ap (list_any is_slash) (drop-append-add front (47 ∷ name) 1) ∙ none)) ∙ take-append_seam front (47 ∷ name)
   where
     suc_is : (n : ℕ) → suc n ≡ n + 1
     suc_is n = omega arith
 
-    at_seam : (dir name : List ℕ) → get_or (dir ++ 47 ∷ name) (length dir) 0 ≡ 47
+    at_seam : (front name : List ℕ) → get_or (front ++ 47 ∷ name) (length front) 0 ≡ 47
     at_seam [] name = refl
-    at_seam (b ∷ dir) name = at_seam dir name
+    at_seam (b ∷ front) name = at_seam front name
+
+pub front_name : (front name : List ℕ) → list_any is_slash name ≡ false → name_at (front ++ 47 ∷ name) ≡ name
+unfolding name_at
+front_name front name none = ap (λ (d : List ℕ). drop (length d + 1) (front ++ 47 ∷ name)) (front_parent front name none) ∙ drop-append-add front (47 ∷ name) 1
 
 pub unit_slot_path : (place : Place) (name : List ℕ) → is_unit_name name ≡ true → is_path (unit_slot place name) ≡ true
 unit_slot_path place name is =
@@ -126,13 +130,19 @@ unit_slot_path place name is =
     fits_short text some short = and_from (nat_lt 0 (length text)) (nat_le (length text) 4095) (lt-ltb 0 (length text) some) (le-leb (length text) 4095 short)
 
 pub unit_slot_is : (place : Place) (name : List ℕ) → is_unit_name name ≡ true → slot_of (unit_slot place name) ≡ Some (slots.Unit place)
-unfolding slot_of name_at
+unfolding slot_of
 unit_slot_is place name is =
-    let facts = name_facts name is in
-    let up = slot_parent place name (no_slash name facts.bytes) in
+    let none = no_slash name (name_facts name is).bytes in
     let dir = unit_directory place in
-    let last : drop (length (parent (unit_slot place name)) + 1) (unit_slot place name) ≡ name = ap (λ (d : List ℕ). drop (length d + 1) (unit_slot place name)) up ∙ drop-append-add dir (47 ∷ name) 1 in
-    ap (λ (d : List ℕ). named_slot (slots_in d) (drop (length (parent (unit_slot place name)) + 1) (unit_slot place name))) up
-    ∙ ap (λ o. named_slot o (drop (length (parent (unit_slot place name)) + 1) (unit_slot place name))) (directory_slots place)
-    ∙ ap (named_slot (Some (slots.Unit place))) last
+    ap (λ (d : List ℕ). named_slot (slots_in d) (name_at (unit_slot place name))) (front_parent dir name none)
+    ∙ ap (λ o. named_slot o (name_at (unit_slot place name))) (directory_slots place)
+    ∙ ap (named_slot (Some (slots.Unit place))) (front_name dir name none)
     ∙ rw is refl
+
+-- a text that is a path is found as one
+pub found_path : (text path : List ℕ) (o : Option (List ℕ)) → text ≡ path → o ≡ cond (is_path text) (Some text) None → is_path path ≡ true → o ≡ Some path
+found_path text path o same is good = is ∙ ap (λ (t : List ℕ). cond (is_path t) (Some t) None) same ∙ ap (λ b. cond b (Some path) None) good
+
+abbrev pub text_of : Option (List ℕ) → List ℕ
+text_of None = []
+text_of (Some text) = text

@@ -4,6 +4,8 @@ use Rattle.std.specs.List.{list_any, slice_split, starts_with, position}
 use Rattle.std.specs.Option.{option_map, option_map_or}
 use Rattle.std.specs.Str.{bytes_eq}
 use Rattle.link_tree.specs.declared.fault.TheConstants.{MAX_PATH}
+use Rattle.link_tree.specs.declared.entry.Entry.{Entry}
+use Rattle.link_tree.specs.declared.entry.Entry.TheVariants.{File, Link}
 use Rattle.link_tree.specs.Paths.{is_part, is_slash, is_path, is_root}
 use Prim.Native.Char.{code}
 
@@ -58,3 +60,8 @@ fits text = nat_lt 0 (length text) && nat_le (length text) MAX_PATH
 -- whether a link at a path leads to /dev/null
 unfoldable pub is_null_target : List ℕ → List ℕ → Bool
 is_null_target link target = option_map_or (λ path. bytes_eq path (codes "/dev/null")) (canonical link target) false
+
+-- whether an entry at a path is a link to /dev/null
+abbrev pub is_null_link : List ℕ → Entry → Bool
+is_null_link path (File contents) = false
+is_null_link path (Link target) = is_null_target path target

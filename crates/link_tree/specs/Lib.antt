@@ -1,11 +1,14 @@
 pub mod Paths
 pub mod Canonical
+pub mod Files
 pub mod Values
 pub mod Slots
 pub mod Trees
+pub mod Differences
 pub mod Shape
 pub mod Streams
 pub mod Lines
+pub mod EntryLines
 pub mod Inventory
 pub mod Reads
 pub mod TreeReads

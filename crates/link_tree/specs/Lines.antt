@@ -1,5 +1,5 @@
 -- Lines of bytes that are read one after another.
-use Rattle.std.specs.Prelude.{◌≡◌, ℕ, ◌-◌, ◌==◌, if◌then◌else◌, List, [], ◌∷◌, ◌++◌, Option, Some, Result, Ok, Err}
+use Rattle.std.specs.Prelude.{◌≡◌, ℕ, ◌-◌, ◌<◌, ◌≤◌, ◌==◌, if◌then◌else◌, List, [], ◌∷◌, ◌++◌, length, take, drop, Option, None, Some, Result, Ok, Err}
 use Rattle.link_tree.specs.declared.reading.Line.{Line}
 use Rattle.link_tree.specs.declared.reading.Line.TheVariants as lines
 use Prim.Native.Char.{code}
@@ -36,6 +36,11 @@ IsFront (lines.Whole text) left (Whole line rest) = (text.items ≡ line) × (le
 IsFront (lines.Last text) left (Last line) = (text.items ≡ line) × (left ≡ Some [])
 IsFront lines.Long left Long = Unit {0}
 IsFront _ left _ = ⊥
+
+-- Just so many bytes were read, or the input ended before.
+abbrev pub IsBytes : ℕ → List ℕ → Option (List ℕ) → Option (List ℕ) → Type 0
+IsBytes size bytes left (Some read) = (size ≤ length bytes) × (read ≡ take size bytes) × (left ≡ Some (drop size bytes))
+IsBytes size bytes left None = length bytes < size
 
 abbrev pub ReadsLine : {E : Type 0} → ℕ → Option (List ℕ) → Option (List ℕ) → Result Line E → Type 0
 ReadsLine room old new (Ok line) = (bytes : List ℕ) → old ≡ Some bytes → IsFront line new (front_line room bytes)

@@ -1,9 +1,10 @@
 -- What a function that reads or writes an inventory returned, against what the bytes say.
-use Rattle.std.specs.Prelude.{◌≡◌, ℕ, ◌≤◌, List, length, take, Option, Some, Result, Ok, Err}
+use Rattle.std.specs.Prelude.{◌≡◌, Bool, ℕ, ◌≤◌, List, length, take, Option, Some, Result, Ok, Err}
 use Rattle.std.specs.Io.KnownBytes.{Appends, Keeps}
 use Rattle.link_tree.specs.Lines.{front_line}
-use Rattle.link_tree.specs.Inventory.{entry_of_front}
+use Rattle.link_tree.specs.Inventory.{entry_at}
 use Rattle.link_tree.specs.declared.inventory.TheConstants.{MAX_LINE}
+use Rattle.link_tree.specs.declared.entry.Entry.{Entry}
 use Rattle.link_tree.specs.declared.fault.PathError.{PathError}
 use Rattle.link_tree.specs.declared.fault.PathError.TheVariants as paths
 use Rattle.link_tree.specs.declared.fault.TargetError.{TargetError}
@@ -59,8 +60,8 @@ EntryOfFront left (Err entries.ReadFault) read = Unit {0}
 EntryOfFront left (Err entries.OutOfMemory) read = Unit {0}
 
 -- the entry at the front of the bytes left, where these are known
-abbrev pub ReadsEntry : Option (List ℕ) → Option (List ℕ) → Result (Option (List ℕ × List ℕ)) EntryError → Type 0
-ReadsEntry old new r = (bytes : List ℕ) → old ≡ Some bytes → EntryOfFront new r (entry_of_front (front_line MAX_LINE bytes))
+abbrev pub ReadsEntry : Bool → Option (List ℕ) → Option (List ℕ) → Result (Option (List ℕ × Entry)) EntryError → Type 0
+ReadsEntry room old new r = (bytes : List ℕ) → old ≡ Some bytes → EntryOfFront new r (entry_at room (front_line MAX_LINE bytes))
 
 -- nothing but a front of the text went out
 abbrev pub SentBefore : WriteError → Option (List ℕ) → Option (List ℕ) → List ℕ → Type 0

@@ -8,6 +8,8 @@ use Rattle.link_tree.specs.declared.slot.Scope.{Scope}
 use Rattle.link_tree.specs.declared.slot.Scope.TheVariants as scopes
 use Rattle.link_tree.specs.declared.slot.Place.{Place}
 use Rattle.link_tree.specs.declared.slot.Place.TheVariants.{Etc, Run, Local, Vendor}
+use Rattle.link_tree.specs.declared.slot.Dependency.{Dependency}
+use Rattle.link_tree.specs.declared.slot.Dependency.TheVariants as dependencies
 use Rattle.link_tree.specs.declared.slot.Slot.{Slot}
 use Rattle.link_tree.specs.declared.slot.Slot.TheVariants as slots
 use Prim.Native.Char.{code}
@@ -22,6 +24,20 @@ unit_directory Vendor = codes "/usr/lib/systemd/system"
 -- where a unit's file or link stands in a directory
 abbrev pub unit_slot : Place → List ℕ → List ℕ
 unit_slot place name = unit_directory place ++ code "/" ∷ name
+
+-- how the directory of a unit's dependencies ends
+unfoldable pub dependency_ending : Dependency → List ℕ
+dependency_ending dependencies.Wants = codes ".wants"
+dependency_ending dependencies.Requires = codes ".requires"
+
+-- where the link stands by which a unit depends on another
+abbrev pub dependency_slot : Place → Dependency → (of name : List ℕ) → List ℕ
+dependency_slot place dependency of name = unit_slot place (of ++ dependency_ending dependency) ++ code "/" ∷ name
+
+-- what that slot is
+abbrev pub slot_of_dependency : Place → Dependency → Slot
+slot_of_dependency place dependencies.Wants = slots.Wants place
+slot_of_dependency place dependencies.Requires = slots.Requires place
 
 abbrev pub places : List Place
 places = Etc ∷ Run ∷ Local ∷ Vendor ∷ []

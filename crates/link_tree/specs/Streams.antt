@@ -14,6 +14,10 @@ abbrev pub GivesNext : Option (List ℕ) → Option (List ℕ) → Option ℕ �
 GivesNext old new (Some b) = Consumes old new (b ∷ [])
 GivesNext old new None = IsAtEnd old × Keeps old new
 
+-- Some bytes are the first of those left, and there are none where none is left.
+abbrev pub GivesSome : Option (List ℕ) → Option (List ℕ) → List ℕ → Type 0
+GivesSome old new bytes = Consumes old new bytes × (bytes ≡ [] → IsAtEnd old)
+
 -- a failure is counted, and nothing else is
 abbrev pub failures_after : {T : Type 0} → ℕ → Result T Stop → ℕ
 failures_after n (Err Failed) = one_more n

@@ -1,5 +1,6 @@
 -- A tree is a finite map from paths, in the order of their bytes, to entries.
-use Rattle.std.specs.Prelude.{◌≡◌, false, ℕ, List, [], ◌∷◌, ◌++◌, map as list_map, Option, Some, None, codes}
+use Rattle.std.specs.Prelude.{◌≡◌, false, ℕ, List, [], ◌∷◌, ◌++◌, length, map as list_map, Option, Some, None, codes}
+use Rattle.std.specs.Fmt.{decimal}
 use Rattle.std.specs.List.{flat_map}
 use Rattle.std.specs.Ordering.{nat_cmp}
 use Rattle.std.specs.Cmp.Lexicographic.{slice_cmp}
@@ -7,7 +8,7 @@ use Rattle.std.specs.Str.{bytes_eq}
 use Rattle.std.specs.FinMap as map
 use Rattle.std.specs.declared.cmp.Ordering.{Ordering}
 use Rattle.link_tree.specs.declared.entry.Entry.{Entry}
-use Rattle.link_tree.specs.declared.entry.Entry.TheVariants.{Link}
+use Rattle.link_tree.specs.declared.entry.Entry.TheVariants.{File, Link}
 use Rattle.link_tree.specs.declared.entry.Change.{Change}
 
 abbrev pub path_cmp : List ℕ → List ℕ → Ordering
@@ -30,8 +31,9 @@ abbrev pub after_changes : List Change → Entries → Entries
 after_changes [] m = m
 after_changes (change ∷ changes) m = after_changes changes (after_change change m)
 
--- an entry's line
+-- an entry's lines
 abbrev pub entry_line : List ℕ × Entry → List ℕ
+entry_line (path, File contents) = codes "F\t" ++ decimal (length contents) ++ (codes "\t" ++ path ++ codes "\n") ++ contents ++ codes "\n"
 entry_line (path, Link target) = codes "L\t" ++ path ++ (codes "\t" ++ target) ++ codes "\n"
 
 -- the one text of a tree

@@ -4,10 +4,9 @@ ghost use Rattle.std.specs.Option.{option_map};
 ghost use Rattle.std.specs.List.{slice_split, position};
 ghost use Rattle.smallvec.specs.SmallVec.{small_vec_len};
 ghost use Rattle.link_tree.specs.Paths.{is_slash};
-ghost use Rattle.link_tree.specs.Canonical.{cut_at_slash, parent, with_part, walked, begins_with_slash, start_of, merged, canonical, canonical_text, is_null_target};
-ghost use Rattle.link_tree.specs.Values.{bytes_of};
+ghost use Rattle.link_tree.specs.Canonical.{cut_at_slash, parent, with_part, walked, begins_with_slash, start_of, merged, canonical, canonical_text, is_null_target, is_null_link};
 
-use crate::entry::Entry;
+use crate::entry::{Entry, Target};
 use crate::fault::MAX_PATH;
 use crate::part::is_part;
 use crate::path::TreePath;
@@ -36,9 +35,18 @@ pub fn canonical(
 
 /// Whether a link leads to `/dev/null`, which masks a unit: systemctl(1), `mask`.
 pub fn is_null_link(link: &TreePath, entry: &Entry) -> bool
-    ensures { result ≡ is_null_target link.now (bytes_of entry.now) }
+    ensures { result ≡ is_null_link link.now entry.now }
 {
-    let text = walk_from(link.allocator(), link.text(), entry.bytes()).unwrap();
+    match entry {
+        Entry::File(_) => false,
+        Entry::Link(target) => leads_to_null(link, target),
+    }
+}
+
+fn leads_to_null(link: &TreePath, target: &Target) -> bool
+    ensures { result ≡ is_null_target link.now target.now }
+{
+    let text = walk_from(link.allocator(), link.text(), target.text()).unwrap();
     text.as_slice() == b"/dev/null".as_slice()
 }
 

@@ -1,9 +1,10 @@
-ghost use Rattle.std.specs.Prelude.{◌≡◌, IfOk, true, false};
+ghost use Rattle.std.specs.Prelude.{◌≡◌, IfOk, IsTrue, ◌↔◌, true, false};
+ghost use Rattle.link_tree.specs.Files.{is_contents};
 ghost use Rattle.link_tree.specs.Paths.{is_target};
 ghost use Rattle.link_tree.specs.Trees.{taken_back};
-ghost use Rattle.link_tree.specs.declared.entry.Entry.TheVariants.{Link};
+ghost use Rattle.link_tree.specs.declared.entry.Entry.TheVariants.{File, Link};
 
-use crate::fault::TargetError;
+use crate::fault::{FileError, MAX_FILE, TargetError};
 use crate::part::is_target;
 use crate::path::TreePath;
 use std::alloc::{AllocError, Global};
@@ -54,14 +55,79 @@ impl Target {
     }
 }
 
+/// What a file holds: at most 1,048,576 bytes. Contracts see the bytes.
+#[derive(Clone, Debug, Drop)]
+pub struct Contents {
+    bytes: Vec<u8>,
+}
+
+impl Model for Contents {
+    ghost use Rattle.std.specs.Prelude.{List, ℕ, IsTrue};
+    ghost use Rattle.link_tree.specs.Files.{is_contents};
+
+    ghost Value = { List ℕ };
+
+    ghost view = { λ contents. contents.bytes.items };
+
+    ghost invariant = { λ contents. IsTrue (is_contents contents.bytes.items) };
+}
+
+impl Contents {
+    /// Copies the bytes of a file.
+    #[tactic(auto, unfolding(crate::specs::Files::is_contents))]
+    pub fn copied(alloc: Global, bytes: &[u8]) -> Result<Contents, FileError>
+        ensures contents { IfOk result (λ contents. (contents ≡ bytes.now) × (is_contents bytes.now ≡ true)) }
+        ensures large { result ≡ Err FileError.TooLarge → is_contents bytes.now ≡ false }
+    {
+        if bytes.len() > MAX_FILE {
+            return Err(FileError::TooLarge);
+        }
+        let bytes = Vec::from_slice(alloc, bytes)?;
+        Ok(Contents { bytes })
+    }
+
+    /// Takes the bytes of a file.
+    pub(crate) fn new(bytes: Vec<u8>) -> Contents
+        requires { is_contents bytes.items ≡ true }
+        ensures { result ≡ bytes.items }
+    {
+        Contents { bytes }
+    }
+
+    pub fn bytes(&self) -> &[u8]
+        ensures bytes { result.now ≡ self.now }
+        ensures contents { is_contents self.now ≡ true }
+    {
+        &self.bytes
+    }
+
+    /// Equal contents.
+    pub fn copy(&self) -> Result<Contents, AllocError>
+        ensures { IfOk result (λ contents. contents ≡ self.now) }
+    {
+        Ok(Contents {
+            bytes: self.bytes.clone()?,
+        })
+    }
+}
+
 /// What stands at a path.
 #[derive(Clone, Debug, Drop)]
 pub enum Entry {
+    File(Contents),
     Link(Target),
 }
 
 impl Entry {
-    ghost use Rattle.link_tree.specs.Values.{is_entry, bytes_of};
+    ghost use Rattle.link_tree.specs.Values.{is_entry, bytes_of, same_entry};
+
+    /// A file with these bytes.
+    pub fn file(alloc: Global, bytes: &[u8]) -> Result<Entry, FileError>
+        ensures file { IfOk result (λ entry. (entry ≡ File bytes.now) × (is_contents bytes.now ≡ true)) }
+        ensures large { result ≡ Err FileError.TooLarge → is_contents bytes.now ≡ false }
+    {
+        Ok(Entry::File(Contents::copied(alloc, bytes)?))
+    }
 
     /// A link with this target.
     pub fn link(alloc: Global, target: &[u8]) -> Result<Entry, TargetError>
@@ -71,13 +137,27 @@ impl Entry {
         Ok(Entry::Link(Target::parse(alloc, target)?))
     }
 
-    /// The text of the link's target.
+    /// The bytes of the file, or the text of the link's target.
     pub fn bytes(&self) -> &[u8]
         ensures bytes { result.now ≡ bytes_of self.now }
         ensures entry { is_entry self.now ≡ true }
     {
         match self {
+            Entry::File(contents) => contents.bytes(),
             Entry::Link(target) => target.text(),
+        }
+    }
+
+    /// Whether the entries are equal: both files, or both links, with the same bytes.
+    #[tactic(auto, using(crate::proofs::Same::same_entries))]
+    pub fn same(&self, other: &Entry) -> bool
+        ensures test { result ≡ same_entry self.now other.now }
+        ensures same { IsTrue result ↔ (self.now ≡ other.now) }
+    {
+        match (self, other) {
+            (Entry::File(one), Entry::File(other)) => one.bytes() == other.bytes(),
+            (Entry::Link(one), Entry::Link(other)) => one.text() == other.text(),
+            _ => false,
         }
     }
 
@@ -86,6 +166,7 @@ impl Entry {
         ensures { IfOk result (λ entry. entry ≡ self.now) }
     {
         match self {
+            Entry::File(contents) => Ok(Entry::File(contents.copy()?)),
             Entry::Link(target) => Ok(Entry::Link(target.copy()?)),
         }
     }

@@ -1,20 +1,20 @@
 //! Inventories are read: the texts of trees.
 #![tactic(auto, using(crate::proofs::Known::known))]
 
-ghost use Rattle.std.specs.Prelude.{◌≡◌, ◌<◌, ℕ, List, length, codes, Option, OnOk, IfOk, IfErr, IfSome, Some, Err};
-ghost use Rattle.std.specs.Option.{option_map};
-ghost use Rattle.std.specs.List.{position};
+ghost use Rattle.std.specs.Prelude.{◌≡◌, ◌≤◌, ℕ, true, List, Option, OnOk, IfOk, IfErr, IsTrue, Some, is_some, Err};
+ghost use Rattle.link_tree.specs.declared.fault.TheConstants.{MAX_FILE};
 ghost use Rattle.std.specs.FinMap as map;
 ghost use Rattle.link_tree.specs.Streams.{HasCause};
-ghost use Rattle.link_tree.specs.Lines.{Front, IsFront};
-ghost use Rattle.link_tree.specs.Inventory.{entry_of_line, entry_of_front, placed, entries_at, inventory_of, after_prefix, header, link_fields, is_tab, cut_at_tab, checked_fields};
-ghost use Rattle.link_tree.specs.Reads.{Gives, ReadsEntry, EntryOfFront, path_error_seen, target_error_seen, read_error_seen, line_error_seen, numbered};
+ghost use Rattle.link_tree.specs.Lines.{Front, IsFront, front_line};
+ghost use Rattle.link_tree.specs.EntryLines.{IsSized};
+ghost use Rattle.link_tree.specs.Inventory.{line_of_front, contents_at, placed, entries_at, inventory_of, after_prefix, header};
+ghost use Rattle.link_tree.specs.Reads.{Gives, ReadsEntry, EntryOfFront, read_error_seen, line_error_seen, numbered};
 ghost use Rattle.link_tree.specs.TreeReads.{ReadsTree, HeaderOf, PrefixOf};
 
-use crate::entry::{Entry, Target};
-use crate::fault::{PathError, TargetError};
+use crate::entry::{Contents, Entry};
+use crate::entry_line::{EntryLine, line_of};
 use crate::path::TreePath;
-use crate::reading::{Line, ReadError, next_byte, read_line};
+use crate::reading::{Line, ReadError, next_byte, read_bytes, read_line};
 use crate::shape::is_bad_shape;
 use crate::stream::Source;
 use crate::tree::Tree;
@@ -36,18 +36,21 @@ pub enum InventoryFault {
     /// It doesn't begin with the header.
     #[error("bad header")]
     BadHeader,
-    /// A line is no entry and not `end`, or has over 16,384 bytes.
+    /// A line is no entry and not `end`, or has over 16,384 bytes; or no line end follows a file's bytes.
     #[error("bad line")]
     BadLine,
     /// A path is none, or a target.
     #[error("bad path")]
     BadPath,
-    /// The input ends before the line `end`.
-    #[error("truncated")]
-    Truncated,
+    /// A file is said to have over 1,048,576 bytes.
+    #[error("file too large")]
+    TooLarge,
     /// 65,536 entries came before.
     #[error("too many entries")]
     TooMany,
+    /// The input ends before the line `end`.
+    #[error("truncated")]
+    Truncated,
     /// An entry stands at the path.
     #[error("duplicate")]
     Duplicate,
@@ -61,14 +64,14 @@ pub enum InventoryFault {
 
 /// Why a line gives no entry.
 #[derive(Clone, Copy, Debug, PartialEq, Eq)]
-enum LineError {
+pub(crate) enum LineError {
     Fault(InventoryFault),
     OutOfMemory,
 }
 
 /// Why an entry was not read.
 #[derive(Clone, Copy, Debug, PartialEq, Eq)]
-enum EntryError {
+pub(crate) enum EntryError {
     Fault(InventoryFault),
     ReadFault,
     OutOfMemory,
@@ -106,15 +109,12 @@ fn read_entries<S: Source>(alloc: Global, source: &mut S) -> Result<Tree, Invent
     let mut tree = Tree::empty(alloc);
     let mut number = 1;
     'entries: loop {
-        let (path, target) = match read_entry(alloc, source) {
+        let (path, entry) = match read_entry(alloc, source, number <= MAX_ENTRIES) {
             Ok(Some(found)) => found,
             Ok(None) => return Ok(tree),
             Err(e) => return Err(in_entry(number, e)),
         };
-        if number > MAX_ENTRIES {
-            return Err(InventoryError::Fault(InventoryFault::TooMany, number));
-        }
-        if let Err(e) = place(&mut tree, path, target) {
+        if let Err(e) = place(&mut tree, path, entry) {
             return Err(in_entry(number, line_error(e)));
         }
         number += 1;
@@ -122,8 +122,8 @@ fn read_entries<S: Source>(alloc: Global, source: &mut S) -> Result<Tree, Invent
 }
 
 #[tactic(auto, unfolding(crate::specs::Inventory::placed))]
-fn place(tree: &mut Tree, path: TreePath, target: Target) -> Result<(), LineError>
-    ensures { Gives (λ _. tree.new) result (placed tree.old (path, target)) }
+fn place(tree: &mut Tree, path: TreePath, entry: Entry) -> Result<(), LineError>
+    ensures { Gives (λ _. tree.new) result (placed tree.old (path, entry)) }
 {
     if tree.get(&path).is_some() {
         return Err(LineError::Fault(InventoryFault::Duplicate));
@@ -136,7 +136,6 @@ fn place(tree: &mut Tree, path: TreePath, target: Target) -> Result<(), LineErro
     if is_bad_shape(path.text()) {
         return Err(LineError::Fault(InventoryFault::BadShape));
     }
-    let entry = Entry::Link(target);
     let _valid = entry.bytes();
     match tree.insert(path, entry) {
         Ok(()) => Ok(()),
@@ -175,102 +174,73 @@ fn skip_prefix<S: Source>(prefix: &[u8], source: &mut S) -> Result<bool, ReadErr
     Ok(true)
 }
 
+/// The next entry, or `None` for the end, which alone may come where there is no room.
 fn read_entry<S: Source>(
     alloc: Global,
     source: &mut S,
-) -> Result<Option<(TreePath, Target)>, EntryError>
-    ensures entry { ReadsEntry (S.left source.old) (S.left source.new) result }
+    room: bool,
+) -> Result<Option<(TreePath, Entry)>, EntryError>
+    ensures entry { ReadsEntry room (S.left source.old) (S.left source.new) result }
+    ensures room { IfOk result (λ entry. is_some entry ≡ true → IsTrue room) }
+    ensures cause { result ≡ Err EntryError.ReadFault → HasCause (S.failures source.old, S.interruptions source.old) (S.failures source.new, S.interruptions source.new) }
+    ensures calm { OnOk result (S.failures source.new ≡ S.failures source.old) }
+{
+    match read_entry_line(alloc, source)? {
+        EntryLine::End => Ok(None),
+        _ if !room => Err(EntryError::Fault(InventoryFault::TooMany)),
+        EntryLine::File(path, size) => {
+            let contents = read_contents(alloc, source, size)?;
+            Ok(Some((path, Entry::File(contents))))
+        }
+        EntryLine::Link(path, target) => Ok(Some((path, Entry::Link(target)))),
+    }
+}
+
+fn read_entry_line<S: Source>(alloc: Global, source: &mut S) -> Result<EntryLine, EntryError>
+    ensures line { (bytes : List ℕ) → S.left source.old ≡ Some bytes → EntryOfFront (S.left source.new) result (line_of_front (front_line MAX_LINE bytes)) }
+    ensures sized { IfOk result IsSized }
     ensures cause { result ≡ Err EntryError.ReadFault → HasCause (S.failures source.old, S.interruptions source.old) (S.failures source.new, S.interruptions source.new) }
     ensures calm { OnOk result (S.failures source.new ≡ S.failures source.old) }
 {
     match read_line(alloc, source, MAX_LINE) {
-        Ok(line) => entry_of_read(alloc, line),
+        Ok(line) => line_of_read(alloc, line),
         Err(e) => Err(read_error(e)),
     }
 }
 
-fn entry_of_read(alloc: Global, line: Line) -> Result<Option<(TreePath, Target)>, EntryError>
-    ensures entry { (left : Option (List ℕ)) → (front : Front) → IsFront line left front → EntryOfFront left result (entry_of_front front) }
+fn line_of_read(alloc: Global, line: Line) -> Result<EntryLine, EntryError>
+    ensures line { (left : Option (List ℕ)) → (front : Front) → IsFront line left front → EntryOfFront left result (line_of_front front) }
+    ensures sized { IfOk result IsSized }
     ensures calm { result ≡ Err EntryError.ReadFault → ⊥ }
 {
     match line {
-        Line::Whole(line) => entry_of_line(alloc, &line).map_err(line_error),
+        Line::Whole(line) => line_of(alloc, &line).map_err(line_error),
         Line::Last(_) => Err(EntryError::Fault(InventoryFault::Truncated)),
         Line::Long => Err(EntryError::Fault(InventoryFault::BadLine)),
     }
 }
 
-fn find_tab(text: &[u8]) -> Option<usize>
-    ensures place { result ≡ position is_tab text.now }
-    ensures within { IfSome result (λ i. i < length text.now) }
+/// The bytes of a file and the line end behind them.
+fn read_contents<S: Source>(
+    alloc: Global,
+    source: &mut S,
+    size: usize,
+) -> Result<Contents, EntryError>
+    requires { size ≤ MAX_FILE }
+    ensures contents { (bytes : List ℕ) → S.left source.old ≡ Some bytes → EntryOfFront (S.left source.new) result (contents_at size bytes) }
+    ensures cause { result ≡ Err EntryError.ReadFault → HasCause (S.failures source.old, S.interruptions source.old) (S.failures source.new, S.interruptions source.new) }
+    ensures calm { OnOk result (S.failures source.new ≡ S.failures source.old) }
 {
-    text.iter().position(|b| *b == b'\t')
-}
-
-fn cut_at_tab(text: &[u8]) -> Option<(&[u8], &[u8])>
-    ensures { option_map (λ x. (x.0.now, x.1.now)) result ≡ cut_at_tab text.now }
-{
-    match find_tab(text) {
-        Some(tab) => Some((&text[..tab], &text[tab + 1..])),
-        None => None,
-    }
-}
-
-/// The path and the target of a link's line.
-fn fields_of(line: &[u8]) -> Option<(&[u8], &[u8])>
-    ensures { option_map (λ x. (x.0.now, x.1.now)) result ≡ link_fields line.now }
-{
-    match line {
-        [b'L', b'\t', rest @ ..] => match cut_at_tab(rest) {
-            Some((path, target)) if !target.contains(&b'\t') => Some((path, target)),
-            _ => None,
-        },
-        _ => None,
-    }
-}
-
-/// The entry of a line, or `None` for the line that ends an inventory.
-#[tactic(auto, unfolding(crate::specs::Inventory::entry_of_line))]
-fn entry_of_line(alloc: Global, line: &[u8]) -> Result<Option<(TreePath, Target)>, LineError>
-    ensures { Gives (λ x. x) result (entry_of_line line.now) }
-{
-    if line == b"end".as_slice() {
-        return Ok(None);
-    }
-    match fields_of(line) {
-        Some((path, target)) => Ok(Some(checked(alloc, path, target)?)),
-        None => Err(LineError::Fault(InventoryFault::BadLine)),
-    }
-}
-
-fn checked(alloc: Global, path: &[u8], target: &[u8]) -> Result<(TreePath, Target), LineError>
-    ensures { Gives (λ x. x) result (checked_fields path.now target.now) }
-{
-    let path = match TreePath::parse(alloc, path) {
-        Ok(path) => path,
-        Err(e) => return Err(path_error(e)),
+    let bytes = match read_bytes(alloc, source, size) {
+        Ok(Some(bytes)) => bytes,
+        Ok(None) => return Err(EntryError::Fault(InventoryFault::Truncated)),
+        Err(e) => return Err(read_error(e)),
     };
-    match Target::parse(alloc, target) {
-        Ok(target) => Ok((path, target)),
-        Err(e) => Err(target_error(e)),
-    }
-}
-
-fn path_error(e: PathError) -> LineError
-    ensures { result ≡ path_error_seen e }
-{
-    match e {
-        PathError::BadPath => LineError::Fault(InventoryFault::BadPath),
-        PathError::OutOfMemory => LineError::OutOfMemory,
-    }
-}
-
-fn target_error(e: TargetError) -> LineError
-    ensures { result ≡ target_error_seen e }
-{
-    match e {
-        TargetError::BadTarget => LineError::Fault(InventoryFault::BadPath),
-        TargetError::OutOfMemory => LineError::OutOfMemory,
+    match next_byte(source) {
+        Ok(Some(b'\n')) => Ok(Contents::new(bytes)),
+        Ok(Some(_)) => Err(EntryError::Fault(InventoryFault::BadLine)),
+        Ok(None) => Err(EntryError::Fault(InventoryFault::Truncated)),
+        Err(e) => Err(read_error(e)),
     }
 }
 

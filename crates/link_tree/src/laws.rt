@@ -1,5 +1,5 @@
 //! What holds of all links and trees: each function does nothing, and its contract is the law.
-ghost use Rattle.link_tree.specs.Laws.{CanonicalIsPath, ReadsBack, TakenBack, PathsLieBeneath};
+ghost use Rattle.link_tree.specs.Laws.{CanonicalIsPath, ReadsBack, LengthsAreDecimals, TakenBack, PathsLieBeneath, ChangesLead};
 
 /// Where a link leads is a path, but for the root and what is too long.
 pub fn links_lead_to_paths()
@@ -12,9 +12,19 @@ pub fn inventories_are_read_back()
     ensures { ReadsBack }
 {}
 
+/// A length in an inventory has one spelling, the decimal digits of the number.
+pub fn lengths_have_one_spelling()
+    ensures { LengthsAreDecimals }
+{}
+
 /// Changes from what stands in a tree can be taken back, and then it is the very tree again.
 pub fn changes_are_taken_back()
     ensures { TakenBack }
+{}
+
+/// The changes between two trees lead from the one to the other.
+pub fn changes_lead_from_tree_to_tree()
+    ensures { ChangesLead }
 {}
 
 /// A path lies beneath another where it goes on after it, with a slash between; and it is under a slot where it lies

@@ -1,9 +1,10 @@
-//! Trees of links: systemd.unit(5), "Unit File Load Path", and the one text of a tree, its inventory.
+//! Trees of unit files and links: systemd.unit(5), "Unit File Load Path", and the one text of a tree, its inventory.
 #![tactic(auto)]
 
 mod canonical_form;
 mod compare;
 mod entry;
+mod entry_line;
 mod fault;
 mod inventory;
 mod iter;
@@ -19,19 +20,20 @@ mod tree;
 mod writing;
 
 pub use canonical_form::{canonical, is_null_link};
-pub use entry::{Change, Entry, Target, copy_of};
-pub use fault::{MAX_PATH, PathError, TargetError};
+pub use entry::{Change, Contents, Entry, Target, copy_of};
+pub use fault::{FileError, MAX_FILE, MAX_PATH, PathError, TargetError};
 pub use inventory::{InventoryError, InventoryFault, MAX_ENTRIES, MAX_LINE, read_inventory};
 pub use iter::Iter;
 pub use laws::{
-    changes_are_taken_back, inventories_are_read_back, links_lead_to_paths, paths_lie_beneath,
+    changes_are_taken_back, changes_lead_from_tree_to_tree, inventories_are_read_back,
+    lengths_have_one_spelling, links_lead_to_paths, paths_lie_beneath,
 };
 pub use path::TreePath;
 pub use reading::{Line, ReadError, read_line};
-pub use slot::{Place, Scope, Slot};
+pub use slot::{Dependency, Place, Scope, Slot};
 pub use standard::{FromRead, ToWrite};
 pub use stream::{PATIENCE, Sink, Source, Stop};
-pub use tree::{Tree, inventory_text};
+pub use tree::{Tree, inventory_text, push_decimal};
 pub use writing::{WriteError, WriteFault, write_inventory, write_text};
 
 #[cfg(test)]

@@ -1,10 +1,12 @@
 ghost use Rattle.std.specs.Prelude.{◌≡◌, ◌<◌, length, IfOk, IfSome, true, false, Some, None, if◌then◌else◌};
 ghost use Rattle.link_tree.specs.Canonical.{parent_of};
 ghost use Rattle.link_tree.specs.Paths.{is_path, first_beneath};
+ghost use Rattle.link_tree.specs.Slots.{name_at};
 
 use crate::canonical_form::parent_len;
 use crate::fault::PathError;
 use crate::part::is_path;
+use crate::slot::cut_at_last_slash;
 use std::alloc::{AllocError, Global};
 use std::marker::Model;
 
@@ -63,6 +65,13 @@ impl TreePath {
         ensures path { is_path self.now ≡ true }
     {
         &self.text
+    }
+
+    /// What stands after the last slash.
+    pub fn file_name(&self) -> &[u8]
+        ensures { result.now ≡ name_at self.now }
+    {
+        cut_at_last_slash(self.text()).1
     }
 
     /// An equal path.

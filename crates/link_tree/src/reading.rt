@@ -1,10 +1,12 @@
 //! What comes in.
 #![tactic(auto, using(crate::proofs::Known::known))]
 
-ghost use Rattle.std.specs.Prelude.{◌≡◌, IfOk, OnOk, OnErr, IsErrOf};
+ghost use Rattle.std.specs.Prelude.{◌≡◌, ◌+◌, ◌<◌, ◌≤◌, ◌++◌, ℕ, List, Some, length, take, IfOk, IfSome, OnOk, OnErr, IsErrOf};
+ghost use Rattle.std.specs.Option.{option_map};
+ghost use Rattle.std.specs.Vec.{vec_capacity, vec_len};
 ghost use Rattle.std.specs.Io.KnownBytes.{Keeps};
-ghost use Rattle.link_tree.specs.Lines.{ReadsLine};
-ghost use Rattle.link_tree.specs.Streams.{HasCause, GivesNext};
+ghost use Rattle.link_tree.specs.Lines.{ReadsLine, IsBytes};
+ghost use Rattle.link_tree.specs.Streams.{HasCause, GivesNext, GivesSome};
 ghost use Rattle.link_tree.specs.declared.reading.ReadError.TheVariants.{OutOfMemory};
 
 use crate::stream::{PATIENCE, Source, Stop};
@@ -80,4 +82,64 @@ pub fn read_line<S: Source>(alloc: Global, source: &mut S, limit: usize) -> Resu
             }
         }
     }
+}
+
+/// Some of the next bytes, put into the front of `room`, and how many, however often the source is interrupted before
+/// them: 0 at the end alone.
+fn next_bytes<S: Source>(source: &mut S, room: &mut [u8]) -> Result<usize, ReadError>
+    requires { 0 < length room.old }
+    ensures count { IfOk result (λ n. n ≤ length room.new) }
+    ensures given { IfOk result (λ n. GivesSome (S.left source.old) (S.left source.new) (take n room.new)) }
+    ensures cause { OnErr result (HasCause (S.failures source.old, S.interruptions source.old) (S.failures source.new, S.interruptions source.new)) }
+    ensures calm { OnOk result (S.failures source.new ≡ S.failures source.old) }
+    ensures kind { IsErrOf result ReadError.OutOfMemory → ⊥ }
+{
+    for _turn in 0..PATIENCE {
+        match source.bytes(room) {
+            Ok(count) => return Ok(count),
+            Err(Stop::Failed) => return Err(ReadError::Fault),
+            Err(Stop::Interrupted) => {}
+        }
+    }
+    Err(ReadError::Fault)
+}
+
+/// Puts bytes behind others for which there is room.
+fn push_all(bytes: &mut Vec<u8>, more: &[u8])
+    requires { vec_len bytes.old + length more.now ≤ vec_capacity bytes.old }
+    ensures items { bytes.new.items ≡ bytes.old.items ++ more.now }
+    ensures len { vec_len bytes.new ≡ vec_len bytes.old + length more.now }
+    ensures room { vec_capacity bytes.new ≡ vec_capacity bytes.old }
+{
+    for byte in more {
+        bytes.push_reserved(*byte);
+    }
+}
+
+/// How many bytes are asked for at a time.
+const CHUNK: usize = 4096;
+
+/// The next bytes, just so many, or `None` where the input ends before. No more memory is taken than they need.
+pub(crate) fn read_bytes<S: Source>(
+    alloc: Global,
+    source: &mut S,
+    size: usize,
+) -> Result<Option<Vec<u8>>, ReadError>
+    ensures bytes { IfOk result (λ read. (bytes : List ℕ) → S.left source.old ≡ Some bytes → IsBytes size bytes (S.left source.new) (option_map (λ read. read.items) read)) }
+    ensures size { IfOk result (λ read. IfSome read (λ read. length read.items ≡ size)) }
+    ensures room { IfOk result (λ read. IfSome read (λ read. vec_capacity read ≡ size)) }
+    ensures cause { IsErrOf result ReadError.Fault → HasCause (S.failures source.old, S.interruptions source.old) (S.failures source.new, S.interruptions source.new) }
+    ensures calm { OnOk result (S.failures source.new ≡ S.failures source.old) }
+{
+    let mut bytes = Vec::with_capacity(alloc, size)?;
+    let mut chunk = [0; CHUNK];
+    'chunks: while bytes.len() < size {
+        let most = (size - bytes.len()).min(CHUNK);
+        let count = next_bytes(source, &mut chunk[..most])?;
+        if count == 0 {
+            return Ok(None);
+        }
+        push_all(&mut bytes, &chunk[..count]);
+    }
+    Ok(Some(bytes))
 }

@@ -1,7 +1,7 @@
 //! Slots: where the commands place entries.
 ghost use Rattle.std.specs.Prelude.{◌≡◌, Some, IfOk};
 ghost use Rattle.link_tree.specs.Canonical.{parent};
-ghost use Rattle.link_tree.specs.Slots.{unit_directory, unit_slot, preset_directory, place_of, preset_place_of, scope_place, name_at, is_list_of, list_slot, list_directory, slots_in, is_preset_name, is_name_for, named_slot, slot_of};
+ghost use Rattle.link_tree.specs.Slots.{unit_directory, unit_slot, dependency_ending, dependency_slot, slot_of_dependency, preset_directory, place_of, preset_place_of, scope_place, name_at, is_list_of, list_slot, list_directory, slots_in, is_preset_name, is_name_for, named_slot, slot_of};
 
 use crate::canonical_form::parent_len;
 use crate::path::TreePath;
@@ -81,6 +81,21 @@ impl Place {
         let text = unit_slot(alloc, self, name.text())?;
         Ok(TreePath::of_text(text).unwrap())
     }
+
+    /// The slot of the link by which the unit `of` depends on another: `DIR/OF.wants/NAME` or `DIR/OF.requires/NAME`.
+    pub fn dependency_slot(
+        self,
+        alloc: Global,
+        dependency: Dependency,
+        of: &UnitName,
+        name: &UnitName,
+    ) -> Result<TreePath, AllocError>
+        ensures path { IfOk result (λ path. path ≡ dependency_slot self dependency of.now name.now) }
+        ensures slot { IfOk result (λ path. slot_of path ≡ Some (slot_of_dependency self dependency)) }
+    {
+        let text = dependency_slot(alloc, self, dependency, of.text(), name.text())?;
+        Ok(TreePath::of_text(text).unwrap())
+    }
 }
 
 fn unit_slot(alloc: Global, place: Place, name: &[u8]) -> Result<Vec<u8>, AllocError>
@@ -90,6 +105,42 @@ fn unit_slot(alloc: Global, place: Place, name: &[u8]) -> Result<Vec<u8>, AllocE
     text.push(b'/')?;
     text.extend_from_slice(name)?;
     Ok(text)
+}
+
+fn dependency_slot(
+    alloc: Global,
+    place: Place,
+    dependency: Dependency,
+    of: &[u8],
+    name: &[u8],
+) -> Result<Vec<u8>, AllocError>
+    ensures { IfOk result (λ text. text.items ≡ dependency_slot place dependency of.now name.now) }
+{
+    let mut path = unit_slot(alloc, place, of)?;
+    path.extend_from_slice(dependency.ending().as_bytes())?;
+    path.push(b'/')?;
+    path.extend_from_slice(name)?;
+    Ok(path)
+}
+
+/// How a unit depends on another by a link: systemd.unit(5), "Wants=" and "Requires=".
+#[derive(Clone, Copy, Debug, PartialEq, Eq, Hash)]
+pub enum Dependency {
+    Wants,
+    Requires,
+}
+
+impl Dependency {
+    /// How the directory of a unit's dependencies ends.
+    #[tactic(auto, unfolding(crate::specs::Slots::dependency_ending))]
+    fn ending(self) -> &'static str
+        ensures { result.now ≡ dependency_ending self }
+    {
+        match self {
+            Dependency::Wants => ".wants",
+            Dependency::Requires => ".requires",
+        }
+    }
 }
 
 /// What a path is for that commands may change.
@@ -136,7 +187,7 @@ fn preset_place_of(dir: &[u8]) -> Option<Place>
 
 /// What stands before the last slash and after it.
 #[tactic(auto, unfolding(crate::specs::Slots::name_at))]
-fn cut_at_last_slash(path: &[u8]) -> (&[u8], &[u8])
+pub(crate) fn cut_at_last_slash(path: &[u8]) -> (&[u8], &[u8])
     ensures parent { result.0.now ≡ parent path.now }
     ensures name { result.1.now ≡ name_at path.now }
 {

@@ -60,6 +60,16 @@ impl<R: BufRead> Source for FromRead<R> {
             Err(e) => Err(count(e, &mut self.failures, &mut self.interruptions)),
         }
     }
+
+    fn bytes(&mut self, room: &mut [u8]) -> Result<usize, Stop> {
+        match self.inner.read(room) {
+            Ok(n) => {
+                self.interruptions = 0;
+                Ok(n)
+            }
+            Err(e) => Err(count(e, &mut self.failures, &mut self.interruptions)),
+        }
+    }
 }
 
 /// A writer as a sink.

@@ -4,6 +4,7 @@ ghost use Rattle.std.specs.List.{flat_map, list_any};
 ghost use Rattle.std.specs.Prelude.{ℕ, List, IsPermutation};
 ghost use Rattle.std.specs.Map.Iter.{ShowsInOrder, deref_pair};
 ghost use Rattle.std.specs.Option.{option_copied};
+ghost use Rattle.std.specs.Fmt.{decimal};
 ghost use Rattle.std.specs.FinMap as map;
 ghost use Rattle.link_tree.specs.Slots.{is_slot};
 ghost use Rattle.link_tree.specs.Shape.{fits_at, is_beneath, is_crowded, IsTree};
@@ -207,19 +208,34 @@ impl Tree {
     }
 }
 
+/// Appends a number as it is written: in decimal digits, without leading zeros.
+pub fn push_decimal(out: &mut Vec<u8>, number: usize) -> Result<(), AllocError>
+    ensures { OnOk result (out.new.items ≡ out.old.items ++ decimal number) }
+{
+    let text = number.to_string(*out.allocator())?;
+    out.extend_from_slice(text.as_bytes())
+}
+
 fn push_line(out: &mut Vec<u8>, path: &TreePath, entry: &Entry) -> Result<(), AllocError>
     ensures { OnOk result (out.new.items ≡ out.old.items ++ entry_line (path.now, entry.now)) }
 {
     match entry {
+        Entry::File(contents) => {
+            out.extend_from_slice(b"F\t")?;
+            push_decimal(out, contents.bytes().len())?;
+            out.push(b'\t')?;
+            out.extend_from_slice(path.text())?;
+            out.push(b'\n')?;
+            out.extend_from_slice(contents.bytes())?;
+        }
         Entry::Link(target) => {
             out.extend_from_slice(b"L\t")?;
             out.extend_from_slice(path.text())?;
             out.push(b'\t')?;
             out.extend_from_slice(target.text())?;
-            out.push(b'\n')?;
         }
     }
-    Ok(())
+    Ok(out.push(b'\n')?)
 }
 
 /// The one text of a tree.

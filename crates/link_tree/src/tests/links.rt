@@ -1,6 +1,6 @@
 use crate::{
-    Change, Entry, PathError, Place, Scope, Slot, TargetError, Tree, TreePath, canonical,
-    is_null_link,
+    Change, Dependency, Entry, FileError, PathError, Place, Scope, Slot, TargetError, Tree,
+    TreePath, canonical, is_null_link,
 };
 use std::alloc::{AllocError, Global};
 use std::test::Fail;
@@ -12,6 +12,10 @@ fn path(alloc: Global, text: &[u8]) -> Result<TreePath, PathError> {
 
 fn link(alloc: Global, target: &[u8]) -> Result<Entry, TargetError> {
     ample!(Entry::link(alloc, target), TargetError::OutOfMemory)
+}
+
+fn file(alloc: Global, bytes: &[u8]) -> Result<Entry, FileError> {
+    ample!(Entry::file(alloc, bytes), FileError::OutOfMemory)
 }
 
 #[test]
@@ -50,6 +54,31 @@ fn targets_are_short_texts(rt: HostRuntime) -> Result<(), Fail> {
         let refused = Entry::link(alloc, target);
         assert!(rt; matches!(refused, Err(TargetError::BadTarget)));
     }
+    Ok(())
+}
+
+/// So many bytes.
+fn bytes(alloc: Global, size: u32) -> Result<Vec<u8>, Fail> {
+    let mut bytes = ample!(Vec::with_capacity(alloc, size as usize), AllocError)?;
+    for _byte in 0..size {
+        bytes.push(b'x')?;
+    }
+    Ok(bytes)
+}
+
+#[test]
+fn files_have_at_most_a_mebibyte(rt: HostRuntime) -> Result<(), Fail> {
+    let alloc = rt.alloc();
+    for size in [0, 1, 4096, 1048576] {
+        let bytes = bytes(alloc, size)?;
+        let entry = file(alloc, &bytes)?;
+        assert_eq!(rt; entry.bytes(), bytes.as_slice());
+        let copy = ample!(entry.copy(), AllocError)?;
+        assert!(rt; matches!(copy, Entry::File(_)));
+        assert_eq!(rt; copy.bytes(), entry.bytes());
+    }
+    let refused = Entry::file(alloc, &bytes(alloc, 1048577)?);
+    assert!(rt; matches!(refused, Err(FileError::TooLarge)));
     Ok(())
 }
 
@@ -119,6 +148,25 @@ fn links_to_dev_null_mask(rt: HostRuntime) -> Result<(), Fail> {
         b"/dev/nul",
     ] {
         assert!(rt; !is_null_link(&from, &link(alloc, target)?));
+    }
+    Ok(())
+}
+
+#[test]
+fn entries_are_the_same_by_kind_and_bytes(rt: HostRuntime) -> Result<(), Fail> {
+    let alloc = rt.alloc();
+    let entries = [
+        file(alloc, b"")?,
+        file(alloc, b"a")?,
+        file(alloc, b"ab")?,
+        link(alloc, b"a")?,
+        link(alloc, b"ab")?,
+    ];
+    for (i, one) in entries.iter().enumerate() {
+        for (j, other) in entries.iter().enumerate() {
+            let copy = ample!(other.copy(), AllocError)?;
+            assert_eq!(rt; one.same(&copy), i == j);
+        }
     }
     Ok(())
 }
@@ -202,6 +250,39 @@ fn units_have_slots(rt: HostRuntime) -> Result<(), Fail> {
         let slot = ample!(place.slot(alloc, &name), AllocError)?;
         assert_eq!(rt; slot.text(), text);
         assert_eq!(rt; Slot::of(&slot), Some(Slot::Unit(place)));
+    }
+    Ok(())
+}
+
+#[test]
+fn dependencies_have_slots(rt: HostRuntime) -> Result<(), Fail> {
+    let alloc = rt.alloc();
+    let of = ample!(UnitName::parse(alloc, b"t@.target"), NameError::OutOfMemory)?;
+    let name = ample!(
+        UnitName::parse(alloc, b"getty@tty1.service"),
+        NameError::OutOfMemory
+    )?;
+    let slots: [(Place, Dependency, Slot, &[u8]); 2] = [
+        (
+            Place::Etc,
+            Dependency::Wants,
+            Slot::Wants(Place::Etc),
+            b"/etc/systemd/system/t@.target.wants/getty@tty1.service",
+        ),
+        (
+            Place::Local,
+            Dependency::Requires,
+            Slot::Requires(Place::Local),
+            b"/usr/local/lib/systemd/system/t@.target.requires/getty@tty1.service",
+        ),
+    ];
+    for (place, dependency, kind, text) in slots {
+        let slot = ample!(
+            place.dependency_slot(alloc, dependency, &of, &name),
+            AllocError
+        )?;
+        assert_eq!(rt; slot.text(), text);
+        assert_eq!(rt; Slot::of(&slot), Some(kind));
     }
     Ok(())
 }

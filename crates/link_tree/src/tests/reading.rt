@@ -1,4 +1,6 @@
-use crate::{FromRead, InventoryError, InventoryFault, Tree, read_inventory};
+use crate::{
+    Entry, FromRead, InventoryError, InventoryFault, PathError, Tree, TreePath, read_inventory,
+};
 use std::alloc::Global;
 use std::test::Fail;
 use unit_name::ample;
@@ -35,7 +37,7 @@ fn what_follows_an_inventory_is_left(rt: HostRuntime) -> Result<(), Fail> {
 
 #[test]
 fn the_first_fault_is_named(rt: HostRuntime) {
-    let inputs: [(&[u8], InventoryFault, u32); 32] = [
+    let inputs: [(&[u8], InventoryFault, u32); 31] = [
         (b"", InventoryFault::BadHeader, 0),
         (b"unitadm-inventory 1", InventoryFault::BadHeader, 0),
         (b"unitadm-inventory 2\nend\n", InventoryFault::BadHeader, 0),
@@ -58,11 +60,6 @@ fn the_first_fault_is_named(rt: HostRuntime) {
         ),
         (b"unitadm-inventory 1\n\n", InventoryFault::BadLine, 1),
         (b"unitadm-inventory 1\nend \n", InventoryFault::BadLine, 1),
-        (
-            b"unitadm-inventory 1\nF\t1\t/a\nx\nend\n",
-            InventoryFault::BadLine,
-            1,
-        ),
         (b"unitadm-inventory 1\nL\t/a\n", InventoryFault::BadLine, 1),
         (
             b"unitadm-inventory 1\nL /a\tb\n",
@@ -167,6 +164,165 @@ fn the_first_fault_is_named(rt: HostRuntime) {
             Ok(_) => panic!(rt; "accepted: {input:?}"),
         }
     }
+}
+
+#[test]
+fn the_first_fault_of_a_file_is_named(rt: HostRuntime) {
+    let inputs: [(&[u8], InventoryFault, u32); 26] = [
+        (
+            b"unitadm-inventory 1\nF\t1\t/a",
+            InventoryFault::Truncated,
+            1,
+        ),
+        (
+            b"unitadm-inventory 1\nF\t1\t/a\n",
+            InventoryFault::Truncated,
+            1,
+        ),
+        (
+            b"unitadm-inventory 1\nF\t1\t/a\nx",
+            InventoryFault::Truncated,
+            1,
+        ),
+        (
+            b"unitadm-inventory 1\nF\t1\t/a\nx\n",
+            InventoryFault::Truncated,
+            2,
+        ),
+        (
+            b"unitadm-inventory 1\nF\t1\t/a\nxy\nend\n",
+            InventoryFault::BadLine,
+            1,
+        ),
+        (
+            b"unitadm-inventory 1\nF\t2\t/a\nx\nend\n",
+            InventoryFault::BadLine,
+            1,
+        ),
+        (b"unitadm-inventory 1\nF\t1\n", InventoryFault::BadLine, 1),
+        (
+            b"unitadm-inventory 1\nF\t1\t/a\tb\nx\n",
+            InventoryFault::BadLine,
+            1,
+        ),
+        (
+            b"unitadm-inventory 1\nF\t\t/a\nx\n",
+            InventoryFault::BadLine,
+            1,
+        ),
+        (
+            b"unitadm-inventory 1\nF\t01\t/a\nx\n",
+            InventoryFault::BadLine,
+            1,
+        ),
+        (
+            b"unitadm-inventory 1\nF\t00\t/a\n\n",
+            InventoryFault::BadLine,
+            1,
+        ),
+        (
+            b"unitadm-inventory 1\nF\t+1\t/a\nx\n",
+            InventoryFault::BadLine,
+            1,
+        ),
+        (
+            b"unitadm-inventory 1\nF\t-1\t/a\nx\n",
+            InventoryFault::BadLine,
+            1,
+        ),
+        (
+            b"unitadm-inventory 1\nF\t1 \t/a\nx\n",
+            InventoryFault::BadLine,
+            1,
+        ),
+        (
+            b"unitadm-inventory 1\nF\t0x1\t/a\nx\n",
+            InventoryFault::BadLine,
+            1,
+        ),
+        (
+            b"unitadm-inventory 1\nf\t1\t/a\nx\n",
+            InventoryFault::BadLine,
+            1,
+        ),
+        (
+            b"unitadm-inventory 1\nF\t1\ta\nx\n",
+            InventoryFault::BadPath,
+            1,
+        ),
+        (
+            b"unitadm-inventory 1\nF\t1\t\nx\n",
+            InventoryFault::BadPath,
+            1,
+        ),
+        (
+            b"unitadm-inventory 1\nF\t1048577\ta\n",
+            InventoryFault::BadPath,
+            1,
+        ),
+        (
+            b"unitadm-inventory 1\nF\t1048577\t/a\n",
+            InventoryFault::TooLarge,
+            1,
+        ),
+        (
+            b"unitadm-inventory 1\nF\t36893488147419103232\t/a\n",
+            InventoryFault::TooLarge,
+            1,
+        ),
+        (
+            b"unitadm-inventory 1\nF\t1048576\t/a\n",
+            InventoryFault::Truncated,
+            1,
+        ),
+        (
+            b"unitadm-inventory 1\nL\t/a\tb\nF\t1\t/a\nxy\n",
+            InventoryFault::BadLine,
+            2,
+        ),
+        (
+            b"unitadm-inventory 1\nL\t/a\tb\nF\t1\t/a\nx\n",
+            InventoryFault::Duplicate,
+            2,
+        ),
+        (
+            b"unitadm-inventory 1\nF\t0\t/a\n\nF\t1\t/a/b\nx\n",
+            InventoryFault::UnderEntry,
+            2,
+        ),
+        (
+            b"unitadm-inventory 1\nF\t1\t/etc\nx\n",
+            InventoryFault::BadShape,
+            1,
+        ),
+    ];
+    for (input, fault, number) in inputs {
+        match read(rt.alloc(), input) {
+            Err(error) => assert_eq!(rt; error, InventoryError::Fault(fault, number)),
+            Ok(_) => panic!(rt; "accepted: {input:?}"),
+        }
+    }
+}
+
+/// What a file holds may look like anything.
+#[test]
+fn files_hold_any_bytes(rt: HostRuntime) -> Result<(), Fail> {
+    let alloc = rt.alloc();
+    let tree = read(
+        alloc,
+        b"unitadm-inventory 1\nF\t10\t/b\nend\n\n\0\tL\t/\nF\t0\t/a\n\nend\n",
+    )?;
+    for (path, bytes) in [
+        (b"/b".as_slice(), b"end\n\n\0\tL\t/".as_slice()),
+        (b"/a", b""),
+    ] {
+        let path = ample!(TreePath::parse(alloc, path), PathError::OutOfMemory)?;
+        match tree.get(&path) {
+            Some(Entry::File(contents)) => assert_eq!(rt; contents.bytes(), bytes),
+            _ => panic!(rt; "no file"),
+        }
+    }
+    Ok(())
 }
 
 #[test]

@@ -7,16 +7,18 @@ use std::process::Abort;
 use std::test::Fail;
 use unit_name::ample;
 
-/// Links in no order; byte order of path isn't the order of directories.
-const LINKS: &[u8] = b"unitadm-inventory 1\nL\t/a/z\ty\nL\t/a-b/c\ty\nL\t/a/b/c\ty\nend\n";
+/// Entries in no order; byte order of path isn't the order of directories.
+const ENTRIES: &[u8] =
+    b"unitadm-inventory 1\nL\t/a/z\ty\nF\t4\t/a-b/c\na\nb\n\nF\t0\t/a/b/c\n\nend\n";
 
-const IN_ORDER: &[u8] = b"unitadm-inventory 1\nL\t/a-b/c\ty\nL\t/a/b/c\ty\nL\t/a/z\ty\nend\n";
+const IN_ORDER: &[u8] =
+    b"unitadm-inventory 1\nF\t4\t/a-b/c\na\nb\n\nF\t0\t/a/b/c\n\nL\t/a/z\ty\nend\n";
 
-fn links(alloc: Global) -> Result<Tree, InventoryError> {
-    let mut bytes = LINKS;
+fn entries(alloc: Global) -> Result<Tree, InventoryError> {
+    let mut bytes = ENTRIES;
     ample!(
         {
-            bytes = LINKS;
+            bytes = ENTRIES;
             read_inventory(alloc, &mut FromRead::new(&mut bytes))
         },
         InventoryError::OutOfMemory
@@ -44,7 +46,7 @@ fn assert_written(
 #[test]
 fn entries_are_written_in_order(rt: HostRuntime) -> Result<(), Fail> {
     let alloc = rt.alloc();
-    assert_written(&rt, alloc, &links(alloc)?, IN_ORDER)?;
+    assert_written(&rt, alloc, &entries(alloc)?, IN_ORDER)?;
     assert_written(
         &rt,
         alloc,
@@ -66,7 +68,7 @@ fn trees_change_at_slots(rt: HostRuntime) -> Result<(), Fail> {
         after: Some(ample!(entry.copy(), AllocError)?),
     };
     let made = ample!(change.copy(), AllocError)?;
-    let tree = links(alloc)?;
+    let tree = entries(alloc)?;
     assert!(rt; Slot::of(&made.path).is_some());
     assert!(rt; tree.get(&made.path).is_none() && made.before.is_none());
     let changes = [made];

@@ -1,16 +1,8 @@
-use Rattle.std.proofs.Common.{◌≡◌, true, cond, List, ℕ, Option, sym, ◌∙◌, ap, [], Some, None}
+use Rattle.std.proofs.Common.{sym, ◌∙◌, ap}
 use Rattle.std.specs.Prelude.{is_some}
-use Rattle.link_tree.specs.Paths.{is_path}
 use Rattle.link_tree.specs.Slots.{unit_slot, slot_of}
-use Rattle.link_tree.proofs.UnitSlots.{unit_slot_path, unit_slot_is}
+use Rattle.link_tree.proofs.UnitSlots.{unit_slot_path, unit_slot_is, found_path, text_of}
 use Rattle.link_tree.proofs.slot.Place.slot.Goals as goal
-
-found_path : (text path : List ℕ) (o : Option (List ℕ)) → text ≡ path → o ≡ cond (is_path text) (Some text) None → is_path path ≡ true → o ≡ Some path
-found_path text path o same is good = is ∙ ap (λ (t : List ℕ). cond (is_path t) (Some t) None) same ∙ ap (λ b. cond b (Some path) None) good
-
-abbrev text_of : Option (List ℕ) → List ℕ
-text_of None = []
-text_of (Some text) = text
 
 pub unwrap-requires : goal.unwrap-requires
 unwrap-requires c =

@@ -1,0 +1,7 @@
+-- Files.
+use Rattle.std.specs.Prelude.{ℕ, Bool, nat_le, List, length}
+use Rattle.link_tree.specs.declared.fault.TheConstants.{MAX_FILE}
+
+-- what a file may hold: at most 1 MiB
+unfoldable pub is_contents : List ℕ → Bool
+is_contents bytes = nat_le (length bytes) MAX_FILE

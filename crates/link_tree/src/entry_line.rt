@@ -1,0 +1,168 @@
+//! The lines of an inventory, one for each entry.
+#![tactic(auto, using(crate::proofs::Known::known))]
+
+ghost use Rattle.std.specs.Prelude.{◌≡◌, ◌<◌, ◌+◌, ℕ, min, true, List, length, codes, Option, IfOk, IfSome, Some};
+ghost use Rattle.std.specs.Option.{option_map};
+ghost use Rattle.std.specs.List.{list_all, position};
+ghost use Rattle.std.specs.Char.{is_ascii_digit};
+ghost use Rattle.std.specs.Str.Parse.{digits_value};
+ghost use Rattle.link_tree.specs.EntryLines.{is_tab, cut_at_tab, two_fields, fields_of, is_length, length_of, path_of, target_of, file_line, link_line, by_letter, line_of, IsSized};
+ghost use Rattle.link_tree.specs.Reads.{Gives, path_error_seen, target_error_seen};
+
+use crate::entry::Target;
+use crate::fault::{MAX_FILE, PathError, TargetError};
+use crate::inventory::{InventoryFault, LineError};
+use crate::path::TreePath;
+use std::alloc::Global;
+
+/// What a line of an inventory says.
+#[derive(Debug, Drop)]
+pub(crate) enum EntryLine {
+    /// A file of so many bytes stands at the path; they follow.
+    File(TreePath, usize),
+    /// A link stands at the path.
+    Link(TreePath, Target),
+    /// There are no more entries.
+    End,
+}
+
+/// What a line says.
+#[tactic(auto, unfolding(crate::specs::EntryLines::line_of))]
+pub(crate) fn line_of(alloc: Global, line: &[u8]) -> Result<EntryLine, LineError>
+    ensures line { Gives (λ x. x) result (line_of line.now) }
+    ensures sized { IfOk result IsSized }
+{
+    if line == b"end".as_slice() {
+        return Ok(EntryLine::End);
+    }
+    match (fields_of(b'F', line), fields_of(b'L', line)) {
+        (Some((length, path)), _) => file_line(alloc, length, path),
+        (None, Some((path, target))) => link_line(alloc, path, target),
+        (None, None) => Err(LineError::Fault(InventoryFault::BadLine)),
+    }
+}
+
+fn file_line(alloc: Global, length: &[u8], path: &[u8]) -> Result<EntryLine, LineError>
+    ensures line { Gives (λ x. x) result (file_line (length_of length.now) path.now) }
+    ensures sized { IfOk result IsSized }
+{
+    let Some(length) = length_of(length) else {
+        return Err(LineError::Fault(InventoryFault::BadLine));
+    };
+    let path = path_of(alloc, path)?;
+    if length > MAX_FILE {
+        return Err(LineError::Fault(InventoryFault::TooLarge));
+    }
+    Ok(EntryLine::File(path, length))
+}
+
+fn link_line(alloc: Global, path: &[u8], target: &[u8]) -> Result<EntryLine, LineError>
+    ensures line { Gives (λ x. x) result (link_line path.now target.now) }
+    ensures sized { IfOk result IsSized }
+{
+    Ok(EntryLine::Link(path_of(alloc, path)?, target_of(alloc, target)?))
+}
+
+fn path_of(alloc: Global, text: &[u8]) -> Result<TreePath, LineError>
+    ensures { Gives (λ path. path) result (path_of text.now) }
+{
+    TreePath::parse(alloc, text).map_err(path_error)
+}
+
+fn target_of(alloc: Global, text: &[u8]) -> Result<Target, LineError>
+    ensures { Gives (λ target. target) result (target_of text.now) }
+{
+    Target::parse(alloc, text).map_err(target_error)
+}
+
+/// The number of a file's bytes, as far as a file may have so many, and one more beyond that.
+fn length_of(text: &[u8]) -> Option<usize>
+    ensures { result ≡ option_map (min (MAX_FILE + 1)) (length_of text.now) }
+{
+    if is_length(text) {
+        Some(value_of(text))
+    } else {
+        None
+    }
+}
+
+#[tactic(auto, unfolding(crate::specs::EntryLines::is_length))]
+fn is_length(text: &[u8]) -> bool
+    ensures { result ≡ is_length text.now }
+{
+    match text {
+        [] => false,
+        [first, rest @ ..] => is_number(text) && (rest.is_empty() || *first != b'0'),
+    }
+}
+
+fn is_number(text: &[u8]) -> bool
+    ensures { result ≡ list_all is_ascii_digit text.now }
+{
+    text.iter().all(|b| b.is_ascii_digit())
+}
+
+/// The number that digits write, as far as a file may have so many bytes.
+fn value_of(digits: &[u8]) -> usize
+    requires { list_all is_ascii_digit digits.now ≡ true }
+    ensures { result ≡ min (MAX_FILE + 1) (digits_value 10 digits.now) }
+{
+    let mut value = 0;
+    for digit in digits {
+        value = (value * 10 + usize::from(*digit - b'0')).min(MAX_FILE + 1);
+    }
+    value
+}
+
+fn find_tab(text: &[u8]) -> Option<usize>
+    ensures place { result ≡ position is_tab text.now }
+    ensures within { IfSome result (λ i. i < length text.now) }
+{
+    text.iter().position(|b| *b == b'\t')
+}
+
+fn cut_at_tab(text: &[u8]) -> Option<(&[u8], &[u8])>
+    ensures { option_map (λ x. (x.0.now, x.1.now)) result ≡ cut_at_tab text.now }
+{
+    match find_tab(text) {
+        Some(tab) => Some((&text[..tab], &text[tab + 1..])),
+        None => None,
+    }
+}
+
+/// The two fields behind a letter, with a tab before each.
+fn fields_of(letter: u8, line: &[u8]) -> Option<(&[u8], &[u8])>
+    ensures { option_map (λ x. (x.0.now, x.1.now)) result ≡ fields_of letter line.now }
+{
+    match line {
+        [first, b'\t', rest @ ..] if *first == letter => two_fields(rest),
+        _ => None,
+    }
+}
+
+fn two_fields(text: &[u8]) -> Option<(&[u8], &[u8])>
+    ensures { option_map (λ x. (x.0.now, x.1.now)) result ≡ two_fields (cut_at_tab text.now) }
+{
+    match cut_at_tab(text) {
+        Some((first, second)) if !second.contains(&b'\t') => Some((first, second)),
+        _ => None,
+    }
+}
+
+fn path_error(e: PathError) -> LineError
+    ensures { result ≡ path_error_seen e }
+{
+    match e {
+        PathError::BadPath => LineError::Fault(InventoryFault::BadPath),
+        PathError::OutOfMemory => LineError::OutOfMemory,
+    }
+}
+
+fn target_error(e: TargetError) -> LineError
+    ensures { result ≡ target_error_seen e }
+{
+    match e {
+        TargetError::BadTarget => LineError::Fault(InventoryFault::BadPath),
+        TargetError::OutOfMemory => LineError::OutOfMemory,
+    }
+}
