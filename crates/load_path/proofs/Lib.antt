@@ -1,0 +1,10 @@
+pub mod Steps
+pub mod Names
+pub mod Once
+pub mod Counts
+pub mod Places
+pub mod Files
+pub mod Units
+pub mod Chains
+pub mod Dangles
+pub mod Follows

@@ -1,0 +1,8 @@
+use Rattle.load_path.proofs.Places.{place_is_entrys, missing_has_no_entry}
+use Rattle.load_path.proofs.laws.the_first_entry_counts.Goals as goal
+
+pub returns-clause-place : goal.returns-clause-place
+returns-clause-place c = place_is_entrys
+
+pub returns-clause-missing : goal.returns-clause-missing
+returns-clause-missing c = missing_has_no_entry

@@ -1,0 +1,112 @@
+-- Laws of looking up, each the contract of a public function.
+use Rattle.std.specs.Prelude.{◌≡◌, ◌≤◌, ◌↔◌, ◌⊎◌, ℕ, true, List, length, Contains, Option, Some, None, is_some}
+use Rattle.std.specs.List.{find as first_of, IsDistinct}
+use Rattle.std.specs.Option.{option_or}
+use Rattle.std.specs.Str.{bytes_eq}
+use Rattle.std.specs.FinMap as map
+use Rattle.unit_name.specs.declared.kind.Kind.{Kind}
+use Rattle.unit_name.specs.declared.kind.Kind.TheVariants.{Plain, Instance}
+use Rattle.unit_name.specs.Parts.{kind_of}
+use Rattle.unit_name.specs.Name.{is_unit_name, type_of, instance_of, template_of}
+use Rattle.link_tree.specs.Slots.{places, unit_slot, name_at}
+use Rattle.link_tree.specs.Trees.{Entries}
+use Rattle.link_tree.specs.declared.slot.Place.{Place}
+use Rattle.load_path.specs.declared.following.End.{End}
+use Rattle.load_path.specs.declared.following.End.TheVariants as ends
+use Rattle.load_path.specs.declared.finding.Found.{Found}
+use Rattle.load_path.specs.declared.finding.Found.TheVariants.{Missing, Masked, Dangling, Unit}
+use Rattle.load_path.specs.Search.{SameAt, Search, each_once}
+use Rattle.load_path.specs.Follow.{follow}
+use Rattle.load_path.specs.Chains.{IsFileAt, IsLinkAt, Leads, LeadsTo}
+use Rattle.load_path.specs.Find.{find}
+
+-- Each cell of a list is there once, and no other.
+abbrev pub CellsOnce : Type 0
+CellsOnce = (cells : List (List ℕ)) → IsDistinct bytes_eq (each_once cells) × ((path : List ℕ) → Contains (each_once cells) path ↔ Contains cells path)
+
+-- In trees that have the same entries at the cells of a search it comes to the same, by the same cells.
+abbrev pub Agrees : {X : Type 0} → Search X → Type 0
+Agrees s = (t u : Entries) → SameAt (each_once (s.cells t)) t u → (s.conclusion t ≡ s.conclusion u) × (each_once (s.cells t) ≡ each_once (s.cells u))
+
+abbrev pub FollowAgrees : Type 0
+FollowAgrees = (path : List ℕ) → Agrees (follow path)
+
+abbrev pub FindAgrees : Type 0
+FindAgrees = (name : List ℕ) → Agrees (find name)
+
+-- So many cells are looked at or fewer, also where each counts as often as it is looked at.
+abbrev pub LooksAtMost : {X : Type 0} → ℕ → Search X → Type 0
+LooksAtMost most s = (t : Entries) → (length (s.cells t) ≤ most) × (length (each_once (s.cells t)) ≤ most)
+
+abbrev pub FollowIsShort : Type 0
+FollowIsShort = (path : List ℕ) → LooksAtMost 9 (follow path)
+
+abbrev pub FindIsShort : Type 0
+FindIsShort = (name : List ℕ) → LooksAtMost 16 (find name)
+
+-- Where a path leads is where its chain of at most eight links ends.
+abbrev pub FollowIsChain : Type 0
+FollowIsChain = (path : List ℕ) (end : End) (t : Entries) → ((follow path).conclusion t ≡ end) ↔ LeadsTo t 8 path end
+
+-- It leads to a file exactly where at most eight links lead there.
+abbrev pub FileIsLed : Type 0
+FileIsLed = (path file : List ℕ) (t : Entries) → ((follow path).conclusion t ≡ ends.File file) ↔ ((links : ℕ) × (links ≤ 8) × Leads t path links file × IsFileAt t file)
+
+-- the first directory that has an entry for a name
+abbrev pub first_place : Entries → List ℕ → Option Place
+first_place t name = first_of (λ place. is_some (map.get t (unit_slot place name))) places
+
+-- for an instance, the first that has one for its template
+abbrev pub template_place : Kind → Entries → List ℕ → Option Place
+template_place Instance t name = first_place t (template_of name)
+template_place other t name = None
+
+-- the directory of a name's entry
+abbrev pub entry_place : Entries → List ℕ → Option Place
+entry_place t name = option_or (first_place t name) (template_place (kind_of (instance_of name)) t name)
+
+-- the directory that an answer names
+abbrev pub place_in : Found → Option Place
+place_in Missing = None
+place_in (Masked place) = Some place
+place_in (Dangling link) = None
+place_in (Unit real file place) = Some place
+
+-- The directory that is named is that of the entry, wherever the file lies.
+abbrev pub PlaceIsEntrys : Type 0
+PlaceIsEntrys = (name : List ℕ) (t : Entries) (place : Place) → place_in ((find name).conclusion t) ≡ Some place → entry_place t name ≡ Some place
+
+-- A unit is missing exactly where no directory has an entry for it.
+abbrev pub MissingHasNoEntry : Type 0
+MissingHasNoEntry = (name : List ℕ) (t : Entries) → ((find name).conclusion t ≡ Missing) ↔ (entry_place t name ≡ None)
+
+-- the slot of a name in a directory, or of its template
+abbrev pub IsSlotOf : List ℕ → Place → List ℕ → Type 0
+IsSlotOf name place path = (path ≡ unit_slot place name) ⊎ (path ≡ unit_slot place (template_of name))
+
+-- A unit's file is where its slot leads.
+abbrev pub UnitIsFollowed : Type 0
+UnitIsFollowed = (name : List ℕ) (t : Entries) (real file : List ℕ) (place : Place) → (find name).conclusion t ≡ Unit real file place
+    → (path : List ℕ) × IsSlotOf name place path × ((follow path).conclusion t ≡ ends.File file)
+
+-- The slot of a masked one leads to /dev/null or to an empty file.
+abbrev pub MaskedIsFollowed : Type 0
+MaskedIsFollowed = (name : List ℕ) (t : Entries) (place : Place) → (find name).conclusion t ≡ Masked place
+    → (path : List ℕ) × IsSlotOf name place path × ((follow path).conclusion t ≡ ends.Null)
+
+-- What dangles is a link, where a unit's name is looked up.
+abbrev pub DanglingIsLink : Type 0
+DanglingIsLink = (name : List ℕ) (t : Entries) (link : List ℕ) → is_unit_name name ≡ true → (find name).conclusion t ≡ Dangling link → IsLinkAt t link
+
+-- A unit has a file, and that isn't empty.
+abbrev pub UnitHasFile : Type 0
+UnitHasFile = (name : List ℕ) (t : Entries) (real file : List ℕ) (place : Place) → (find name).conclusion t ≡ Unit real file place → IsFileAt t file
+
+-- A unit has a name, of the type and with the instance of the one that led to it.
+abbrev pub UnitIsLikeName : Type 0
+UnitIsLikeName = (name : List ℕ) (t : Entries) (real file : List ℕ) (place : Place) → (find name).conclusion t ≡ Unit real file place
+    → (is_unit_name real ≡ true) × (type_of real ≡ type_of name) × (instance_of real ≡ instance_of name)
+
+-- Where a plain name leads to a unit, that is named as its file.
+abbrev pub PlainIsItsFile : Type 0
+PlainIsItsFile = (name : List ℕ) (t : Entries) (real file : List ℕ) (place : Place) → kind_of (instance_of name) ≡ Plain → (find name).conclusion t ≡ Unit real file place → real ≡ name_at file

@@ -1,0 +1,4 @@
+mod chains;
+mod names;
+mod places;
+mod trees;
