@@ -1,0 +1,6 @@
+pub mod KeySets
+pub mod Parts
+pub mod Agreed
+pub mod Outcomes
+pub mod Untouched
+pub mod Commute

@@ -1,0 +1,6 @@
+use Rattle.std.proofs.Common.{◌≡◌, ◌++◌, map}
+use Rattle.footprint.specs.Readings.{observed}
+use Rattle.footprint.proofs.keys.KeySet.read.Given as goal
+
+abbrev pub invariant-loop-key : goal.invariant-loop-key
+invariant-loop-key l = l.reading ++ map (observed l.tree) l.key-iterator ≡ map (observed l.tree) l.initial.key-iterator

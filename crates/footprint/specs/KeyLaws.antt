@@ -1,0 +1,97 @@
+-- What keys see of trees, path by path, and after changes.
+use Rattle.std.proofs.Common.{◌≡◌, ℕ, Bool, true, false, cond, List, [], ◌∷◌, Option, Some, None, refl, sym, ap, ◌∙◌, inl, inr, subst}
+use Rattle.std.specs.FinMap as map
+use Rattle.std.specs.FinMap.{get-retain_keys}
+use Rattle.std.specs.Str.{bytes_eq}
+use Rattle.std.proofs.lemmas.Bool.{cases_Bool}
+use Rattle.std.proofs.lemmas.Map.Lookups.{exact_bytes}
+use Rattle.std.proofs.lemmas.Slice.Eq.{bytes_eq-Decides}
+use Rattle.link_tree.specs.declared.entry.Entry.{Entry}
+use Rattle.link_tree.specs.declared.entry.Change.{Change}
+use Rattle.link_tree.specs.Trees.{Entries, after_changes}
+use Rattle.link_tree.proofs.Changed.{same_tree, same_bytes, after_at, get-after_changes}
+use Rattle.footprint.specs.declared.key.Key.{Key}
+use Rattle.footprint.specs.declared.key.Key.TheVariants.{Cell, Marked, Presets, Links}
+use Rattle.footprint.specs.declared.reading.Seen.TheVariants as seens
+use Rattle.footprint.specs.Keys.{shows, shown, part, Agree}
+
+-- the key sees the same at each path
+abbrev pub AgreeAt : Key → Entries → Entries → Type 0
+AgreeAt key t u = (path : List ℕ) → shown key path (map.get t path) ≡ shown key path (map.get u path)
+
+-- what stands in the part of a tree that a key looks at
+pub get-part : (key : Key) (t : Entries) (path : List ℕ) → map.get (part key t) path ≡ shown key path (map.get t path)
+unfolding part
+get-part key t path =
+    get-retain_keys t (λ p. shows key p (map.get t p)) path (λ x same. ap (λ p. shows key p (map.get t p)) (sym (exact_bytes path x same)))
+
+pub same_part : (key : Key) (t u : Entries) → AgreeAt key t u → part key t ≡ part key u
+same_part key t u alike = same_tree _ _ (λ path. get-part key t path ∙ alike path ∙ sym (get-part key u path))
+
+part_alike : (key : Key) (t u : Entries) → part key t ≡ part key u → AgreeAt key t u
+part_alike key t u same path = sym (get-part key t path) ∙ ap (λ m. map.get m path) same ∙ get-part key u path
+
+shown_itself : (path : List ℕ) (there : Option Entry) → shown (Cell path) path there ≡ there
+shown_itself path None = refl
+shown_itself path (Some entry) = ap (λ b. cond b (Some entry) None) ((bytes_eq-Decides path path).1 refl)
+
+shown_other : (cell path : List ℕ) (there : Option Entry) → bytes_eq path cell ≡ false → shown (Cell cell) path there ≡ None
+shown_other cell path None away = refl
+shown_other cell path (Some entry) away = ap (λ b. cond b (Some entry) None) away
+
+cell_alike : (cell : List ℕ) (t u : Entries) → map.get t cell ≡ map.get u cell → AgreeAt (Cell cell) t u
+cell_alike cell t u same path = elim (cases_Bool (bytes_eq path cell)) [
+  | inl here ↦ subst (λ p. shown (Cell cell) p (map.get t p) ≡ shown (Cell cell) p (map.get u p)) (sym (same_bytes path cell here)) (ap (shown (Cell cell) cell) same)
+  | inr away ↦ shown_other cell path (map.get t path) away ∙ sym (shown_other cell path (map.get u path) away)
+]
+
+-- where trees agree on a cell, the same stands there
+pub same_there : (cell : List ℕ) (t u : Entries) → Agree (Cell cell) t u → map.get t cell ≡ map.get u cell
+same_there cell t u agree = cc
+
+-- trees agree on a key where it sees the same at each path
+pub agree_from : (key : Key) (t u : Entries) → AgreeAt key t u → Agree key t u
+agree_from (Cell cell) t u alike = ap seens.Entry (sym (shown_itself cell (map.get t cell)) ∙ alike cell ∙ shown_itself cell (map.get u cell))
+agree_from (Marked scope name) t u alike = ap seens.Entries (same_part (Marked scope name) t u alike)
+agree_from Presets t u alike = ap seens.Entries (same_part Presets t u alike)
+agree_from Links t u alike = ap seens.Entries (same_part Links t u alike)
+
+pub agree_at : (key : Key) (t u : Entries) → Agree key t u → AgreeAt key t u
+agree_at (Cell cell) t u agree = cell_alike cell t u (same_there cell t u agree)
+agree_at (Marked scope name) t u agree = let same : part (Marked scope name) t ≡ part (Marked scope name) u = cc in part_alike (Marked scope name) t u same
+agree_at Presets t u agree = let same : part Presets t ≡ part Presets u = cc in part_alike Presets t u same
+agree_at Links t u agree = let same : part Links t ≡ part Links u = cc in part_alike Links t u same
+
+-- whether some change is of the path
+abbrev pub is_changed : List Change → List ℕ → Bool
+is_changed [] path = false
+is_changed (change ∷ changes) path = cond (bytes_eq path change.path) true (is_changed changes path)
+
+pub unchanged : (changes : List Change) (path : List ℕ) (there : Option Entry) → is_changed changes path ≡ false → after_at changes path there ≡ there
+unchanged [] path there away = refl
+unchanged (c ∷ cs) path there away = elim (cases_Bool (bytes_eq path c.path)) [
+  | inl here ↦ absurd (true_false (sym (ap (λ b. cond b true (is_changed cs path)) here) ∙ away))
+  | inr other ↦ ap (λ b. after_at cs path (cond b c.after there)) other ∙ unchanged cs path there (sym (ap (λ b. cond b true (is_changed cs path)) other) ∙ away)
+]
+  where
+    true_false : true ≡ false → ⊥
+    true_false h = cc
+
+-- what changes leave at a path that one of them is of, whatever stood there
+pub after_any : (changes : List Change) (path : List ℕ) (there other : Option Entry) → is_changed changes path ≡ true → after_at changes path there ≡ after_at changes path other
+after_any [] path there other changed = cc
+after_any (c ∷ cs) path there other changed = elim (cases_Bool (bytes_eq path c.path)) [
+  | inl here ↦ ap (λ b. after_at cs path (cond b c.after there)) here ∙ sym (ap (λ b. after_at cs path (cond b c.after other)) here)
+  | inr away ↦
+      ap (λ b. after_at cs path (cond b c.after there)) away
+      ∙ after_any cs path there other (sym (ap (λ b. cond b true (is_changed cs path)) away) ∙ changed)
+      ∙ sym (ap (λ b. after_at cs path (cond b c.after other)) away)
+]
+
+-- Trees that agree on a key agree on it after the same changes.
+pub agree_after : (key : Key) (changes : List Change) (t u : Entries) → Agree key t u → Agree key (after_changes changes t) (after_changes changes u)
+agree_after key changes t u agree = agree_from key (after_changes changes t) (after_changes changes u) (λ path.
+    ap (shown key path) (get-after_changes changes t path) ∙ (elim (cases_Bool (is_changed changes path)) [
+      | inl here ↦ ap (shown key path) (after_any changes path (map.get t path) (map.get u path) here)
+      | inr away ↦ ap (shown key path) (unchanged changes path (map.get t path) away) ∙ agree_at key t u agree path ∙ sym (ap (shown key path) (unchanged changes path (map.get u path) away))
+    ]) ∙ sym (ap (shown key path) (get-after_changes changes u path)))

@@ -1,0 +1,81 @@
+-- What a key sees of a tree, and which changes touch it.
+use Rattle.std.specs.Prelude.{◌≡◌, ℕ, Bool, true, false, ◌||◌, if◌then◌else◌, List, All, Option, Some, None}
+use Rattle.std.specs.Str.{bytes_eq}
+use Rattle.std.specs.FinMap as map
+use Rattle.link_tree.specs.declared.entry.Entry.{Entry}
+use Rattle.link_tree.specs.declared.entry.Change.{Change}
+use Rattle.link_tree.specs.declared.slot.Scope.{Scope}
+use Rattle.link_tree.specs.declared.slot.Slot.{Slot}
+use Rattle.link_tree.specs.declared.slot.Slot.TheVariants as slots
+use Rattle.link_tree.specs.Slots.{slot_of}
+use Rattle.link_tree.specs.Trees.{Entries}
+use Rattle.footprint.specs.declared.key.Key.{Key}
+use Rattle.footprint.specs.declared.key.Key.TheVariants.{Cell, Marked, Presets, Links}
+use Rattle.footprint.specs.declared.reading.Seen.{Seen}
+use Rattle.footprint.specs.declared.reading.Seen.TheVariants as seens
+use Rattle.footprint.specs.Belonging.{belongs}
+
+abbrev pub is_preset : Option Slot → Bool
+is_preset (Some (slots.Preset place)) = true
+is_preset slot = false
+
+abbrev pub is_dependency : Option Slot → Bool
+is_dependency (Some (slots.Wants place)) = true
+is_dependency (Some (slots.Requires place)) = true
+is_dependency slot = false
+
+abbrev pub is_cell : Key → Bool
+is_cell (Cell path) = true
+is_cell key = false
+
+-- whether a key looks at an entry that stands at a path
+abbrev pub selects : Key → (path : List ℕ) → Entry → Bool
+selects (Cell cell) path entry = bytes_eq path cell
+selects (Marked scope name) path entry = belongs scope name path entry
+selects Presets path entry = is_preset (slot_of path)
+selects Links path entry = is_dependency (slot_of path)
+
+-- whether it looks at what stands there, if anything does
+abbrev pub shows : Key → (path : List ℕ) → Option Entry → Bool
+shows key path None = false
+shows key path (Some entry) = selects key path entry
+
+-- what it sees there
+abbrev pub shown : Key → (path : List ℕ) → Option Entry → Option Entry
+shown key path there = if shows key path there then there else None
+
+-- the entries of a tree that a key looks at
+unfoldable pub part : Key → Entries → Entries
+part key t = map.retain_keys t (λ path. shows key path (map.get t path))
+
+-- What a key sees of a tree: what stands at the cell, or the set of entries that it looks at.
+abbrev pub seen : Key → Entries → Seen
+seen (Cell path) t = seens.Entry (map.get t path)
+seen (Marked scope name) t = seens.Entries (part (Marked scope name) t)
+seen Presets t = seens.Entries (part Presets t)
+seen Links t = seens.Entries (part Links t)
+
+-- Two trees agree on a key where it sees the same in both,
+abbrev pub Agree : Key → Entries → Entries → Type 0
+Agree key t u = seen key t ≡ seen key u
+
+-- and on keys where they agree on each.
+abbrev pub AgreeOn : List Key → Entries → Entries → Type 0
+AgreeOn keys t u = All (λ key. Agree key t u) keys
+
+-- whether an entry before or after a change belongs to a name
+abbrev pub is_marked : Scope → (name path : List ℕ) → Option Entry → Bool
+is_marked scope name path None = false
+is_marked scope name path (Some entry) = belongs scope name path entry
+
+-- A change touches the cell of its path, the names in a scope to which its entry before or after belongs, the presets where
+-- its path is one of theirs, and the links where it is that of a dependency.
+abbrev pub touches : Change → Key → Bool
+touches change (Cell path) = bytes_eq change.path path
+touches change (Marked scope name) = is_marked scope name change.path change.before || is_marked scope name change.path change.after
+touches change Presets = is_preset (slot_of change.path)
+touches change Links = is_dependency (slot_of change.path)
+
+-- no change of these touches one of the keys
+abbrev pub Untouched : List Change → List Key → Type 0
+Untouched changes keys = All (λ key. All (λ change. touches change key ≡ false) changes) keys

@@ -1,0 +1,12 @@
+pub mod Belonging
+pub mod Keys
+pub mod Order
+pub mod Readings
+pub mod Seeing
+pub mod KeyLaws
+pub mod Inquiry
+pub mod Operations
+pub mod Steps
+pub mod Edits
+pub mod Commands
+pub mod Laws

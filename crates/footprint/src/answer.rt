@@ -1,0 +1,50 @@
+//! What operations answer.
+ghost use Rattle.std.specs.Prelude.{◌≡◌, IfOk};
+
+use crate::notice::Notices;
+use crate::refusal::Refusal;
+use crate::units::Units;
+use std::alloc::AllocError;
+use unit_name::UnitName;
+
+/// Whether a unit is enabled: systemctl(1), `is-enabled`.
+#[derive(Clone, Copy, Debug, PartialEq, Eq)]
+pub enum StateWord {
+    NotFound,
+    Masked,
+    MaskedRuntime,
+    Alias,
+    Enabled,
+    EnabledRuntime,
+    Linked,
+    LinkedRuntime,
+    Static,
+    Indirect,
+    Disabled,
+}
+
+/// What an operation answers.
+#[derive(Debug, Drop)]
+pub enum Answer {
+    /// It is done, but for what the notices tell.
+    Done(Notices),
+    State(StateWord),
+    Name(UnitName),
+    Names(Units),
+    Refused(Refusal),
+}
+
+impl Answer {
+    /// An equal answer.
+    pub fn copy(&self) -> Result<Answer, AllocError>
+        ensures { IfOk result (λ answer. answer ≡ self.now) }
+    {
+        match self {
+            Answer::Done(notices) => Ok(Answer::Done(notices.copy()?)),
+            Answer::State(word) => Ok(Answer::State(*word)),
+            Answer::Name(name) => Ok(Answer::Name(name.copy()?)),
+            Answer::Names(names) => Ok(Answer::Names(names.copy()?)),
+            Answer::Refused(refusal) => Ok(Answer::Refused(refusal.copy()?)),
+        }
+    }
+}

@@ -1,0 +1,133 @@
+//! Trees that are edited.
+ghost use Rattle.std.specs.Prelude.{◌≡◌, true, All, IfOk};
+ghost use Rattle.link_tree.specs.Slots.{is_slot};
+ghost use Rattle.link_tree.specs.Trees.{set_entry};
+ghost use Rattle.link_tree.specs.Differences.{changes_between};
+ghost use Rattle.footprint.specs.Steps.{ruled_at};
+ghost use Rattle.footprint.specs.Edits.{stepped, ended};
+
+use crate::answer::Answer;
+use crate::changes::Changes;
+use crate::keys::Keys;
+use crate::net::NetChanges;
+use crate::notice::Notices;
+use crate::outcome::Outcome;
+use crate::reading::Reading;
+use crate::refusal::Refusal;
+use link_tree::{Entry, Tree, TreePath};
+use load_path::Cells;
+use std::alloc::{AllocError, Global};
+use std::marker::Model;
+
+/// A tree as it was, and as it is now. Contracts see the two.
+#[derive(Drop)]
+pub struct Edit<'a> {
+    first: &'a Tree,
+    tree: Tree,
+    changes: NetChanges,
+}
+
+impl<'a> Model for Edit<'a> {
+    ghost use Rattle.std.specs.FinMap as map;
+    ghost use Rattle.std.specs.Coded.{coded×};
+    ghost use Rattle.link_tree.specs.Trees.{Entries};
+    ghost use Rattle.link_tree.specs.Values.{coded_path, coded_entry};
+    ghost use Rattle.footprint.specs.Edits.{IsEdit};
+
+    ghost Value = { Entries × Entries };
+
+    ghost coded = { coded× (map.code coded_path coded_entry) (map.code coded_path coded_entry) };
+
+    ghost view = { λ edit. (edit.first.now, edit.tree) };
+
+    ghost invariant = { λ edit. IsEdit edit.first.now edit.tree edit.changes };
+}
+
+impl<'a> Edit<'a> {
+    /// A tree that is not changed yet.
+    pub fn new(alloc: Global, tree: &'a Tree) -> Result<Edit<'a>, AllocError>
+        ensures { IfOk result (λ edit. edit ≡ (tree.now, tree.now)) }
+    {
+        Ok(Edit {
+            first: tree,
+            tree: tree.copy()?,
+            changes: NetChanges::none(alloc),
+        })
+    }
+
+    /// The tree as it is now.
+    pub fn tree(&self) -> &Tree
+        ensures { result.now ≡ self.now.1 }
+    {
+        &self.tree
+    }
+
+    /// Puts an entry at a slot in place of what stands there, or with `None` takes that away.
+    pub fn with(self, slot: &TreePath, entry: Option<Entry>) -> Result<Edit<'a>, AllocError>
+        requires { is_slot slot.now ≡ true }
+        ensures { IfOk result (λ edit. edit ≡ (self.entry.0, set_entry self.entry.1 slot.now entry)) }
+    {
+        let first = self.first;
+        let mut tree = self.tree;
+        let mut changes = self.changes;
+        changes.note(slot, first.get(slot), &entry)?;
+        tree.set(slot, entry)?;
+        Ok(Edit {
+            first,
+            tree,
+            changes,
+        })
+    }
+
+    /// Leaves a slot as a rule says there, unless that refuses.
+    pub fn ruled(
+        self,
+        slot: &TreePath,
+        ruled: Result<Option<Entry>, Refusal>,
+    ) -> Result<Result<Edit<'a>, Refusal>, AllocError>
+        requires { is_slot slot.now ≡ true }
+        ensures { IfOk result (λ done. done ≡ stepped (ruled_at slot.now ruled) self.entry) }
+    {
+        match ruled {
+            Ok(entry) => Ok(Ok(self.with(slot, entry)?)),
+            Err(refusal) => Ok(Err(refusal)),
+        }
+    }
+
+    /// All that has changed.
+    pub fn into_changes(self, alloc: Global) -> Result<Changes, AllocError>
+        ensures changes { IfOk result (λ changes. changes ≡ changes_between self.entry.0 self.entry.1) }
+        ensures slots { IfOk result (λ changes. All (λ change. is_slot change.path ≡ true) changes) }
+    {
+        self.changes.into_changes(alloc)
+    }
+}
+
+impl Outcome {
+    /// What has become of a tree that was edited, or the refusal, where these cells of it were looked at.
+    pub fn of(
+        alloc: Global,
+        tree: &Tree,
+        cells: &Cells,
+        done: Result<Edit<'_>, Refusal>,
+    ) -> Result<Outcome, AllocError>
+        ensures outcome { IfOk result (λ outcome. outcome ≡ ended tree.now cells.now done.entry) }
+        ensures slots { IfOk result (λ outcome. All (λ change. is_slot change.path ≡ true) outcome.changes) }
+    {
+        let mut keys = Keys::none(alloc);
+        keys.push_cells(cells)?;
+        let reading = Reading::of(alloc, tree, keys)?;
+        match done {
+            Ok(edit) => Ok(Outcome {
+                answer: Answer::Done(Notices::none(alloc)),
+                changes: edit.into_changes(alloc)?,
+                reading,
+            }),
+            Err(refusal) => Ok(Outcome {
+                answer: Answer::Refused(refusal),
+                changes: Changes::none(alloc),
+                reading,
+            }),
+        }
+    }
+}

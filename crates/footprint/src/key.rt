@@ -1,0 +1,83 @@
+//! What an operation looks at.
+ghost use Rattle.std.specs.Prelude.{◌≡◌, IfOk};
+ghost use Rattle.link_tree.specs.Slots.{slot_of};
+ghost use Rattle.footprint.specs.Keys.{is_preset, is_dependency, selects};
+ghost use Rattle.footprint.specs.Order.{rank};
+
+use crate::belonging::belongs;
+use link_tree::{Entry, Scope, Slot, TreePath};
+use std::alloc::AllocError;
+use unit_name::UnitName;
+
+/// What an operation looks at in a tree. In a reading cells stand first, in byte order of their paths, then the links that
+/// belong to names, those of `/etc` first, in byte order of the names, then `Presets`, then `Links`.
+#[derive(Debug, Drop)]
+pub enum Key {
+    /// What stands at a path.
+    Cell(TreePath),
+    /// The links of a scope that belong to a name.
+    Marked(Scope, UnitName),
+    /// What stands at the slots of presets.
+    Presets,
+    /// What stands at the slots of dependencies.
+    Links,
+}
+
+/// Fills a list's unused room; it is never read.
+impl Default for Key {
+    fn default() -> Key {
+        Key::Links
+    }
+}
+
+impl Key {
+    /// An equal key.
+    pub fn copy(&self) -> Result<Key, AllocError>
+        ensures { IfOk result (λ key. key ≡ self.now) }
+    {
+        match self {
+            Key::Cell(path) => Ok(Key::Cell(path.copy()?)),
+            Key::Marked(scope, name) => Ok(Key::Marked(*scope, name.copy()?)),
+            Key::Presets => Ok(Key::Presets),
+            Key::Links => Ok(Key::Links),
+        }
+    }
+
+    /// Where keys of its kind come among others.
+    pub(crate) fn rank(&self) -> u8
+        ensures { result ≡ rank self.now }
+    {
+        match self {
+            Key::Cell(_) => 0,
+            Key::Marked(..) => 1,
+            Key::Presets => 2,
+            Key::Links => 3,
+        }
+    }
+
+    /// Whether it looks at an entry that stands at a path.
+    pub(crate) fn selects(&self, path: &TreePath, entry: &Entry) -> bool
+        ensures { result ≡ selects self.now path.now entry.now }
+    {
+        match self {
+            Key::Cell(cell) => path.text() == cell.text(),
+            Key::Marked(scope, name) => belongs(*scope, name, path, entry),
+            Key::Presets => is_preset(path),
+            Key::Links => is_dependency(path),
+        }
+    }
+}
+
+/// Whether a path is a slot of presets.
+pub(crate) fn is_preset(path: &TreePath) -> bool
+    ensures { result ≡ is_preset (slot_of path.now) }
+{
+    matches!(Slot::of(path), Some(Slot::Preset(_)))
+}
+
+/// Whether a path is a slot of dependencies.
+pub(crate) fn is_dependency(path: &TreePath) -> bool
+    ensures { result ≡ is_dependency (slot_of path.now) }
+{
+    matches!(Slot::of(path), Some(Slot::Wants(_) | Slot::Requires(_)))
+}

@@ -1,0 +1,134 @@
+//! Keys that were looked at.
+ghost use Rattle.std.specs.Prelude.{◌≡◌, ◌++◌, ◌∷◌, [], IfOk, OnOk, OnErr, map as list_map};
+ghost use Rattle.std.specs.FinMap as map;
+ghost use Rattle.footprint.specs.declared.key.Key.TheVariants as keys;
+ghost use Rattle.footprint.specs.Order.{set_of};
+ghost use Rattle.footprint.specs.Readings.{observed, reading_of};
+
+use crate::key::Key;
+use crate::reading::{Observation, Reading};
+use link_tree::Tree;
+use load_path::Cells;
+use smallvec::SmallVec;
+use std::alloc::{AllocError, Global};
+use std::collections::BTreeSet;
+use std::marker::Model;
+
+/// How many keys a list keeps without memory of its own: most commands look at fewer.
+const FEW: usize = 8;
+
+/// Keys in the order in which they were looked at, some of them more than once. Contracts see the list.
+#[derive(Debug, Drop)]
+pub struct Keys {
+    items: SmallVec<Key, FEW>,
+}
+
+impl Model for Keys {
+    ghost use Rattle.std.specs.Prelude.{List};
+    ghost use Rattle.footprint.specs.declared.key.Key.{Key};
+
+    ghost Value = { List Key };
+
+    ghost view = { λ keys. keys.items.items };
+}
+
+impl Keys {
+    /// No keys.
+    pub fn none(alloc: Global) -> Keys
+        ensures { result ≡ [] }
+    {
+        Keys {
+            items: SmallVec::new(alloc),
+        }
+    }
+
+    /// One key more.
+    pub fn push(&mut self, key: Key) -> Result<(), AllocError>
+        ensures ok { OnOk result (self.new ≡ self.old ++ key ∷ []) }
+        ensures err { OnErr result (self.new ≡ self.old) }
+    {
+        Ok(self.items.push(key)?)
+    }
+
+    /// The cells that were looked at.
+    pub fn push_cells(&mut self, cells: &Cells) -> Result<(), AllocError>
+        ensures { OnOk result (self.new ≡ self.old ++ list_map keys.Cell cells.now) }
+    {
+        for path in cells.as_slice() {
+            self.push(Key::Cell(path.copy()?))?;
+        }
+        Ok(())
+    }
+
+    pub fn as_slice(&self) -> &[Key]
+        ensures { result.now ≡ self.now }
+    {
+        self.items.as_slice()
+    }
+}
+
+/// Keys, each once. Contracts see the set.
+#[derive(Drop)]
+struct KeySet {
+    keys: BTreeSet<Key>,
+}
+
+impl Model for KeySet {
+    ghost use Rattle.footprint.specs.Order.{KeySet, set_of, coded_keys};
+
+    ghost Value = { KeySet };
+
+    ghost coded = { coded_keys };
+
+    ghost view = { λ these. set_of these.keys.keys };
+}
+
+impl KeySet {
+    fn none(alloc: Global) -> KeySet
+        ensures { result ≡ map.empty }
+    {
+        KeySet {
+            keys: BTreeSet::new(alloc),
+        }
+    }
+
+    fn insert(&mut self, key: Key) -> Result<(), AllocError>
+        ensures { OnOk result (self.new ≡ map.insert self.old key tt) }
+    {
+        self.keys.insert(key)?;
+        Ok(())
+    }
+
+    /// These keys.
+    fn of(alloc: Global, keys: Keys) -> Result<KeySet, AllocError>
+        ensures { IfOk result (λ these. these ≡ set_of keys) }
+    {
+        let mut these = KeySet::none(alloc);
+        for key in keys.items {
+            these.insert(key)?;
+        }
+        Ok(these)
+    }
+
+    /// What each key sees of a tree.
+    fn read(self, alloc: Global, tree: &Tree) -> Result<Reading, AllocError>
+        ensures { IfOk result (λ reading. reading ≡ list_map (observed tree.now) (map.keys self)) }
+    {
+        let mut reading = Reading::none(alloc);
+        for key in self.keys {
+            let seen = key.seen(alloc, tree)?;
+            reading.push(Observation { key, seen })?;
+        }
+        Ok(reading)
+    }
+}
+
+impl Reading {
+    /// What a tree is read as by keys.
+    #[tactic(auto, unfolding(crate::specs::Readings::in_order))]
+    pub fn of(alloc: Global, tree: &Tree, keys: Keys) -> Result<Reading, AllocError>
+        ensures { IfOk result (λ reading. reading ≡ reading_of keys tree.now) }
+    {
+        KeySet::of(alloc, keys)?.read(alloc, tree)
+    }
+}

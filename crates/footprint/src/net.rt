@@ -1,0 +1,110 @@
+//! Changes by their paths.
+ghost use Rattle.std.specs.Prelude.{◌≡◌, IfOk, OnOk};
+ghost use Rattle.std.specs.Option.{option_copied};
+ghost use Rattle.std.specs.FinMap as map;
+ghost use Rattle.link_tree.specs.Differences.{same, with_change};
+
+use crate::changes::Changes;
+use link_tree::{Change, Entry, TreePath, copy_of};
+use std::alloc::{AllocError, Global};
+use std::collections::BTreeMap;
+use std::marker::Model;
+
+/// Changes, one at a path. Contracts see a finite map.
+#[derive(Drop)]
+pub(crate) struct NetChanges {
+    by_path: BTreeMap<TreePath, Change>,
+}
+
+impl Model for NetChanges {
+    ghost use Rattle.std.specs.FinMap as map;
+    ghost use Rattle.link_tree.specs.declared.entry.Change.{Change};
+    ghost use Rattle.link_tree.specs.Trees.{path_cmp};
+    ghost use Rattle.link_tree.specs.Values.{coded_path};
+    ghost use Rattle.link_tree.specs.Differences.{coded_change};
+
+    ghost Value = { map.FinMap path_cmp Change };
+
+    ghost coded = { map.code coded_path coded_change };
+
+    ghost view = { λ net. map.from_entries net.by_path.entries };
+}
+
+#[tactic(auto, unfolding(link_tree::specs::Differences::same))]
+fn same(one: Option<&Entry>, other: Option<&Entry>) -> bool
+    ensures { result ≡ same (option_copied one.entry) (option_copied other.entry) }
+{
+    match (one, other) {
+        (None, None) => true,
+        (Some(one), Some(other)) => one.same(other),
+        _ => false,
+    }
+}
+
+/// An equal entry, or none.
+pub(crate) fn copied(entry: Option<&Entry>) -> Result<Option<Entry>, AllocError>
+    ensures { IfOk result (λ copy. copy ≡ option_copied entry.entry) }
+{
+    match entry {
+        Some(entry) => Ok(Some(entry.copy()?)),
+        None => Ok(None),
+    }
+}
+
+impl NetChanges {
+    /// No changes.
+    pub fn none(alloc: Global) -> NetChanges
+        ensures { result ≡ map.empty }
+    {
+        NetChanges {
+            by_path: BTreeMap::new(alloc),
+        }
+    }
+
+    /// Says what stood at a path first, and what stands there now.
+    pub fn note(
+        &mut self,
+        path: &TreePath,
+        before: Option<&Entry>,
+        after: &Option<Entry>,
+    ) -> Result<(), AllocError>
+        ensures { OnOk result (self.new ≡ with_change self.old path.now (option_copied before.entry) after.now) }
+    {
+        if same(before, after.as_ref()) {
+            self.remove(path);
+            return Ok(());
+        }
+        self.insert(
+            path.copy()?,
+            Change {
+                path: path.copy()?,
+                before: copied(before)?,
+                after: copy_of(after)?,
+            },
+        )
+    }
+
+    fn remove(&mut self, path: &TreePath)
+        ensures { self.new ≡ map.remove self.old path.now }
+    {
+        self.by_path.remove(path);
+    }
+
+    fn insert(&mut self, path: TreePath, change: Change) -> Result<(), AllocError>
+        ensures { OnOk result (self.new ≡ map.insert self.old path change) }
+    {
+        self.by_path.insert(path, change)?;
+        Ok(())
+    }
+
+    /// The changes in byte order of their paths.
+    pub fn into_changes(self, alloc: Global) -> Result<Changes, AllocError>
+        ensures { IfOk result (λ changes. changes ≡ map.values self) }
+    {
+        let mut changes = Changes::none(alloc);
+        for (_path, change) in self.by_path {
+            changes.push(change)?;
+        }
+        Ok(changes)
+    }
+}

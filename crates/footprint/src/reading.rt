@@ -1,0 +1,130 @@
+//! What an operation looked at, with what it saw.
+ghost use Rattle.std.specs.Prelude.{◌≡◌, ◌++◌, ◌∷◌, [], IfOk, OnOk, OnErr, MatchResult};
+ghost use Rattle.footprint.specs.Readings.{HoldsIn, IsFirstOther};
+
+use crate::key::Key;
+use link_tree::{Entry, Tree, copy_of};
+use smallvec::SmallVec;
+use std::alloc::{AllocError, Global};
+use std::marker::Model;
+
+/// What a key saw of a tree.
+#[derive(Debug, Drop)]
+pub enum Seen {
+    /// What stands at the cell.
+    Entry(Option<Entry>),
+    /// The entries that the key looks at, which all stand at slots.
+    Entries(Tree),
+}
+
+impl Seen {
+    /// What is equal to it.
+    pub fn copy(&self) -> Result<Seen, AllocError>
+        ensures { IfOk result (λ seen. seen ≡ self.now) }
+    {
+        match self {
+            Seen::Entry(entry) => Ok(Seen::Entry(copy_of(entry)?)),
+            Seen::Entries(entries) => Ok(Seen::Entries(entries.copy()?)),
+        }
+    }
+}
+
+/// A key, and what it saw.
+#[derive(Debug, Drop)]
+pub struct Observation {
+    pub key: Key,
+    pub seen: Seen,
+}
+
+/// Fills a reading's unused room; it is never read.
+impl Default for Observation {
+    fn default() -> Observation {
+        Observation {
+            key: Key::Links,
+            seen: Seen::Entry(None),
+        }
+    }
+}
+
+impl Observation {
+    /// An equal observation.
+    pub fn copy(&self) -> Result<Observation, AllocError>
+        ensures { IfOk result (λ observation. observation ≡ self.now) }
+    {
+        Ok(Observation {
+            key: self.key.copy()?,
+            seen: self.seen.copy()?,
+        })
+    }
+}
+
+/// How many observations a reading keeps without memory of its own: most commands look at one cell or two.
+const FEW: usize = 2;
+
+/// The keys that an operation looked at, each once and in order, and what each saw of the tree. Contracts see the list.
+#[derive(Debug, Drop)]
+pub struct Reading {
+    observations: SmallVec<Observation, FEW>,
+}
+
+impl Model for Reading {
+    ghost use Rattle.std.specs.Prelude.{List};
+    ghost use Rattle.std.specs.Coded.{codes};
+    ghost use Rattle.std.specs.FinMap as map;
+    ghost use Rattle.link_tree.specs.Trees.{path_cmp};
+    ghost use Rattle.link_tree.specs.Values.{coded_path, coded_entry};
+    ghost use Rattle.footprint.specs.declared.reading.Observation.{Observation};
+
+    ghost Value = { List Observation };
+
+    ghost coded = { Prim.hlevel (codes, map.code {R = path_cmp} coded_path coded_entry) };
+
+    ghost view = { λ reading. reading.observations.items };
+}
+
+impl Reading {
+    /// A reading of no keys.
+    pub fn none(alloc: Global) -> Reading
+        ensures { result ≡ [] }
+    {
+        Reading {
+            observations: SmallVec::new(alloc),
+        }
+    }
+
+    pub(crate) fn push(&mut self, observation: Observation) -> Result<(), AllocError>
+        ensures ok { OnOk result (self.new ≡ self.old ++ observation ∷ []) }
+        ensures err { OnErr result (self.new ≡ self.old) }
+    {
+        Ok(self.observations.push(observation)?)
+    }
+
+    pub fn as_slice(&self) -> &[Observation]
+        ensures { result.now ≡ self.now }
+    {
+        self.observations.as_slice()
+    }
+
+    /// An equal reading.
+    pub fn copy(&self) -> Result<Reading, AllocError>
+        ensures { IfOk result (λ reading. reading ≡ self.now) }
+    {
+        let mut copy = Reading::none(*self.observations.allocator());
+        for observation in self.as_slice() {
+            copy.push(observation.copy()?)?;
+        }
+        Ok(copy)
+    }
+}
+
+/// Whether each key of a reading sees in a tree what it saw, or the first that doesn't. It takes no memory.
+pub fn agrees<'a>(tree: &Tree, reading: &'a Reading) -> Result<(), &'a Key>
+    ensures { MatchResult result (λ _. HoldsIn tree.now reading.now) (λ key. IsFirstOther tree.now reading.now key.now) }
+{
+    for observation in reading.as_slice() {
+        if !observation.holds(tree) {
+            return Err(&observation.key);
+        }
+    }
+    Ok(())
+}

@@ -1,0 +1,76 @@
+//! Why operations are refused.
+ghost use Rattle.std.specs.Prelude.{◌≡◌, IfOk};
+
+use link_tree::TreePath;
+use std::alloc::AllocError;
+use unit_name::UnitName;
+
+/// What a refusal names as it was given: a unit, or a path.
+#[derive(Debug, Drop)]
+pub enum Subject {
+    Unit(UnitName),
+    Path(TreePath),
+}
+
+impl Subject {
+    /// An equal subject.
+    pub fn copy(&self) -> Result<Subject, AllocError>
+        ensures { IfOk result (λ subject. subject ≡ self.now) }
+    {
+        match self {
+            Subject::Unit(name) => Ok(Subject::Unit(name.copy()?)),
+            Subject::Path(path) => Ok(Subject::Path(path.copy()?)),
+        }
+    }
+}
+
+/// Why an operation was refused.
+#[derive(Debug, Drop)]
+pub enum Refusal {
+    /// Nothing stands there.
+    NotFound(Subject),
+    /// It leads to `/dev/null` or to an empty file.
+    Masked(Subject),
+    /// The links end at this one, which leads nowhere.
+    Dangling(TreePath),
+    /// It is no unit, or not of the type that is wanted.
+    BadType(Subject),
+    /// The unit is a template, and has no default instance that would serve.
+    NeedsInstance(UnitName),
+    /// The path is no slot.
+    NotASlot(TreePath),
+    /// Nothing stands at the slot.
+    Absent(TreePath),
+    /// Something else stands at the path.
+    Exists(TreePath),
+    /// The unit is another's alias.
+    IsAlias { unit: UnitName, real: UnitName },
+    /// The units name too many others.
+    TooMany,
+    /// Links with different targets are wanted at the path.
+    Clash(TreePath),
+}
+
+impl Refusal {
+    /// An equal refusal.
+    pub fn copy(&self) -> Result<Refusal, AllocError>
+        ensures { IfOk result (λ refusal. refusal ≡ self.now) }
+    {
+        match self {
+            Refusal::NotFound(subject) => Ok(Refusal::NotFound(subject.copy()?)),
+            Refusal::Masked(subject) => Ok(Refusal::Masked(subject.copy()?)),
+            Refusal::Dangling(link) => Ok(Refusal::Dangling(link.copy()?)),
+            Refusal::BadType(subject) => Ok(Refusal::BadType(subject.copy()?)),
+            Refusal::NeedsInstance(name) => Ok(Refusal::NeedsInstance(name.copy()?)),
+            Refusal::NotASlot(path) => Ok(Refusal::NotASlot(path.copy()?)),
+            Refusal::Absent(path) => Ok(Refusal::Absent(path.copy()?)),
+            Refusal::Exists(path) => Ok(Refusal::Exists(path.copy()?)),
+            Refusal::IsAlias { unit, real } => Ok(Refusal::IsAlias {
+                unit: unit.copy()?,
+                real: real.copy()?,
+            }),
+            Refusal::TooMany => Ok(Refusal::TooMany),
+            Refusal::Clash(path) => Ok(Refusal::Clash(path.copy()?)),
+        }
+    }
+}

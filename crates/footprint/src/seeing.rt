@@ -1,0 +1,127 @@
+//! What keys see of trees.
+ghost use Rattle.std.specs.Prelude.{◌≡◌, IfOk, Some, true, false};
+ghost use Rattle.std.specs.FinMap as map;
+ghost use Rattle.footprint.specs.Keys as keys;
+ghost use Rattle.footprint.specs.Keys.{part, is_cell, selects};
+ghost use Rattle.footprint.specs.Seeing.{AllStand, AllSelected};
+ghost use Rattle.footprint.specs.Readings.{Holds};
+
+use crate::key::Key;
+use crate::net::copied;
+use crate::reading::{Observation, Seen};
+use link_tree::{Entry, Tree, TreePath};
+use std::alloc::{AllocError, Global};
+
+impl Key {
+    /// What it sees of a tree.
+    pub(crate) fn seen(&self, alloc: Global, tree: &Tree) -> Result<Seen, AllocError>
+        ensures { IfOk result (λ seen. seen ≡ keys.seen self.now tree.now) }
+    {
+        match self {
+            Key::Cell(path) => Ok(Seen::Entry(copied(tree.get(path))?)),
+            key => Ok(Seen::Entries(part(alloc, tree, key)?)),
+        }
+    }
+}
+
+/// The entries of a tree that a key looks at, which all stand at slots.
+fn part(alloc: Global, tree: &Tree, key: &Key) -> Result<Tree, AllocError>
+    requires { is_cell key.now ≡ false }
+    ensures { IfOk result (λ found. found ≡ part key.now tree.now) }
+{
+    let mut found = Tree::empty(alloc);
+    for (path, entry) in tree.iter() {
+        if key.selects(path, entry) {
+            found.set(path, Some(entry.copy()?))?;
+        }
+    }
+    Ok(found)
+}
+
+/// Whether this entry stands at a path.
+fn stands(tree: &Tree, path: &TreePath, entry: &Entry) -> bool
+    ensures yes { result ≡ true → (map.get tree.now path.now ≡ Some entry.now) }
+    ensures no { (map.get tree.now path.now ≡ Some entry.now) → result ≡ true }
+{
+    match tree.get(path) {
+        Some(there) => there.same(entry),
+        None => false,
+    }
+}
+
+/// Whether the same stands at a path.
+fn is_there(tree: &Tree, path: &TreePath, entry: &Option<Entry>) -> bool
+    ensures yes { result ≡ true → (map.get tree.now path.now ≡ entry.now) }
+    ensures no { (map.get tree.now path.now ≡ entry.now) → result ≡ true }
+{
+    match (tree.get(path), entry) {
+        (None, None) => true,
+        (Some(there), Some(entry)) => there.same(entry),
+        _ => false,
+    }
+}
+
+/// Whether this entry stands at a path, if a key looks at it.
+fn stands_if_selected(tree: &Tree, key: &Key, path: &TreePath, entry: &Entry) -> bool
+    ensures yes { result ≡ true → selects key.now path.now entry.now ≡ true → map.get tree.now path.now ≡ Some entry.now }
+    ensures no { (selects key.now path.now entry.now ≡ true → map.get tree.now path.now ≡ Some entry.now) → result ≡ true }
+{
+    if !key.selects(path, entry) {
+        return true;
+    }
+    stands(tree, path, entry)
+}
+
+/// Whether all entries of a tree that a key looks at stand in another.
+fn all_stand(tree: &Tree, key: &Key, other: &Tree) -> bool
+    ensures yes { result ≡ true → AllStand key.now tree.now other.now }
+    ensures no { AllStand key.now tree.now other.now → result ≡ true }
+{
+    for (path, entry) in tree.iter() {
+        if !stands_if_selected(other, key, path, entry) {
+            return false;
+        }
+    }
+    true
+}
+
+/// Whether all entries of a tree are such as a key looks at.
+fn all_selected(tree: &Tree, key: &Key) -> bool
+    ensures yes { result ≡ true → AllSelected key.now tree.now }
+    ensures no { AllSelected key.now tree.now → result ≡ true }
+{
+    for (path, entry) in tree.iter() {
+        if !key.selects(path, entry) {
+            return false;
+        }
+    }
+    true
+}
+
+/// Whether these are the entries of a tree that a key looks at.
+fn is_part(entries: &Tree, tree: &Tree, key: &Key) -> bool
+    ensures yes { result ≡ true → (part key.now tree.now ≡ entries.now) }
+    ensures no { (part key.now tree.now ≡ entries.now) → result ≡ true }
+{
+    if !all_selected(entries, key) {
+        return false;
+    }
+    if !all_stand(entries, key, tree) {
+        return false;
+    }
+    all_stand(tree, key, entries)
+}
+
+impl Observation {
+    /// Whether the key sees in a tree what it saw.
+    pub(crate) fn holds(&self, tree: &Tree) -> bool
+        ensures yes { result ≡ true → Holds tree.now self.now }
+        ensures no { Holds tree.now self.now → result ≡ true }
+    {
+        match (&self.key, &self.seen) {
+            (Key::Cell(path), Seen::Entry(entry)) => is_there(tree, path, entry),
+            (Key::Cell(_), Seen::Entries(_)) | (_, Seen::Entry(_)) => false,
+            (key, Seen::Entries(entries)) => is_part(entries, tree, key),
+        }
+    }
+}

@@ -1,0 +1,4 @@
+mod copying;
+mod observing;
+mod touching;
+mod values;

@@ -1,0 +1,33 @@
+//! Which changes touch a key.
+ghost use Rattle.std.specs.Prelude.{◌≡◌};
+ghost use Rattle.footprint.specs.Keys.{is_marked, touches};
+
+use crate::belonging::belongs;
+use crate::key::{Key, is_dependency, is_preset};
+use link_tree::{Change, Entry, Scope, TreePath};
+use unit_name::UnitName;
+
+/// Whether a change touches what a key looks at: the cell of its path, the names to which its entry before or after
+/// belongs, the presets or the dependencies where it is at a slot of theirs.
+pub fn touches(change: &Change, key: &Key) -> bool
+    ensures { result ≡ touches change.now key.now }
+{
+    match key {
+        Key::Cell(path) => change.path.text() == path.text(),
+        Key::Marked(scope, name) => {
+            is_marked(*scope, name, &change.path, &change.before)
+                || is_marked(*scope, name, &change.path, &change.after)
+        }
+        Key::Presets => is_preset(&change.path),
+        Key::Links => is_dependency(&change.path),
+    }
+}
+
+fn is_marked(scope: Scope, name: &UnitName, path: &TreePath, entry: &Option<Entry>) -> bool
+    ensures { result ≡ is_marked scope name.now path.now entry.now }
+{
+    match entry {
+        None => false,
+        Some(entry) => belongs(scope, name, path, entry),
+    }
+}
