@@ -1,3 +1,6 @@
-pub mod Differences
-pub mod Masks
-pub mod Leads
+pub mod Turns
+pub mod Outcomes
+pub mod Masked
+pub mod Hands
+pub mod Targets
+pub mod Linked

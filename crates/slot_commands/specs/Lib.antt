@@ -1,5 +1,10 @@
-pub mod Changes
+pub mod Masks
+pub mod Links
+pub mod LinkUnits
+pub mod Units
+pub mod AddTo
+pub mod SetDefault
+pub mod ByHand
+pub mod Looked
 pub mod Commands
-pub mod Edits
 pub mod Laws
-pub mod Outcomes

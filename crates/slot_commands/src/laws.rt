@@ -1,17 +1,41 @@
 //! What holds of the commands on all trees: each function does nothing, and its contract is the law.
-ghost use Rattle.slot_commands.specs.Laws.{MaskFills, UnmaskEmpties, ChangesLead};
+ghost use Rattle.slot_commands.specs.Laws.{MaskFills, UnmaskEmpties, FilesAreLinked, DependenciesAreAdded, DefaultIsSet, PlaceFills, RemoveEmpties};
 
-/// Masks fill empty slots. The command is refused for the first slot where something else stands.
+/// Links to `/dev/null` fill empty slots. The command is refused for the first slot where anything else stands, a file
+/// too.
 pub fn masks_fill_empty_slots()
     ensures { MaskFills }
 {}
 
-/// `unmask` takes masks away, and is never refused.
+/// `unmask` takes links to `/dev/null` and empty files away, and is never refused.
 pub fn unmask_takes_masks_away()
     ensures { UnmaskEmpties }
 {}
 
-/// The changes between two trees lead from the one to the other.
-pub fn changes_lead_from_tree_to_tree()
-    ensures { ChangesLead }
+/// An accepted `link` fills empty slots of the scope with links to the files, under their names. All else stays, and each
+/// file that doesn't stand among the units is linked then.
+pub fn files_are_linked_under_their_names()
+    ensures { FilesAreLinked }
+{}
+
+/// An accepted `add-wants` or `add-requires` has found its target, and fills empty slots in the one directory of that with
+/// links. All else stays.
+pub fn dependencies_are_links_of_the_target()
+    ensures { DependenciesAreAdded }
+{}
+
+/// An accepted `set-default` has found its unit, and the link of `default.target` leads to the unit's file. All else
+/// stays.
+pub fn the_default_leads_to_the_units_file()
+    ensures { DefaultIsSet }
+{}
+
+/// By hand an entry is placed exactly where a slot is empty. All else stays.
+pub fn entries_are_placed_in_empty_slots()
+    ensures { PlaceFills }
+{}
+
+/// By hand an entry is taken away exactly where a slot has one. All else stays.
+pub fn entries_are_removed_from_slots()
+    ensures { RemoveEmpties }
 {}

@@ -1,19 +1,27 @@
 //! Commands that change single slots: systemctl(1), "Unit File Commands".
 #![tactic(auto)]
 
-mod changes;
-mod edit;
+mod add_to;
+mod by_hand;
+mod found;
 mod laws;
+mod link;
+mod link_units;
 mod mask;
-mod net;
-mod outcome;
-mod units;
+mod paths;
+mod set_default;
 
-pub use changes::Changes;
-pub use laws::{changes_lead_from_tree_to_tree, masks_fill_empty_slots, unmask_takes_masks_away};
+pub use add_to::AddTo;
+pub use by_hand::{PlaceEntry, RemoveEntry};
+pub use laws::{
+    dependencies_are_links_of_the_target, entries_are_placed_in_empty_slots,
+    entries_are_removed_from_slots, files_are_linked_under_their_names, masks_fill_empty_slots,
+    the_default_leads_to_the_units_file, unmask_takes_masks_away,
+};
+pub use link_units::LinkUnits;
 pub use mask::{Mask, Unmask};
-pub use outcome::{Answer, Outcome, Refusal};
-pub use units::Units;
+pub use paths::Paths;
+pub use set_default::SetDefault;
 
 #[cfg(test)]
 mod tests;

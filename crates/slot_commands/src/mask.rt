@@ -1,27 +1,25 @@
 //! mask and unmask.
-ghost use Rattle.std.specs.Prelude.{◌≡◌, true, All, IfOk, Ok};
+ghost use Rattle.std.specs.Prelude.{◌≡◌, IfOk, Ok};
 ghost use Rattle.std.specs.Option.{option_copied};
-ghost use Rattle.link_tree.specs.Slots.{is_slot};
-ghost use Rattle.slot_commands.specs.Commands.{mask_link, is_mask, mask_at, unmask_at, rule_of, slots_of, followed, masking, unmasking};
-ghost use Rattle.slot_commands.specs.Outcomes.{outcome};
+ghost use Rattle.footprint.specs.Edits.{GoesOn};
+ghost use Rattle.slot_commands.specs.Masks.{mask_link, is_empty_file, is_mask, mask_at, unmask_at, rule_of, ruled_unit, each_ruled};
 
-use crate::changes::Changes;
-use crate::edit::Edit;
-use crate::outcome::{Answer, Outcome, Refusal};
-use crate::units::Units;
+use footprint::{Edit, Operation, Outcome, Refusal, Units};
 use link_tree::{Entry, Scope, TargetError, Tree, TreePath, is_null_link};
+use load_path::Cells;
 use std::alloc::{AllocError, Global};
 use unit_name::UnitName;
 
-/// systemctl(1), `mask`: links each unit to `/dev/null`, where nothing stands. A mask stays; anything else that stands
-/// there refuses the whole command.
+/// systemctl(1), `mask`: links each unit to `/dev/null`, where nothing stands. A link to there stays; anything else that
+/// stands there, an empty file too, refuses the whole command.
 #[derive(Debug, Drop)]
 pub struct Mask {
     pub scope: Scope,
     pub units: Units,
 }
 
-/// systemctl(1), `unmask`: takes the mask of each unit away. Anything else stays.
+/// systemctl(1), `unmask`: takes the mask of each unit away, a link to `/dev/null` or an empty file. Anything else
+/// stays.
 #[derive(Debug, Drop)]
 pub struct Unmask {
     pub scope: Scope,
@@ -43,6 +41,22 @@ fn mask_link(alloc: Global) -> Result<Entry, AllocError>
         Err(TargetError::BadTarget) => unreachable!(),
         Err(TargetError::OutOfMemory) => Err(AllocError),
     }
+}
+
+fn is_empty_file(entry: &Entry) -> bool
+    ensures { result ≡ is_empty_file entry.now }
+{
+    match entry {
+        Entry::File(contents) => contents.bytes().is_empty(),
+        Entry::Link(_) => false,
+    }
+}
+
+/// Whether what stands at a slot masks its unit.
+fn is_mask(slot: &TreePath, entry: &Entry) -> bool
+    ensures { result ≡ is_mask slot.now entry.now }
+{
+    is_null_link(slot, entry) || is_empty_file(entry)
 }
 
 fn mask_at(
@@ -68,7 +82,7 @@ fn unmask_at(slot: &TreePath, there: Option<&Entry>) -> Result<Option<Entry>, Al
     ensures { IfOk result (λ left. Ok left ≡ unmask_at slot.now (option_copied there.entry)) }
 {
     match there {
-        Some(entry) if !is_null_link(slot, entry) => Ok(Some(entry.copy()?)),
+        Some(entry) if !is_mask(slot, entry) => Ok(Some(entry.copy()?)),
         _ => Ok(None),
     }
 }
@@ -88,72 +102,105 @@ impl Rule {
         }
     }
 
-    fn run(
+    /// Follows the rule at the slot of a unit.
+    fn step<'a>(
+        self,
+        alloc: Global,
+        scope: Scope,
+        unit: &UnitName,
+        edit: Edit<'a>,
+        cells: &mut Cells,
+    ) -> Result<Result<Edit<'a>, Refusal>, AllocError>
+        ensures { IfOk result (GoesOn (ruled_unit (rule_of self) scope unit.now) edit.entry cells.old cells.new) }
+    {
+        let slot = scope.place().slot(alloc, unit)?;
+        cells.push(slot.copy()?)?;
+        let ruled = self.at(alloc, &slot, edit.tree().get(&slot))?;
+        edit.ruled(&slot, ruled)
+    }
+
+    /// Follows the rule at the slot of each unit, on the tree that the earlier ones left.
+    fn each<'a>(
         self,
         alloc: Global,
         scope: Scope,
         units: &[UnitName],
-        tree: &Tree,
-    ) -> Result<Outcome, AllocError>
-        ensures outcome { IfOk result (λ done. done ≡ outcome tree.now (followed (rule_of self) (slots_of scope units.now) tree.now)) }
-        ensures slots { IfOk result (λ done. All (λ change. is_slot change.path ≡ true) done.changes) }
+        tree: &'a Tree,
+        cells: &mut Cells,
+    ) -> Result<Result<Edit<'a>, Refusal>, AllocError>
+        ensures { IfOk result (GoesOn (each_ruled (rule_of self) scope units.now) (tree.now, tree.now) cells.old cells.new) }
     {
         let mut edit = Edit::new(alloc, tree)?;
         for unit in units {
-            let slot = scope.place().slot(alloc, unit)?;
-            match self.at(alloc, &slot, edit.tree().get(&slot))? {
-                Ok(entry) => edit = edit.with(&slot, entry)?,
-                Err(refusal) => {
-                    return Ok(Outcome {
-                        answer: Answer::Refused(refusal),
-                        changes: Changes::none(alloc),
-                    });
-                }
+            match self.step(alloc, scope, unit, edit, cells)? {
+                Ok(next) => edit = next,
+                Err(refusal) => return Ok(Err(refusal)),
             }
         }
-        Ok(Outcome {
-            answer: Answer::Done,
-            changes: edit.into_changes(alloc)?,
-        })
+        Ok(Ok(edit))
     }
 }
 
-impl Mask {
-    /// What the command comes to on the tree.
-    pub fn run(&self, alloc: Global, tree: &Tree) -> Result<Outcome, AllocError>
-        ensures outcome { IfOk result (λ done. done ≡ masking self.now tree.now) }
-        ensures slots { IfOk result (λ done. All (λ change. is_slot change.path ≡ true) done.changes) }
-    {
-        Rule::Mask.run(alloc, self.scope, self.units.as_slice(), tree)
+impl Operation for Mask {
+    ghost use Rattle.std.specs.Prelude.{false};
+    ghost use Rattle.slot_commands.specs.Commands.{mask_meaning, mask_laws};
+
+    ghost meaning = { mask_meaning };
+
+    ghost asks = { λ c. false };
+
+    fn run(&self, alloc: Global, tree: &Tree) -> Result<Outcome, AllocError> {
+        let mut cells = Cells::new(alloc);
+        let done = Rule::Mask.each(alloc, self.scope, self.units.as_slice(), tree, &mut cells)?;
+        Outcome::of(alloc, tree, &cells, done)
     }
 
-    /// An equal command.
-    pub fn copy(&self) -> Result<Mask, AllocError>
-        ensures { IfOk result (λ mask. mask ≡ self.now) }
-    {
+    fn asks_only(&self) -> bool {
+        false
+    }
+
+    fn copy(&self) -> Result<Mask, AllocError> {
         Ok(Mask {
             scope: self.scope,
             units: self.units.copy()?,
         })
     }
-}
 
-impl Unmask {
-    /// What the command comes to on the tree.
-    pub fn run(&self, alloc: Global, tree: &Tree) -> Result<Outcome, AllocError>
-        ensures outcome { IfOk result (λ done. done ≡ unmasking self.now tree.now) }
-        ensures slots { IfOk result (λ done. All (λ change. is_slot change.path ≡ true) done.changes) }
-    {
-        Rule::Unmask.run(alloc, self.scope, self.units.as_slice(), tree)
+    fn same(&self, other: &Mask) -> bool {
+        self.scope == other.scope && self.units.same(&other.units)
     }
 
-    /// An equal command.
-    pub fn copy(&self) -> Result<Unmask, AllocError>
-        ensures { IfOk result (λ unmask. unmask ≡ self.now) }
-    {
+    ghost laws = { mask_laws };
+}
+
+impl Operation for Unmask {
+    ghost use Rattle.std.specs.Prelude.{false};
+    ghost use Rattle.slot_commands.specs.Commands.{unmask_meaning, unmask_laws};
+
+    ghost meaning = { unmask_meaning };
+
+    ghost asks = { λ c. false };
+
+    fn run(&self, alloc: Global, tree: &Tree) -> Result<Outcome, AllocError> {
+        let mut cells = Cells::new(alloc);
+        let done = Rule::Unmask.each(alloc, self.scope, self.units.as_slice(), tree, &mut cells)?;
+        Outcome::of(alloc, tree, &cells, done)
+    }
+
+    fn asks_only(&self) -> bool {
+        false
+    }
+
+    fn copy(&self) -> Result<Unmask, AllocError> {
         Ok(Unmask {
             scope: self.scope,
             units: self.units.copy()?,
         })
     }
+
+    fn same(&self, other: &Unmask) -> bool {
+        self.scope == other.scope && self.units.same(&other.units)
+    }
+
+    ghost laws = { unmask_laws };
 }

@@ -1,5 +1,5 @@
-use Rattle.slot_commands.proofs.Masks.{fills}
+use Rattle.slot_commands.proofs.Masked.{mask_fills}
 use Rattle.slot_commands.proofs.laws.masks_fill_empty_slots.Goals as goal
 
 pub returns : goal.returns
-returns c = fills
+returns c = mask_fills

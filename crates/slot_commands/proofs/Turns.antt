@@ -1,0 +1,136 @@
+-- Arguments that are taken one after another, each in the tree that the earlier ones left.
+use Rattle.std.proofs.Common.{◌≡◌, ℕ, ◌+◌, ◌<◌, ◌≤◌, List, [], ◌∷◌, ◌++◌, length, drop, get_or, Result, Ok, Err, refl, sym, ap, ◌∙◌}
+use Rattle.std.proofs.lemmas.List.{append_assoc, append-nil, drop_more, drop_all}
+use Rattle.link_tree.specs.Trees.{Entries, set_entry}
+use Rattle.load_path.specs.Search.{Search}
+use Rattle.footprint.specs.declared.refusal.Refusal.{Refusal}
+use Rattle.footprint.specs.Steps.{Placed, Verdict, placed_in, unless_refused, each_in_turn}
+use Rattle.footprint.specs.Edits.{stepped, GoesOn}
+
+-- the tree that a verdict leaves, or the refusal
+abbrev pub left_by : Verdict → Entries → Result Entries Refusal
+left_by (Ok placed) t = Ok (placed_in placed t)
+left_by (Err refusal) t = Err refusal
+
+abbrev pub leaves : Search Verdict → Entries → Result Entries Refusal
+leaves s t = left_by (s.conclusion t) t
+
+abbrev pub goes_on : (Entries → Result Entries Refusal) → Result Entries Refusal → Result Entries Refusal
+goes_on on (Ok u) = on u
+goes_on on (Err refusal) = Err refusal
+
+-- the tree that is left when one argument is taken after another
+abbrev pub in_turn : {A : Type 0} → (A → Search Verdict) → List A → Entries → Result Entries Refusal
+in_turn step [] t = Ok t
+in_turn step (a ∷ rest) t = goes_on (in_turn step rest) (leaves (step a) t)
+
+abbrev pub looks_on : (Entries → List (List ℕ)) → Result Entries Refusal → List (List ℕ)
+looks_on on (Ok u) = on u
+looks_on on (Err refusal) = []
+
+-- the cells that are looked at then
+abbrev pub cells_in_turn : {A : Type 0} → (A → Search Verdict) → List A → Entries → List (List ℕ)
+cells_in_turn step [] t = []
+cells_in_turn step (a ∷ rest) t = (step a).cells t ++ looks_on (cells_in_turn step rest) (leaves (step a) t)
+
+pub placed_in-append : (first second : List Placed) (t : Entries) → placed_in (first ++ second) t ≡ placed_in second (placed_in first t)
+placed_in-append [] second t = refl
+placed_in-append (p ∷ first) second t = placed_in-append first second (set_entry t p.0 p.1)
+
+module _ {A : Type 0} (step : A → Search Verdict) where
+  turn : (rest : List A) (placed : List Placed) (t : Entries) (verdict : Verdict)
+      → ((more : List Placed) → left_by ((each_in_turn step rest (placed ++ more)).conclusion t) t ≡ in_turn step rest (placed_in (placed ++ more) t))
+      → left_by ((unless_refused (λ more. each_in_turn step rest (placed ++ more)) verdict).conclusion t) t ≡ goes_on (in_turn step rest) (left_by verdict (placed_in placed t))
+  turn rest placed t (Ok more) later = later more ∙ ap (in_turn step rest) (placed_in-append placed more t)
+  turn rest placed t (Err refusal) later = refl
+
+  turns : (args : List A) (placed : List Placed) (t : Entries) → left_by ((each_in_turn step args placed).conclusion t) t ≡ in_turn step args (placed_in placed t)
+  turns [] placed t = refl
+  turns (a ∷ rest) placed t = turn rest placed t ((step a).conclusion (placed_in placed t)) (λ more. turns rest (placed ++ more) t)
+
+  -- what is placed in turn leaves the tree that the arguments leave in turn
+  pub all_turns : (args : List A) (t : Entries) → left_by ((each_in_turn step args []).conclusion t) t ≡ in_turn step args t
+  all_turns args t = turns args [] t
+
+  turn_cells : (rest : List A) (placed : List Placed) (t : Entries) (verdict : Verdict)
+      → ((more : List Placed) → (each_in_turn step rest (placed ++ more)).cells t ≡ cells_in_turn step rest (placed_in (placed ++ more) t))
+      → (unless_refused (λ more. each_in_turn step rest (placed ++ more)) verdict).cells t ≡ looks_on (cells_in_turn step rest) (left_by verdict (placed_in placed t))
+  turn_cells rest placed t (Ok more) later = later more ∙ ap (cells_in_turn step rest) (placed_in-append placed more t)
+  turn_cells rest placed t (Err refusal) later = refl
+
+  turns_cells : (args : List A) (placed : List Placed) (t : Entries) → (each_in_turn step args placed).cells t ≡ cells_in_turn step args (placed_in placed t)
+  turns_cells [] placed t = refl
+  turns_cells (a ∷ rest) placed t =
+      ap (λ cells. (step a).cells (placed_in placed t) ++ cells)
+      (turn_cells rest placed t ((step a).conclusion (placed_in placed t)) (λ more. turns_cells rest (placed ++ more) t))
+
+  -- and its cells are theirs
+  pub all_cells : (args : List A) (t : Entries) → (each_in_turn step args []).cells t ≡ cells_in_turn step args t
+  all_cells args t = turns_cells args [] t
+
+-- an edit after a step
+pub stepped_on : (verdict : Verdict) (edit next : Entries × Entries) → Ok next ≡ stepped verdict edit → (next.0 ≡ edit.0) × (left_by verdict edit.1 ≡ Ok next.1)
+stepped_on (Ok placed) edit next is = let same : next ≡ (edit.0, placed_in placed edit.1) = cc in (ap (λ e. e.0) same, ap (λ (e : Entries × Entries). Ok e.1) (sym same))
+stepped_on (Err refusal) edit next is = cc
+
+pub stepped_off : (verdict : Verdict) (edit : Entries × Entries) (refusal : Refusal) → Err refusal ≡ stepped verdict edit → left_by verdict edit.1 ≡ Err refusal
+stepped_off (Ok placed) edit refusal is = cc
+stepped_off (Err other) edit refusal is = cc
+
+-- an edit is what a verdict says
+pub begun_ok : (verdict : Verdict) (t : Entries) (edit : Entries × Entries) → edit.0 ≡ t → left_by verdict t ≡ Ok edit.1 → Ok edit ≡ stepped verdict (t, t)
+begun_ok (Ok placed) t edit first is = let same : placed_in placed t ≡ edit.1 = cc in λ i. Ok (first i, sym same i)
+begun_ok (Err refusal) t edit first is = cc
+
+pub begun_err : (verdict : Verdict) (t : Entries) (refusal : Refusal) → left_by verdict t ≡ Err refusal → Err refusal ≡ stepped verdict (t, t)
+begun_err (Ok placed) t refusal is = cc
+begun_err (Err other) t refusal is = cc
+
+-- The arguments from one on, in the tree as it is now, lead where all of them do from the first tree, and what is still to be
+-- looked at is all that is.
+pub record HasCome {A : Type 0} (step : A → Search Verdict) (args : List A) (i : ℕ) (first : Entries) (edit : Entries × Entries) (before now : List (List ℕ)) : Type 0 where
+  pub begun : edit.0 ≡ first
+  pub leads : in_turn step (drop i args) edit.1 ≡ in_turn step args first
+  pub looks : now ++ cells_in_turn step (drop i args) edit.1 ≡ before ++ cells_in_turn step args first
+
+module _ {A : Type 0} (step : A → Search Verdict) (args : List A) (i : ℕ) (first : Entries) (edit : Entries × Entries) (before now : List (List ℕ)) (come : HasCome step args i first edit before now) where
+  -- one argument more
+  module _ (a : A) (is : a ≡ get_or args i a) (within : i < length args) where
+    rest_is : drop i args ≡ a ∷ drop (i + 1) args
+    rest_is = drop_more args i a within ∙ ap (λ x. x ∷ drop (i + 1) args) (sym is)
+
+    one_more : goes_on (in_turn step (drop (i + 1) args)) (leaves (step a) edit.1) ≡ in_turn step args first
+    one_more = sym (ap (λ rest. in_turn step rest edit.1) rest_is) ∙ come.leads
+
+    more_cells : (then : List (List ℕ)) → then ≡ now ++ (step a).cells edit.1 → (left : Result Entries Refusal) → leaves (step a) edit.1 ≡ left
+        → then ++ looks_on (cells_in_turn step (drop (i + 1) args)) left ≡ before ++ cells_in_turn step args first
+    more_cells then looked left is_left =
+        ap (λ cells. cells ++ looks_on (cells_in_turn step (drop (i + 1) args)) left) looked
+        ∙ append_assoc now ((step a).cells edit.1) (looks_on (cells_in_turn step (drop (i + 1) args)) left)
+        ∙ ap (λ left. now ++ ((step a).cells edit.1 ++ looks_on (cells_in_turn step (drop (i + 1) args)) left)) (sym is_left)
+        ∙ sym (ap (λ rest. now ++ cells_in_turn step rest edit.1) rest_is)
+        ∙ come.looks
+
+    pub next_turn : (next : Entries × Entries) (then : List (List ℕ)) → GoesOn (step a) edit now then (Ok next) → HasCome step args (i + 1) first next before then
+    next_turn next then goes =
+        let on = stepped_on ((step a).conclusion edit.1) edit next goes.0 in
+        record {
+          begun = on.0 ∙ come.begun;
+          leads = sym (ap (goes_on (in_turn step (drop (i + 1) args))) on.1) ∙ one_more;
+          looks = more_cells then goes.1 (Ok next.1) on.1;
+        }
+
+    pub refused_turn : (refusal : Refusal) (then : List (List ℕ)) → GoesOn (step a) edit now then (Err refusal) → GoesOn (each_in_turn step args []) (first, first) before then (Err refusal)
+    refused_turn refusal then goes =
+        let off = stepped_off ((step a).conclusion edit.1) edit refusal goes.0 in (
+          begun_err ((each_in_turn step args []).conclusion first) first refusal (all_turns step args first ∙ sym one_more ∙ ap (goes_on (in_turn step (drop (i + 1) args))) off),
+          sym (append-nil then) ∙ more_cells then goes.1 (Err refusal) off ∙ ap (λ cells. before ++ cells) (sym (all_cells step args first)),
+        )
+
+  -- all arguments are through
+  pub last_turn : length args ≤ i → GoesOn (each_in_turn step args []) (first, first) before now (Ok edit)
+  last_turn through = (
+    begun_ok ((each_in_turn step args []).conclusion first) first edit come.begun
+        (all_turns step args first ∙ sym come.leads ∙ ap (λ rest. in_turn step rest edit.1) (drop_all i args through)),
+    sym (append-nil now) ∙ sym (ap (λ rest. now ++ cells_in_turn step rest edit.1) (drop_all i args through)) ∙ come.looks ∙ ap (λ cells. before ++ cells) (sym (all_cells step args first)),
+  )

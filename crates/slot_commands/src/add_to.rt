@@ -1,0 +1,198 @@
+//! add-wants and add-requires.
+ghost use Rattle.std.specs.Prelude.{◌≡◌, IfOk};
+ghost use Rattle.std.specs.Option.{option_copied};
+ghost use Rattle.unit_file.specs.Identity.{identity_of};
+ghost use Rattle.unit_file.specs.Reading.{text_of};
+ghost use Rattle.link_tree.specs.Slots.{scope_place};
+ghost use Rattle.footprint.specs.Edits.{GoesOn};
+ghost use Rattle.slot_commands.specs.AddTo.{is_template_name, default_of, listed_name, add_file, add_unit, add_units};
+ghost use Rattle.slot_commands.specs.Commands.{add_search};
+
+use crate::found::find_unit;
+use crate::link::link_at;
+use footprint::{Edit, Operation, Outcome, Refusal, Units};
+use link_tree::{Contents, Dependency, Entry, Scope, Tree, TreePath};
+use load_path::Cells;
+use std::alloc::{AllocError, Global};
+use unit_file::{InstallError, InstallFault, InstallText, identity, install_of};
+use unit_name::{Kind, UnitName};
+
+/// systemctl(1), `add-wants` and `add-requires`: the target is to want or to require each unit, by a link in its
+/// directory of the scope.
+#[derive(Debug, Drop)]
+pub struct AddTo {
+    pub scope: Scope,
+    pub dependency: Dependency,
+    pub target: UnitName,
+    pub units: Units,
+}
+
+pub(crate) fn is_template(name: &UnitName) -> bool
+    ensures { result ≡ is_template_name name.now }
+{
+    match name.kind() {
+        Kind::Template => true,
+        Kind::Plain | Kind::Instance => false,
+    }
+}
+
+/// What the file asks for when it is installed.
+fn install_text(alloc: Global, contents: &Contents) -> Result<InstallText, AllocError>
+    ensures { IfOk result (λ text. text ≡ text_of contents.now) }
+{
+    match install_of(alloc, contents.bytes()) {
+        Ok(text) => Ok(text),
+        Err(InstallError::Bad(InstallFault::LineTooLong)) => unreachable!(),
+        Err(InstallError::OutOfMemory) => Err(AllocError),
+    }
+}
+
+/// The identity of a unit, by what stands at its file's path.
+fn identity_by(
+    alloc: Global,
+    real: &UnitName,
+    there: Option<&Entry>,
+) -> Result<UnitName, AllocError>
+    ensures { IfOk result (λ name. name ≡ identity_of real.now (default_of (option_copied there.entry))) }
+{
+    match there {
+        Some(Entry::File(contents)) => identity(alloc, real, &install_text(alloc, contents)?),
+        _ => real.copy(),
+    }
+}
+
+/// The name under which a unit is listed by another, if there is one that serves.
+#[tactic(auto, unfolding(crate::specs::AddTo::listed_name))]
+fn listed_name(
+    alloc: Global,
+    by: &UnitName,
+    real: &UnitName,
+    there: Option<&Entry>,
+) -> Result<Option<UnitName>, AllocError>
+    ensures { IfOk result (λ name. name ≡ listed_name by.now real.now (default_of (option_copied there.entry))) }
+{
+    if !is_template(real) || is_template(by) {
+        return Ok(Some(real.copy()?));
+    }
+    let name = identity_by(alloc, real, there)?;
+    match name.kind() {
+        Kind::Instance => Ok(Some(name)),
+        Kind::Plain | Kind::Template => Ok(None),
+    }
+}
+
+impl AddTo {
+    /// A unit that was found is listed by another.
+    #[tactic(auto, unfolding(crate::specs::AddTo::add_file))]
+    fn add_file<'a>(
+        &self,
+        alloc: Global,
+        by: &UnitName,
+        real: UnitName,
+        file: &TreePath,
+        edit: Edit<'a>,
+        cells: &mut Cells,
+    ) -> Result<Result<Edit<'a>, Refusal>, AllocError>
+        ensures { IfOk result (GoesOn (add_file (scope_place self.now.scope) self.now.dependency by.now real file.now) edit.entry cells.old cells.new) }
+    {
+        cells.push(file.copy()?)?;
+        let Some(name) = listed_name(alloc, by, &real, edit.tree().get(file))? else {
+            return Ok(Err(Refusal::NeedsInstance(real)));
+        };
+        let place = self.scope.place();
+        let slot = place.dependency_slot(alloc, self.dependency, by, &name)?;
+        cells.push(slot.copy()?)?;
+        let ruled = link_at(alloc, file, &slot, edit.tree().get(&slot))?;
+        edit.ruled(&slot, ruled)
+    }
+
+    /// One unit is listed by another.
+    #[tactic(auto, unfolding(crate::specs::AddTo::add_unit))]
+    fn add_unit<'a>(
+        &self,
+        alloc: Global,
+        by: &UnitName,
+        unit: &UnitName,
+        edit: Edit<'a>,
+        cells: &mut Cells,
+    ) -> Result<Result<Edit<'a>, Refusal>, AllocError>
+        ensures { IfOk result (GoesOn (add_unit (scope_place self.now.scope) self.now.dependency by.now unit.now) edit.entry cells.old cells.new) }
+    {
+        match find_unit(alloc, edit.tree(), unit, cells)? {
+            Ok((real, file)) => self.add_file(alloc, by, real, &file, edit, cells),
+            Err(refusal) => Ok(Err(refusal)),
+        }
+    }
+
+    /// Each unit is listed by another, on the tree that the earlier ones left.
+    fn add_units<'a>(
+        &self,
+        alloc: Global,
+        by: &UnitName,
+        units: &[UnitName],
+        tree: &'a Tree,
+        cells: &mut Cells,
+    ) -> Result<Result<Edit<'a>, Refusal>, AllocError>
+        ensures { IfOk result (GoesOn (add_units (scope_place self.now.scope) self.now.dependency units.now by.now) (tree.now, tree.now) cells.old cells.new) }
+    {
+        let mut edit = Edit::new(alloc, tree)?;
+        for unit in units {
+            match self.add_unit(alloc, by, unit, edit, cells)? {
+                Ok(next) => edit = next,
+                Err(refusal) => return Ok(Err(refusal)),
+            }
+        }
+        Ok(Ok(edit))
+    }
+
+    fn added<'a>(
+        &self,
+        alloc: Global,
+        tree: &'a Tree,
+        cells: &mut Cells,
+    ) -> Result<Result<Edit<'a>, Refusal>, AllocError>
+        ensures { IfOk result (GoesOn (add_search self.now) (tree.now, tree.now) cells.old cells.new) }
+    {
+        match find_unit(alloc, tree, &self.target, cells)? {
+            Ok((by, _file)) => self.add_units(alloc, &by, self.units.as_slice(), tree, cells),
+            Err(refusal) => Ok(Err(refusal)),
+        }
+    }
+}
+
+impl Operation for AddTo {
+    ghost use Rattle.std.specs.Prelude.{false};
+    ghost use Rattle.slot_commands.specs.Commands.{add_meaning, add_laws};
+
+    ghost meaning = { add_meaning };
+
+    ghost asks = { λ c. false };
+
+    fn run(&self, alloc: Global, tree: &Tree) -> Result<Outcome, AllocError> {
+        let mut cells = Cells::new(alloc);
+        let done = self.added(alloc, tree, &mut cells)?;
+        Outcome::of(alloc, tree, &cells, done)
+    }
+
+    fn asks_only(&self) -> bool {
+        false
+    }
+
+    fn copy(&self) -> Result<AddTo, AllocError> {
+        Ok(AddTo {
+            scope: self.scope,
+            dependency: self.dependency,
+            target: self.target.copy()?,
+            units: self.units.copy()?,
+        })
+    }
+
+    fn same(&self, other: &AddTo) -> bool {
+        self.scope == other.scope
+            && self.dependency == other.dependency
+            && self.target == other.target
+            && self.units.same(&other.units)
+    }
+
+    ghost laws = { add_laws };
+}

@@ -1,0 +1,148 @@
+//! Entries that are placed and removed by hand.
+ghost use Rattle.std.specs.Prelude.{◌≡◌, IfOk};
+ghost use Rattle.std.specs.Option.{option_copied};
+ghost use Rattle.footprint.specs.Edits.{GoesOn};
+ghost use Rattle.slot_commands.specs.ByHand.{place_at, remove_at};
+ghost use Rattle.slot_commands.specs.Commands.{place_search, remove_search};
+
+use footprint::{Edit, Operation, Outcome, Refusal};
+use link_tree::{Entry, Slot, Tree, TreePath};
+use load_path::Cells;
+use std::alloc::{AllocError, Global};
+
+/// Puts a file or a link into an empty slot.
+#[derive(Debug, Drop)]
+pub struct PlaceEntry {
+    pub path: TreePath,
+    pub entry: Entry,
+}
+
+/// Takes the entry of a slot away.
+#[derive(Debug, Drop)]
+pub struct RemoveEntry {
+    pub path: TreePath,
+}
+
+fn place_at(
+    entry: &Entry,
+    path: &TreePath,
+    there: Option<&Entry>,
+) -> Result<Result<Option<Entry>, Refusal>, AllocError>
+    ensures { IfOk result (λ ruled. ruled ≡ place_at entry.now path.now (option_copied there.entry)) }
+{
+    match there {
+        None => Ok(Ok(Some(entry.copy()?))),
+        Some(_) => Ok(Err(Refusal::Exists(path.copy()?))),
+    }
+}
+
+fn remove_at(
+    path: &TreePath,
+    there: Option<&Entry>,
+) -> Result<Result<Option<Entry>, Refusal>, AllocError>
+    ensures { IfOk result (λ ruled. ruled ≡ remove_at path.now (option_copied there.entry)) }
+{
+    match there {
+        None => Ok(Err(Refusal::Absent(path.copy()?))),
+        Some(_) => Ok(Ok(None)),
+    }
+}
+
+impl PlaceEntry {
+    fn placed<'a>(
+        &self,
+        alloc: Global,
+        tree: &'a Tree,
+        cells: &mut Cells,
+    ) -> Result<Result<Edit<'a>, Refusal>, AllocError>
+        ensures { IfOk result (GoesOn (place_search self.now) (tree.now, tree.now) cells.old cells.new) }
+    {
+        if Slot::of(&self.path).is_none() {
+            return Ok(Err(Refusal::NotASlot(self.path.copy()?)));
+        }
+        cells.push(self.path.copy()?)?;
+        let ruled = place_at(&self.entry, &self.path, tree.get(&self.path))?;
+        Edit::new(alloc, tree)?.ruled(&self.path, ruled)
+    }
+}
+
+impl Operation for PlaceEntry {
+    ghost use Rattle.std.specs.Prelude.{false};
+    ghost use Rattle.slot_commands.specs.Commands.{place_meaning, place_laws};
+
+    ghost meaning = { place_meaning };
+
+    ghost asks = { λ c. false };
+
+    fn run(&self, alloc: Global, tree: &Tree) -> Result<Outcome, AllocError> {
+        let mut cells = Cells::new(alloc);
+        let done = self.placed(alloc, tree, &mut cells)?;
+        Outcome::of(alloc, tree, &cells, done)
+    }
+
+    fn asks_only(&self) -> bool {
+        false
+    }
+
+    fn copy(&self) -> Result<PlaceEntry, AllocError> {
+        Ok(PlaceEntry {
+            path: self.path.copy()?,
+            entry: self.entry.copy()?,
+        })
+    }
+
+    fn same(&self, other: &PlaceEntry) -> bool {
+        self.path == other.path && self.entry.same(&other.entry)
+    }
+
+    ghost laws = { place_laws };
+}
+
+impl RemoveEntry {
+    fn removed<'a>(
+        &self,
+        alloc: Global,
+        tree: &'a Tree,
+        cells: &mut Cells,
+    ) -> Result<Result<Edit<'a>, Refusal>, AllocError>
+        ensures { IfOk result (GoesOn (remove_search self.now) (tree.now, tree.now) cells.old cells.new) }
+    {
+        if Slot::of(&self.path).is_none() {
+            return Ok(Err(Refusal::NotASlot(self.path.copy()?)));
+        }
+        cells.push(self.path.copy()?)?;
+        let ruled = remove_at(&self.path, tree.get(&self.path))?;
+        Edit::new(alloc, tree)?.ruled(&self.path, ruled)
+    }
+}
+
+impl Operation for RemoveEntry {
+    ghost use Rattle.std.specs.Prelude.{false};
+    ghost use Rattle.slot_commands.specs.Commands.{remove_meaning, remove_laws};
+
+    ghost meaning = { remove_meaning };
+
+    ghost asks = { λ c. false };
+
+    fn run(&self, alloc: Global, tree: &Tree) -> Result<Outcome, AllocError> {
+        let mut cells = Cells::new(alloc);
+        let done = self.removed(alloc, tree, &mut cells)?;
+        Outcome::of(alloc, tree, &cells, done)
+    }
+
+    fn asks_only(&self) -> bool {
+        false
+    }
+
+    fn copy(&self) -> Result<RemoveEntry, AllocError> {
+        Ok(RemoveEntry {
+            path: self.path.copy()?,
+        })
+    }
+
+    fn same(&self, other: &RemoveEntry) -> bool {
+        self.path == other.path
+    }
+
+    ghost laws = { remove_laws };
+}

@@ -1,0 +1,140 @@
+//! link.
+ghost use Rattle.std.specs.Prelude.{◌≡◌, [], IfOk};
+ghost use Rattle.link_tree.specs.Slots.{name_at, slot_of};
+ghost use Rattle.load_path.specs.RealNames.{named};
+ghost use Rattle.footprint.specs.Steps.{each_in_turn};
+ghost use Rattle.footprint.specs.Edits.{GoesOn};
+ghost use Rattle.slot_commands.specs.LinkUnits.{is_of_unit, link_file, link_unit};
+
+use crate::link::link_at;
+use crate::paths::Paths;
+use footprint::{Edit, Operation, Outcome, Refusal, Subject};
+use link_tree::{Place, Scope, Slot, Tree, TreePath};
+use load_path::{Cells, End, follow_into};
+use std::alloc::{AllocError, Global};
+use unit_name::{NameError, UnitName};
+
+/// systemctl(1), `link`: links each unit file that is given by its path into the directory of the scope, under its own
+/// name. A path in one of the directories of units changes nothing.
+#[derive(Debug, Drop)]
+pub struct LinkUnits {
+    pub scope: Scope,
+    pub paths: Paths,
+}
+
+/// The file name of a path, where it is that of a unit.
+fn unit_named(alloc: Global, path: &TreePath) -> Result<Option<UnitName>, AllocError>
+    ensures { IfOk result (λ name. name ≡ named (name_at path.now)) }
+{
+    match UnitName::parse(alloc, path.file_name()) {
+        Ok(name) => Ok(Some(name)),
+        Err(NameError::Bad(_)) => Ok(None),
+        Err(NameError::OutOfMemory) => Err(AllocError),
+    }
+}
+
+fn is_of_unit(path: &TreePath) -> bool
+    ensures { result ≡ is_of_unit (slot_of path.now) }
+{
+    match Slot::of(path) {
+        Some(Slot::Unit(_)) => true,
+        _ => false,
+    }
+}
+
+fn link_file<'a>(
+    alloc: Global,
+    place: Place,
+    path: &TreePath,
+    edit: Edit<'a>,
+    cells: &mut Cells,
+) -> Result<Result<Edit<'a>, Refusal>, AllocError>
+    ensures { IfOk result (GoesOn (link_file place path.now) edit.entry cells.old cells.new) }
+{
+    let Some(name) = unit_named(alloc, path)? else {
+        return Ok(Err(Refusal::BadType(Subject::Path(path.copy()?))));
+    };
+    if is_of_unit(path) {
+        return Ok(Ok(edit));
+    }
+    let slot = place.slot(alloc, &name)?;
+    cells.push(slot.copy()?)?;
+    let ruled = link_at(alloc, path, &slot, edit.tree().get(&slot))?;
+    edit.ruled(&slot, ruled)
+}
+
+#[tactic(auto, unfolding(crate::specs::LinkUnits::link_unit))]
+fn link_unit<'a>(
+    alloc: Global,
+    place: Place,
+    path: &TreePath,
+    edit: Edit<'a>,
+    cells: &mut Cells,
+) -> Result<Result<Edit<'a>, Refusal>, AllocError>
+    ensures { IfOk result (GoesOn (link_unit place path.now) edit.entry cells.old cells.new) }
+{
+    match follow_into(alloc, edit.tree(), path, cells)? {
+        End::Missing => Ok(Err(Refusal::NotFound(Subject::Path(path.copy()?)))),
+        End::Null => Ok(Err(Refusal::Masked(Subject::Path(path.copy()?)))),
+        End::Dangling(link) => Ok(Err(Refusal::Dangling(link))),
+        End::File(_) => link_file(alloc, place, path, edit, cells),
+    }
+}
+
+/// Links each path, on the tree that the earlier ones left.
+fn link_each<'a>(
+    alloc: Global,
+    place: Place,
+    paths: &[TreePath],
+    tree: &'a Tree,
+    cells: &mut Cells,
+) -> Result<Result<Edit<'a>, Refusal>, AllocError>
+    ensures { IfOk result (GoesOn (each_in_turn (link_unit place) paths.now []) (tree.now, tree.now) cells.old cells.new) }
+{
+    let mut edit = Edit::new(alloc, tree)?;
+    for path in paths {
+        match link_unit(alloc, place, path, edit, cells)? {
+            Ok(next) => edit = next,
+            Err(refusal) => return Ok(Err(refusal)),
+        }
+    }
+    Ok(Ok(edit))
+}
+
+impl Operation for LinkUnits {
+    ghost use Rattle.std.specs.Prelude.{false};
+    ghost use Rattle.slot_commands.specs.Commands.{link_meaning, link_laws};
+
+    ghost meaning = { link_meaning };
+
+    ghost asks = { λ c. false };
+
+    fn run(&self, alloc: Global, tree: &Tree) -> Result<Outcome, AllocError> {
+        let mut cells = Cells::new(alloc);
+        let done = link_each(
+            alloc,
+            self.scope.place(),
+            self.paths.as_slice(),
+            tree,
+            &mut cells,
+        )?;
+        Outcome::of(alloc, tree, &cells, done)
+    }
+
+    fn asks_only(&self) -> bool {
+        false
+    }
+
+    fn copy(&self) -> Result<LinkUnits, AllocError> {
+        Ok(LinkUnits {
+            scope: self.scope,
+            paths: self.paths.copy()?,
+        })
+    }
+
+    fn same(&self, other: &LinkUnits) -> bool {
+        self.scope == other.scope && self.paths.same(&other.paths)
+    }
+
+    ghost laws = { link_laws };
+}

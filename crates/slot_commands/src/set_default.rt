@@ -1,0 +1,112 @@
+//! set-default.
+ghost use Rattle.std.specs.Prelude.{◌≡◌, true, IfOk};
+ghost use Rattle.unit_name.specs.Name.{type_of};
+ghost use Rattle.link_tree.specs.Slots.{is_slot};
+ghost use Rattle.footprint.specs.Edits.{GoesOn};
+ghost use Rattle.slot_commands.specs.SetDefault.{default_slot, is_target_type, default_file};
+ghost use Rattle.slot_commands.specs.Commands.{default_search};
+
+use crate::add_to::is_template;
+use crate::found::find_unit;
+use crate::link::relink_at;
+use footprint::{Edit, Operation, Outcome, Refusal, Subject};
+use link_tree::{PathError, Tree, TreePath};
+use load_path::Cells;
+use std::alloc::{AllocError, Global};
+use unit_name::{UnitName, UnitType};
+
+/// systemctl(1), `set-default`: `default.target` becomes a link to the file of a target.
+#[derive(Debug, Drop)]
+pub struct SetDefault {
+    pub unit: UnitName,
+}
+
+/// Where the link stands that names the default target.
+fn default_slot(alloc: Global) -> Result<TreePath, AllocError>
+    ensures path { IfOk result (λ path. path ≡ default_slot) }
+    ensures slot { IfOk result (λ path. is_slot path ≡ true) }
+{
+    match TreePath::parse(alloc, b"/etc/systemd/system/default.target") {
+        Ok(path) => Ok(path),
+        Err(PathError::BadPath) => unreachable!(),
+        Err(PathError::OutOfMemory) => Err(AllocError),
+    }
+}
+
+fn is_target(name: &UnitName) -> bool
+    ensures { result ≡ is_target_type (type_of name.now) }
+{
+    match name.unit_type() {
+        UnitType::Target => true,
+        _ => false,
+    }
+}
+
+impl SetDefault {
+    fn default_file<'a>(
+        &self,
+        alloc: Global,
+        real: UnitName,
+        file: &TreePath,
+        tree: &'a Tree,
+        cells: &mut Cells,
+    ) -> Result<Result<Edit<'a>, Refusal>, AllocError>
+        ensures { IfOk result (GoesOn (default_file self.now.unit real file.now) (tree.now, tree.now) cells.old cells.new) }
+    {
+        if !is_target(&self.unit) {
+            return Ok(Err(Refusal::BadType(Subject::Unit(self.unit.copy()?))));
+        }
+        if is_template(&real) {
+            return Ok(Err(Refusal::NeedsInstance(real)));
+        }
+        let slot = default_slot(alloc)?;
+        cells.push(slot.copy()?)?;
+        let ruled = relink_at(alloc, file, &slot, tree.get(&slot))?;
+        Edit::new(alloc, tree)?.ruled(&slot, ruled)
+    }
+
+    fn made<'a>(
+        &self,
+        alloc: Global,
+        tree: &'a Tree,
+        cells: &mut Cells,
+    ) -> Result<Result<Edit<'a>, Refusal>, AllocError>
+        ensures { IfOk result (GoesOn (default_search self.now) (tree.now, tree.now) cells.old cells.new) }
+    {
+        match find_unit(alloc, tree, &self.unit, cells)? {
+            Ok((real, file)) => self.default_file(alloc, real, &file, tree, cells),
+            Err(refusal) => Ok(Err(refusal)),
+        }
+    }
+}
+
+impl Operation for SetDefault {
+    ghost use Rattle.std.specs.Prelude.{false};
+    ghost use Rattle.slot_commands.specs.Commands.{default_meaning, default_laws};
+
+    ghost meaning = { default_meaning };
+
+    ghost asks = { λ c. false };
+
+    fn run(&self, alloc: Global, tree: &Tree) -> Result<Outcome, AllocError> {
+        let mut cells = Cells::new(alloc);
+        let done = self.made(alloc, tree, &mut cells)?;
+        Outcome::of(alloc, tree, &cells, done)
+    }
+
+    fn asks_only(&self) -> bool {
+        false
+    }
+
+    fn copy(&self) -> Result<SetDefault, AllocError> {
+        Ok(SetDefault {
+            unit: self.unit.copy()?,
+        })
+    }
+
+    fn same(&self, other: &SetDefault) -> bool {
+        self.unit == other.unit
+    }
+
+    ghost laws = { default_laws };
+}

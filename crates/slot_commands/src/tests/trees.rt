@@ -1,0 +1,215 @@
+//! Trees, and what commands come to on them.
+use crate::Paths;
+use footprint::{Answer, Key, Observation, Operation, Outcome, Refusal, Subject, Units};
+use link_tree::{
+    Change, Entry, FromRead, InventoryError, PathError, Tree, TreePath, read_inventory,
+};
+use std::alloc::{AllocError, Global};
+use std::process::Abort;
+use std::test::Fail;
+use unit_name::{NameError, UnitName, ample};
+
+pub(crate) fn tree(alloc: Global, text: &[u8]) -> Result<Tree, InventoryError> {
+    let mut bytes = text;
+    ample!(
+        {
+            bytes = text;
+            read_inventory(alloc, &mut FromRead::new(&mut bytes))
+        },
+        InventoryError::OutOfMemory
+    )
+}
+
+pub(crate) fn name(alloc: Global, text: &[u8]) -> Result<UnitName, NameError> {
+    ample!(UnitName::parse(alloc, text), NameError::OutOfMemory)
+}
+
+pub(crate) fn path(alloc: Global, text: &[u8]) -> Result<TreePath, PathError> {
+    ample!(TreePath::parse(alloc, text), PathError::OutOfMemory)
+}
+
+/// The names of units that have spaces between them.
+pub(crate) fn units(alloc: Global, names: &[u8]) -> Result<Units, NameError> {
+    let mut units = Units::none(alloc);
+    for name in names.split(|b| *b == b' ') {
+        ample!(
+            {
+                let name = ample!(UnitName::parse(alloc, name), NameError::OutOfMemory)?;
+                units.push(name)
+            },
+            AllocError
+        )?;
+    }
+    Ok(units)
+}
+
+/// Paths that have spaces between them.
+pub(crate) fn paths(alloc: Global, texts: &[u8]) -> Result<Paths, Fail> {
+    let mut paths = Paths::none(alloc);
+    for text in texts.split(|b| *b == b' ') {
+        ample!(
+            {
+                let path = ample!(TreePath::parse(alloc, text), PathError::OutOfMemory)?;
+                paths.push(path)
+            },
+            AllocError
+        )?;
+    }
+    Ok(paths)
+}
+
+fn push_entry(out: &mut Vec<u8>, entry: &Entry) -> Result<(), AllocError> {
+    let kind: &[u8] = match entry {
+        Entry::File(_) => b" file ",
+        Entry::Link(_) => b" -> ",
+    };
+    out.extend_from_slice(kind)?;
+    out.extend_from_slice(entry.bytes())
+}
+
+fn push_side(
+    out: &mut Vec<u8>,
+    sign: &[u8],
+    path: &TreePath,
+    side: &Option<Entry>,
+) -> Result<(), AllocError> {
+    let Some(entry) = side else {
+        return Ok(());
+    };
+    out.extend_from_slice(sign)?;
+    out.extend_from_slice(path.text())?;
+    push_entry(out, entry)?;
+    out.extend_from_slice(b"\n")
+}
+
+/// What stood at each path, and what stands there.
+fn push_changes(out: &mut Vec<u8>, changes: &[Change]) -> Result<(), AllocError> {
+    for change in changes {
+        push_side(out, b"- ", &change.path, &change.before)?;
+        push_side(out, b"+ ", &change.path, &change.after)?;
+    }
+    Ok(())
+}
+
+fn text_of(subject: &Subject) -> &[u8] {
+    match subject {
+        Subject::Unit(name) => name.text(),
+        Subject::Path(path) => path.text(),
+    }
+}
+
+fn words_of(refusal: &Refusal) -> &'static [u8] {
+    match refusal {
+        Refusal::NotFound(_) => b"not found: ",
+        Refusal::Masked(_) => b"masked: ",
+        Refusal::Dangling(_) => b"dangling: ",
+        Refusal::BadType(_) => b"bad type: ",
+        Refusal::NeedsInstance(_) => b"needs instance: ",
+        Refusal::NotASlot(_) => b"not a slot: ",
+        Refusal::Absent(_) => b"absent: ",
+        Refusal::Exists(_) => b"exists: ",
+        Refusal::IsAlias { .. } => b"alias: ",
+        Refusal::TooMany => b"too many",
+        Refusal::Clash(_) => b"clash: ",
+    }
+}
+
+/// What a refusal names.
+fn named_by(refusal: &Refusal) -> &[u8] {
+    match refusal {
+        Refusal::NotFound(subject) | Refusal::Masked(subject) | Refusal::BadType(subject) => {
+            text_of(subject)
+        }
+        Refusal::NeedsInstance(name) => name.text(),
+        Refusal::Dangling(path)
+        | Refusal::NotASlot(path)
+        | Refusal::Absent(path)
+        | Refusal::Exists(path)
+        | Refusal::Clash(path) => path.text(),
+        Refusal::IsAlias { unit, .. } => unit.text(),
+        Refusal::TooMany => b"",
+    }
+}
+
+fn push_answer(out: &mut Vec<u8>, answer: &Answer) -> Result<(), AllocError> {
+    match answer {
+        Answer::Refused(refusal) => {
+            out.extend_from_slice(words_of(refusal))?;
+            out.extend_from_slice(named_by(refusal))
+        }
+        Answer::Done(_) => out.extend_from_slice(b"done"),
+        _ => out.extend_from_slice(b"no answer of commands"),
+    }
+}
+
+/// What an operation comes to: its answer, and a line for each entry before and after.
+fn push_outcome(out: &mut Vec<u8>, outcome: &Outcome) -> Result<(), AllocError> {
+    push_answer(out, &outcome.answer)?;
+    out.extend_from_slice(b"\n")?;
+    push_changes(out, outcome.changes.as_slice())
+}
+
+fn told<O: Operation>(alloc: Global, operation: &O, tree: &Tree) -> Result<Vec<u8>, AllocError> {
+    let outcome = operation.run(alloc, tree)?;
+    let mut out = Vec::new(alloc);
+    push_outcome(&mut out, &outcome)?;
+    Ok(out)
+}
+
+/// Copies are the same, and no questions.
+fn assert_copied<O: Operation>(rt: &impl Abort, operation: &O) -> Result<(), AllocError> {
+    let copy = ample!(operation.copy(), AllocError)?;
+    assert!(rt; copy.same(operation));
+    assert!(rt; !copy.asks_only());
+    Ok(())
+}
+
+/// An operation comes to this, and can be copied.
+pub(crate) fn assert_told<O: Operation>(
+    rt: &impl Abort,
+    alloc: Global,
+    operation: &O,
+    tree: &Tree,
+    text: &[u8],
+) -> Result<(), AllocError> {
+    assert_copied(rt, operation)?;
+    let told = ample!(told(alloc, operation, tree), AllocError)?;
+    assert_eq!(rt; told.as_slice(), text);
+    Ok(())
+}
+
+/// The cells that were read, a line for each.
+fn push_reading(out: &mut Vec<u8>, reading: &[Observation]) -> Result<(), AllocError> {
+    for observation in reading {
+        match &observation.key {
+            Key::Cell(path) => out.extend_from_slice(path.text())?,
+            _ => out.extend_from_slice(b"no cell")?,
+        }
+        out.extend_from_slice(b"\n")?;
+    }
+    Ok(())
+}
+
+fn read_by<O: Operation>(alloc: Global, operation: &O, tree: &Tree) -> Result<Vec<u8>, AllocError> {
+    let outcome = operation.run(alloc, tree)?;
+    let mut out = Vec::new(alloc);
+    push_reading(&mut out, outcome.reading.as_slice())?;
+    Ok(out)
+}
+
+pub(crate) fn assert_reads<O: Operation>(
+    rt: &impl Abort,
+    alloc: Global,
+    operation: &O,
+    tree: &Tree,
+    text: &[u8],
+) -> Result<(), AllocError> {
+    let read = ample!(read_by(alloc, operation, tree), AllocError)?;
+    assert_eq!(rt; read.as_slice(), text);
+    Ok(())
+}
+
+pub(crate) fn assert_other<O: Operation>(rt: &impl Abort, one: &O, other: &O) {
+    assert!(rt; !one.same(other));
+    assert!(rt; !other.same(one));
+}
