@@ -1,0 +1,145 @@
+-- Calls keep the history: its rows are the machine's, and its tree is the replay.
+use Rattle.std.proofs.Common.{◌≡◌, ◌+◌, ◌-◌, ◌<◌, ◌≤◌, ℕ, zero, suc, Bool, true, List, [], ◌∷◌, ◌++◌, Option, Some, None, slice_get, get_or, set, length-append, length, refl, sym, ap, subst, ◌∙◌, arith, All}
+use Rattle.std.proofs.lemmas.Option.{slice_get_within, slice_get_read}
+use Rattle.std.proofs.lemmas.List.Elements.{All-head, All-tail, All-cons, All-nil, All-append}
+use Rattle.link_tree.specs.Slots.{is_slot}
+use Rattle.link_tree.specs.Trees.{Entries, AreFrom, after_changes, turned}
+use Rattle.footprint.specs.Inquiry.{Inquiry}
+use Rattle.footprint.specs.Operations.{Effect, outcome_of, OperationLaws}
+use Rattle.history.specs.declared.row.UndoRefusal.{UndoRefusal}
+use Rattle.history.specs.declared.row.Row.{Row}
+use Rattle.history.specs.declared.row.Request.TheVariants.{Do, Undo}
+use Rattle.history.specs.declared.row.RowReply.TheVariants.{Undid, UndoRefused}
+use Rattle.history.specs.Logs.{Log}
+use Rattle.history.specs.Rows.{row_at, answered, row_of_undo, mark, undone, rows_undone, ChangesSlots, survivor, undo_refusal, after, calls_of, run, AnswersAlike, IsKept}
+use Rattle.history.proofs.Replayed.{length-mark, free_row, legal-after, replay-push, new_row, removed, alike-run}
+
+module _ {O : Type 0} where
+  slots-push : (rows : List (Row O)) (row : Row O) → All (ChangesSlots {O = O}) rows → ChangesSlots row → All (ChangesSlots {O = O}) (rows ++ row ∷ [])
+  slots-push rows row all here = All-append (ChangesSlots {O = O}) rows (row ∷ []) all (All-cons (ChangesSlots {O = O}) row [] here (All-nil (ChangesSlots {O = O})))
+
+  -- marking a row changes nothing of what it changed
+  mark_slots : (rows : List (Row O)) (k by : ℕ) → All (ChangesSlots {O = O}) rows → All (ChangesSlots {O = O}) (mark rows k by)
+  mark_slots [] k by all = all
+  mark_slots (row ∷ rows) zero by all =
+      All-cons (ChangesSlots {O = O}) (record row { undone_by = Some by }) rows (All-head (ChangesSlots {O = O}) row rows all) (All-tail (ChangesSlots {O = O}) row rows all)
+  mark_slots (row ∷ rows) (suc k) by all =
+      All-cons (ChangesSlots {O = O}) row (mark rows k by) (All-head (ChangesSlots {O = O}) row rows all) (mark_slots rows k by (All-tail (ChangesSlots {O = O}) row rows all))
+
+  slots_at : (rows : List (Row O)) (k : ℕ) (row : Row O) → All (ChangesSlots {O = O}) rows → slice_get rows k ≡ Some row → ChangesSlots row
+  slots_at [] k row all h = cc
+  slots_at (r ∷ rows) zero row all h = let same : r ≡ row = cc in subst (ChangesSlots {O = O}) same (All-head (ChangesSlots {O = O}) r rows all)
+  slots_at (r ∷ rows) (suc k) row all h = slots_at rows k row (All-tail (ChangesSlots {O = O}) r rows all) h
+
+  -- row n, from 1 on, is the one at place n - 1
+  row_at_is : (rows : List (Row O)) (n : ℕ) → 0 < n → slice_get rows (n - 1) ≡ row_at rows n
+  row_at_is rows zero h = absurd (omega arith)
+  row_at_is rows (suc k) h = let one : suc k - 1 ≡ k = omega arith in ap (slice_get rows) one
+
+  -- the row that is read at place n - 1
+  pub row_at_read : (rows : List (Row O)) (n : ℕ) (row : Row O) → 0 < n → n ≤ length rows → row ≡ get_or rows (n - 1) row → row_at rows n ≡ Some row
+  row_at_read rows n row pos le is = sym (row_at_is rows n pos) ∙ slice_get_read rows (length rows) (n - 1) row refl (omega arith) is
+
+  undone_is : (rows : List (Row O)) (n by : ℕ) → 0 < n → mark rows (n - 1) by ≡ undone rows n by
+  undone_is rows zero by h = absurd (omega arith)
+  undone_is rows (suc k) by h = let one : suc k - 1 ≡ k = omega arith in ap (λ (j : ℕ). mark rows j by) one
+
+  -- a row is marked after another was added
+  mark_pushed : (rows : List (Row O)) (k by : ℕ) (row last : Row O) → slice_get rows k ≡ Some row
+      → set (rows ++ last ∷ []) k (record row { undone_by = Some by }) ≡ mark rows k by ++ last ∷ []
+  mark_pushed [] k by row last h = cc
+  mark_pushed (r ∷ rows) zero by row last h = let same : r ≡ row = cc in ap (λ (x : Row O). record x { undone_by = Some by } ∷ (rows ++ last ∷ [])) (sym same)
+  mark_pushed (r ∷ rows) (suc k) by row last h = ap (λ rs. r ∷ rs) (mark_pushed rows k by row last h)
+
+  front_of_push : (rows : List (Row O)) (k : ℕ) (row last : Row O) → k < length rows → slice_get (rows ++ last ∷ []) k ≡ Some row → slice_get rows k ≡ Some row
+  front_of_push [] k row last lt h = absurd (omega arith)
+  front_of_push (r ∷ rows) zero row last lt h = h
+  front_of_push (r ∷ rows) (suc k) row last lt h = front_of_push rows k row last (omega arith) h
+
+  -- the row that is read there after another was added is marked
+  pub marked_read : (rows pushed : List (Row O)) (n by : ℕ) (row last : Row O) → pushed ≡ rows ++ last ∷ [] → 0 < n → n ≤ length rows → row ≡ get_or pushed (n - 1) row → by ≡ length pushed
+      → set pushed (n - 1) (record row { undone_by = Some by }) ≡ undone rows n (length rows + 1) ++ last ∷ []
+  marked_read rows pushed n by row last is pos le read count =
+      let at : slice_get pushed (n - 1) ≡ Some row = slice_get_read pushed (length pushed) (n - 1) row refl (omega (arith, ap length is, length-append rows (last ∷ []))) read in
+      let here : slice_get rows (n - 1) ≡ Some row = front_of_push rows (n - 1) row last (omega arith) (rw is at at) in
+      let many : by ≡ length rows + 1 = omega (arith, ap length is, length-append rows (last ∷ [])) in
+      ap (λ (rs : List (Row O)). set rs (n - 1) (record row { undone_by = Some by })) is ∙ mark_pushed rows (n - 1) by row last here ∙ ap (λ (b : ℕ). mark rows (n - 1) b ++ last ∷ []) many
+      ∙ ap (λ (rs : List (Row O)). rs ++ last ∷ []) (undone_is rows n (length rows + 1) pos)
+
+module _ {O : Type 0} {asks : O → Bool} {meaning : O → Inquiry Effect} where
+  -- a refused undo keeps the history
+  pub kept-refuse : (operator : List ℕ) (first tree : Entries) (rows : List (Row O)) (limit n : ℕ) (u : UndoRefusal) → length rows < limit → undo_refusal asks rows n ≡ Some u → IsKept asks meaning first tree rows limit
+      → IsKept asks meaning first tree (rows ++ row_of_undo operator n (UndoRefused u) ∷ []) limit
+  kept-refuse operator first tree rows limit n u room is kept =
+      let row = row_of_undo {O = O} operator n (UndoRefused u) in
+      record {
+        legal = subst (λ (o : Option UndoRefusal). rows_undone operator rows n o ≡ run asks meaning first [] (calls_of (rows_undone operator rows n o))) is
+            (legal-after asks meaning first rows (operator, Undo n) kept.legal);
+        tree_is = kept.tree_is ∙ sym (replay-push asks meaning first rows row);
+        slots = slots-push rows row kept.slots (All-nil (λ change. is_slot change.path ≡ true));
+        few = omega (arith, length-append rows (row ∷ []));
+        bounded = kept.bounded;
+      }
+
+module _ {O : Type 0} {asks : O → Bool} {meaning : O → Inquiry Effect} (laws : OperationLaws asks meaning) where
+  -- what the rows of a history tell
+  pub alike_kept : (first : Entries) (rows : List (Row O)) → rows ≡ run asks meaning first [] (calls_of rows) → AnswersAlike asks meaning first rows
+  alike_kept first rows legal = subst (AnswersAlike asks meaning first) (sym legal) (alike-run laws first [] (calls_of rows) tt)
+
+  -- an operation keeps the history
+  pub kept-call : (operator : List ℕ) (c : O) (first tree : Entries) (rows : List (Row O)) (limit : ℕ) → length rows < limit
+      → All (λ change. is_slot change.path ≡ true) (outcome_of meaning c tree).changes → IsKept asks meaning first tree rows limit
+      → IsKept asks meaning first (after_changes (outcome_of meaning c tree).changes tree) (rows ++ answered operator c (outcome_of meaning c tree) ∷ []) limit
+  kept-call operator c first tree rows limit room slots kept =
+      let row = answered operator c (outcome_of meaning c tree) in
+      record {
+        legal = subst (λ (t : Entries). rows ++ answered operator c (outcome_of meaning c t) ∷ [] ≡ run asks meaning first [] (calls_of (rows ++ answered operator c (outcome_of meaning c t) ∷ []))) (sym kept.tree_is)
+            (legal-after asks meaning first rows (operator, Do c) kept.legal);
+        tree_is = sym (new_row laws operator c tree).0 ∙ ap (after asks meaning (survivor asks row)) kept.tree_is ∙ sym (replay-push asks meaning first rows row);
+        slots = slots-push rows row kept.slots slots;
+        few = omega (arith, length-append rows (row ∷ []));
+        bounded = kept.bounded;
+      }
+
+  -- what an undo that isn't refused may rely on: the changes of its row can be taken back, and that keeps the history
+  pub record CanBeTakenBack (operator : List ℕ) (first tree : Entries) (rows : List (Row O)) (limit n : ℕ) (row : Row O) : Type 0 where
+    pub slots : ChangesSlots row
+    pub from : AreFrom tree (turned row.changes)
+    pub kept : IsKept asks meaning first (after_changes (turned row.changes) tree) (undone rows n (length rows + 1) ++ row_of_undo operator n (Undid n) ∷ []) limit
+
+  can_be_taken_back : (operator : List ℕ) (first tree : Entries) (rows : List (Row O)) (limit n : ℕ) (row : Row O) → length rows < limit → IsKept asks meaning first tree rows limit → undo_refusal asks rows n ≡ None → row_at rows n ≡ Some row
+      → CanBeTakenBack operator first tree rows limit n row
+  can_be_taken_back operator first tree rows limit zero row room kept is here = cc
+  can_be_taken_back operator first tree rows limit (suc k) row room kept is here =
+      let found = free_row asks rows k is in
+      let free = found.1 in
+      let same : found.0 ≡ row = cc (free.here, here) in
+      let by = length rows + 1 in
+      let last = row_of_undo {O = O} operator (suc k) (Undid (suc k)) in
+      let parts = removed laws rows first k (suc k + 1) by found.0 (alike_kept first rows kept.legal) free.here free.stands free.unblocked in
+      subst (CanBeTakenBack operator first tree rows limit (suc k)) same (record {
+        slots = slots_at rows k found.0 kept.slots free.here;
+        from = subst (λ (u : Entries). AreFrom u (turned found.0.changes)) (sym kept.tree_is) parts.2;
+        kept = record {
+          legal = subst (λ (o : Option UndoRefusal). rows_undone operator rows (suc k) o ≡ run asks meaning first [] (calls_of (rows_undone operator rows (suc k) o))) is
+              (legal-after asks meaning first rows (operator, Undo (suc k)) kept.legal);
+          tree_is = ap (after_changes (turned found.0.changes)) kept.tree_is ∙ sym parts.1 ∙ sym (replay-push asks meaning first (mark rows k by) last);
+          slots = slots-push (mark rows k by) last (mark_slots rows k by kept.slots) (All-nil (λ change. is_slot change.path ≡ true));
+          few = omega (arith, length-append (mark rows k by) (last ∷ []), length-mark rows k by);
+          bounded = kept.bounded;
+        };
+      })
+
+  within : (rows : List (Row O)) (n : ℕ) → undo_refusal asks rows n ≡ None → (0 < n) × (n ≤ length rows)
+  within rows zero h = cc
+  within rows (suc k) h = let found = free_row asks rows k h in (omega arith, omega (arith, slice_get_within rows k found.0 found.1.here))
+
+  -- the same, of the row that is read, where the history is seen as a whole
+  pub undo_seen : (operator : List ℕ) (first tree : Entries) (rows : List (Row O)) (limit : ℕ) (seen : Log O) (n : ℕ) (row : Row O) → ◌≡◌ {A = Log O} (record { first = first; rows = rows; limit = limit }) seen
+      → length seen.rows < seen.limit → undo_refusal asks seen.rows n ≡ None → IsKept asks meaning first tree rows limit → row ≡ get_or rows (n - 1) row
+      → (0 < n) × (n ≤ length rows) × CanBeTakenBack operator first tree rows limit n row
+  undo_seen operator first tree rows limit seen n row is room free kept read =
+      let few : length rows < limit = subst (λ (v : Log O). length v.rows < v.limit) (sym is) room in
+      let may : undo_refusal asks rows n ≡ None = subst (λ (v : Log O). undo_refusal asks v.rows n ≡ None) (sym is) free in
+      let there = within rows n may in
+      (there.0, there.1, can_be_taken_back operator first tree rows limit n row few kept may (row_at_read rows n row there.0 there.1 read))

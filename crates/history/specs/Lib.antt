@@ -1,0 +1,5 @@
+pub mod Operators
+pub mod Rows
+pub mod Logs
+pub mod Laws
+pub mod Samples

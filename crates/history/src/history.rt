@@ -1,0 +1,325 @@
+//! The calls so far, and the tree that they leave.
+ghost use Rattle.std.specs.Prelude.{◌≡◌, ◌≤◌, ◌<◌, ◌+◌, ◌++◌, ◌∷◌, ◌↔◌, [], None, Some, length, drop, true, All, IfOk, IfErr, OnOk, OnErr, IsErrOf, vec_len, vec_capacity};
+ghost use Rattle.std.specs.List.{list_any};
+ghost use Rattle.link_tree.specs.Slots.{is_slot};
+ghost use Rattle.link_tree.specs.Trees.{after_changes};
+ghost use Rattle.footprint.specs.Keys.{touches};
+ghost use Rattle.footprint.specs.Operations.{outcome_of};
+ghost use Rattle.history.specs.Logs.{Log};
+ghost use Rattle.history.specs.Rows.{meets, first_met, blocker, undo_refusal, rows_undone, rows_after, replay, run, calls_of, AnswersAlike, AreMarked, IdleStays, GivesBack};
+ghost use Rattle.history.specs.declared.row.Request.TheVariants.{Do, Undo};
+ghost use Rattle.history.specs.declared.history.CallError.TheVariants.{OutOfMemory};
+
+use crate::operator::Operator;
+use crate::row::{Row, RowReply, UndoRefusal};
+use footprint::{Key, Observation, Operation, Outcome, touches};
+use link_tree::{Change, Tree};
+use std::alloc::{AllocError, AllocFailed, Global};
+use std::marker::Model;
+
+/// The most rows that a history may have.
+pub const MAX_ROWS: usize = 1_000_000;
+
+/// Why a call made no row.
+#[derive(Clone, Copy, Debug, PartialEq, Eq)]
+pub enum CallError {
+    /// There are as many rows as there may be.
+    Full,
+    OutOfMemory,
+}
+
+impl From<AllocError> for CallError {
+    ghost from_gives = { λ _ e. e ≡ OutOfMemory };
+
+    fn from(_e: AllocError) -> CallError {
+        CallError::OutOfMemory
+    }
+}
+
+impl<T: Drop> From<AllocFailed<T>> for CallError {
+    ghost from_gives = { λ _ e. e ≡ OutOfMemory };
+
+    fn from(_e: AllocFailed<T>) -> CallError {
+        CallError::OutOfMemory
+    }
+}
+
+/// An operation that was not run, and why.
+#[derive(Debug, Drop)]
+pub struct Unrun<O> {
+    pub operation: O,
+    pub why: CallError,
+}
+
+/// All calls on a tree, from the first on. Contracts see the first tree, the rows, and how many there may be.
+#[derive(Drop)]
+pub struct History<O: Operation> {
+    first: Tree,
+    tree: Tree,
+    rows: Vec<Row<O>>,
+    limit: usize,
+}
+
+impl<O: Operation> Model for History<O> {
+    ghost use Rattle.std.specs.Prelude.{List, ℕ};
+    ghost use Rattle.std.specs.Coded.{codes, code_by};
+    ghost use Rattle.std.specs.FinMap as map;
+    ghost use Rattle.link_tree.specs.Trees.{Entries, path_cmp};
+    ghost use Rattle.link_tree.specs.Values.{coded_path, coded_entry};
+    ghost use Rattle.history.specs.declared.row.Row.{Row};
+    ghost use Rattle.history.specs.Logs.{Log, parts_of, of_parts, of_own_parts};
+    ghost use Rattle.history.specs.Rows.{IsKept};
+
+    ghost Value = { Log O };
+
+    ghost coded = { code_by (Entries × List (Row O) × ℕ) (Prim.hlevel (codes, map.code {R = path_cmp} coded_path coded_entry)) parts_of of_parts of_own_parts };
+
+    ghost view = { λ history. record { first = history.first; rows = history.rows.items; limit = history.limit } };
+
+    ghost invariant = { λ history. IsKept O.asks O.meaning history.first history.tree history.rows.items history.limit };
+}
+
+impl<O: Operation> History<O> {
+    /// A history of no calls, which may have a million rows.
+    pub fn new(alloc: Global, tree: Tree) -> Result<History<O>, AllocError>
+        ensures { IfOk result (λ history. history ≡ record { first = tree; rows = []; limit = 1000000 }) }
+    {
+        History::with_limit(alloc, tree, MAX_ROWS)
+    }
+
+    /// A history of no calls, which may have this many rows.
+    pub fn with_limit(alloc: Global, tree: Tree, limit: usize) -> Result<History<O>, AllocError>
+        requires some { 1 ≤ limit }
+        requires few { limit ≤ 1000000 }
+        ensures { IfOk result (λ history. history ≡ record { first = tree; rows = []; limit = limit }) }
+    {
+        Ok(History {
+            first: tree.copy()?,
+            tree,
+            rows: Vec::new(alloc),
+            limit,
+        })
+    }
+
+    /// The tree before all calls.
+    pub fn first(&self) -> &Tree
+        ensures { result.now ≡ self.now.first }
+    {
+        &self.first
+    }
+
+    /// The tree as it is: the first tree with the surviving commands alone run on it.
+    pub fn tree(&self) -> &Tree
+        ensures { result.now ≡ replay O.asks O.meaning self.now.first self.now.rows }
+    {
+        &self.tree
+    }
+
+    /// A row for each call, as the machine makes them that runs everything anew for each. A surviving command answers, changes
+    /// and sees in the replay what its row says, and the rows that are undone are those of which there is an accepted undo.
+    pub fn rows(&self) -> &[Row<O>]
+        ensures rows { result.now ≡ self.now.rows }
+        ensures legal { self.now.rows ≡ run O.asks O.meaning self.now.first [] (calls_of self.now.rows) }
+        ensures alike { AnswersAlike O.asks O.meaning self.now.first self.now.rows }
+        ensures marks { AreMarked self.now.rows }
+        ensures few { length self.now.rows ≤ self.now.limit }
+    {
+        &self.rows
+    }
+
+    /// The first later survivor that looked at what the surviving row n changed.
+    pub fn blocker(&self, n: u32) -> Option<u32>
+        ensures { result ≡ blocker O.asks self.now.rows n }
+    {
+        blocker(&self.rows, n)
+    }
+
+    /// Runs an operation on the tree, and gives the new row's number. An operation that is not run comes back.
+    pub fn call(&mut self, alloc: Global, operator: Operator, operation: O) -> Result<u32, Unrun<O>>
+        ensures first { self.new.first ≡ self.old.first }
+        ensures limit { self.new.limit ≡ self.old.limit }
+        ensures rows { OnOk result (self.new.rows ≡ rows_after O.asks O.meaning self.old.first self.old.rows (operator, Do operation)) }
+        ensures number { IfOk result (λ n. n ≡ length self.new.rows) }
+        ensures idle { OnOk result (IdleStays O.asks O.meaning self.old.first self.old.rows self.new.rows) }
+        ensures err { OnErr result (self.new ≡ self.old) }
+        ensures handed_back { IfErr result (λ unrun. unrun.operation ≡ operation) }
+        ensures full { IfErr result (λ unrun. (unrun.why ≡ CallError.Full) ↔ (length self.old.rows ≡ self.old.limit)) }
+        ensures room { OnOk result (length self.old.rows < self.old.limit) }
+    {
+        if self.rows.len() == self.limit {
+            return Err(Unrun {
+                operation,
+                why: CallError::Full,
+            });
+        }
+        match prepare(alloc, &mut self.rows, &self.tree, &operation) {
+            Err(AllocError) => Err(Unrun {
+                operation,
+                why: CallError::OutOfMemory,
+            }),
+            Ok((outcome, tree)) => {
+                self.rows
+                    .push_reserved(Row::answered(operator, operation, outcome));
+                self.tree = tree;
+                Ok(self.rows.len() as u32)
+            }
+        }
+    }
+
+    /// Undoes row n, from 1 on, unless that is refused, and gives the new row's number.
+    pub fn undo(&mut self, alloc: Global, operator: Operator, n: u32) -> Result<u32, CallError>
+        ensures first { self.new.first ≡ self.old.first }
+        ensures limit { self.new.limit ≡ self.old.limit }
+        ensures rows { OnOk result (self.new.rows ≡ rows_after O.asks O.meaning self.old.first self.old.rows (operator, Undo n)) }
+        ensures number { IfOk result (λ m. m ≡ length self.new.rows) }
+        ensures idle { OnOk result (IdleStays O.asks O.meaning self.old.first self.old.rows self.new.rows) }
+        ensures at_once { OnOk result (GivesBack O.asks O.meaning self.old.first self.old.rows n self.new.rows) }
+        ensures err { OnErr result (self.new ≡ self.old) }
+        ensures full { IfErr result (λ why. (why ≡ CallError.Full) ↔ (length self.old.rows ≡ self.old.limit)) }
+        ensures room { OnOk result (length self.old.rows < self.old.limit) }
+    {
+        if self.rows.len() == self.limit {
+            return Err(CallError::Full);
+        }
+        Ok(self.add_undo(alloc, operator, n)?)
+    }
+
+    /// The row of an undo, and what it does.
+    fn add_undo(&mut self, alloc: Global, operator: Operator, n: u32) -> Result<u32, AllocError>
+        requires room { length self.old.rows < self.old.limit }
+        ensures first { self.new.first ≡ self.old.first }
+        ensures limit { self.new.limit ≡ self.old.limit }
+        ensures rows { OnOk result (self.new.rows ≡ rows_undone operator self.old.rows n (undo_refusal O.asks self.old.rows n)) }
+        ensures number { IfOk result (λ m. m ≡ length self.new.rows) }
+        ensures err { OnErr result (self.new ≡ self.old) }
+    {
+        match refusal(&self.rows, n) {
+            Some(refusal) => self.refuse(alloc, operator, n, refusal),
+            None => self.take_back(alloc, operator, n),
+        }
+    }
+
+    fn refuse(
+        &mut self,
+        alloc: Global,
+        operator: Operator,
+        n: u32,
+        refusal: UndoRefusal,
+    ) -> Result<u32, AllocError>
+        requires room { length self.old.rows < self.old.limit }
+        requires why { undo_refusal O.asks self.old.rows n ≡ Some refusal }
+        ensures first { self.new.first ≡ self.old.first }
+        ensures limit { self.new.limit ≡ self.old.limit }
+        ensures rows { OnOk result (self.new.rows ≡ rows_undone operator self.old.rows n (Some refusal)) }
+        ensures number { IfOk result (λ m. m ≡ length self.new.rows) }
+        ensures err { OnErr result (self.new ≡ self.old) }
+    {
+        let row = Row::of_undo(alloc, operator, n, RowReply::UndoRefused(refusal));
+        self.rows.push(row)?;
+        Ok(self.rows.len() as u32)
+    }
+
+    fn take_back(&mut self, alloc: Global, operator: Operator, n: u32) -> Result<u32, AllocError>
+        requires room { length self.old.rows < self.old.limit }
+        requires free { undo_refusal O.asks self.old.rows n ≡ None }
+        ensures first { self.new.first ≡ self.old.first }
+        ensures limit { self.new.limit ≡ self.old.limit }
+        ensures rows { OnOk result (self.new.rows ≡ rows_undone operator self.old.rows n None) }
+        ensures number { IfOk result (λ m. m ≡ length self.new.rows) }
+        ensures err { OnErr result (self.new ≡ self.old) }
+    {
+        let place = n as usize - 1;
+        let back = self.rows[place].changes.turned()?;
+        let restored = self.tree.with_changes(back.as_slice())?;
+        let row = Row::of_undo(alloc, operator, n, RowReply::Undid(n));
+        self.rows.push(row)?;
+        let by = self.rows.len() as u32;
+        self.rows[place].undone_by = Some(by);
+        self.tree = restored;
+        Ok(by)
+    }
+}
+
+/// Room for a row, what the operation comes to on the tree, and the tree after it.
+fn prepare<O: Operation>(
+    alloc: Global,
+    rows: &mut Vec<Row<O>>,
+    tree: &Tree,
+    operation: &O,
+) -> Result<(Outcome, Tree), AllocError>
+    ensures items { rows.new.items ≡ rows.old.items }
+    ensures room { OnOk result (vec_len rows.new < vec_capacity rows.new) }
+    ensures outcome { IfOk result (λ r. r.0 ≡ outcome_of O.meaning operation.now tree.now) }
+    ensures after { IfOk result (λ r. r.1 ≡ after_changes (outcome_of O.meaning operation.now tree.now).changes tree.now) }
+    ensures slots { IfOk result (λ r. All (λ change. is_slot change.path ≡ true) r.0.changes) }
+{
+    rows.reserve(1)?;
+    let outcome = operation.run(alloc, tree)?;
+    let after = tree.with_changes(outcome.changes.as_slice())?;
+    Ok((outcome, after))
+}
+
+/// Why an undo of row n is refused, if it is.
+fn refusal<O: Operation>(rows: &[Row<O>], n: u32) -> Option<UndoRefusal>
+    requires { length rows.now ≤ 1000000 }
+    ensures { result ≡ undo_refusal O.asks rows.now n }
+{
+    let place = n as usize;
+    if place == 0 || place > rows.len() {
+        return Some(UndoRefusal::NoSuchRow);
+    }
+    match rows[place - 1].refusal() {
+        Some(refusal) => Some(refusal),
+        None => match blocker(rows, n) {
+            Some(m) => Some(UndoRefusal::Blocked(m)),
+            None => None,
+        },
+    }
+}
+
+/// The first later survivor that looked at what the surviving row n changed.
+fn blocker<O: Operation>(rows: &[Row<O>], n: u32) -> Option<u32>
+    requires { length rows.now ≤ 1000000 }
+    ensures { result ≡ blocker O.asks rows.now n }
+{
+    let place = n as usize;
+    if place == 0 || place > rows.len() {
+        return None;
+    }
+    let row = &rows[place - 1];
+    if row.survives() {
+        first_met(row.changes.as_slice(), &rows[place..], n + 1)
+    } else {
+        None
+    }
+}
+
+/// The number, from `at` on, of the first survivor that looked at what these changes touch.
+fn first_met<O: Operation>(changes: &[Change], rows: &[Row<O>], at: u32) -> Option<u32>
+    requires { at + length rows.now ≤ 1000001 }
+    ensures { result ≡ first_met O.asks changes.now rows.now at }
+{
+    let mut number = at;
+    for row in rows {
+        if row.survives() && meets(changes, row.reading.as_slice()) {
+            return Some(number);
+        }
+        number += 1;
+    }
+    None
+}
+
+/// Whether one of the changes touches a key of the reading.
+fn meets(changes: &[Change], reading: &[Observation]) -> bool
+    ensures { result ≡ meets changes.now reading.now }
+{
+    reading
+        .iter()
+        .any(|observation| is_touched(changes, &observation.key))
+}
+
+fn is_touched(changes: &[Change], key: &Key) -> bool
+    ensures { result ≡ list_any (λ change. touches change key.now) changes.now }
+{
+    changes.iter().any(|change| touches(change, key))
+}

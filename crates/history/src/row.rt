@@ -1,0 +1,130 @@
+//! Calls with their replies.
+ghost use Rattle.std.specs.Prelude.{◌≡◌, IfOk, is_some};
+ghost use Rattle.footprint.specs.Operations.{is_refused};
+ghost use Rattle.history.specs.Rows.{accepted, survivor, row_refusal, row_of_undo, answered};
+
+use crate::operator::Operator;
+use footprint::{Answer, Changes, Operation, Outcome, Reading};
+use std::alloc::{AllocError, Global};
+
+/// An operation, or an undo of the row of this number.
+#[derive(Debug, Drop)]
+pub enum Request<O> {
+    Do(O),
+    Undo(u32),
+}
+
+/// Why an undo was refused, in the order in which the reasons are tried.
+#[derive(Clone, Copy, Debug, PartialEq, Eq)]
+pub enum UndoRefusal {
+    /// No row has the number.
+    NoSuchRow,
+    /// The row is no accepted command.
+    NotACommand,
+    /// This row undid it.
+    AlreadyUndone(u32),
+    /// This row is a later command that survives and looked at what the row changed.
+    Blocked(u32),
+}
+
+/// What a call was answered.
+#[derive(Debug, Drop)]
+pub enum RowReply {
+    Answered(Answer),
+    /// The row of this number was taken back.
+    Undid(u32),
+    UndoRefused(UndoRefusal),
+}
+
+impl RowReply {
+    /// An equal reply.
+    pub fn copy(&self) -> Result<RowReply, AllocError>
+        ensures { IfOk result (λ reply. reply ≡ self.now) }
+    {
+        match self {
+            RowReply::Answered(answer) => Ok(RowReply::Answered(answer.copy()?)),
+            RowReply::Undid(n) => Ok(RowReply::Undid(*n)),
+            RowReply::UndoRefused(refusal) => Ok(RowReply::UndoRefused(*refusal)),
+        }
+    }
+}
+
+/// A call, what it was answered, what it changed and looked at, and the row that undid it.
+#[derive(Debug, Drop)]
+pub struct Row<O> {
+    pub operator: Operator,
+    pub request: Request<O>,
+    pub reply: RowReply,
+    pub changes: Changes,
+    pub reading: Reading,
+    pub undone_by: Option<u32>,
+}
+
+fn is_refused(answer: &Answer) -> bool
+    ensures { result ≡ is_refused answer.now }
+{
+    matches!(answer, Answer::Refused(_))
+}
+
+impl<O: Operation> Row<O> {
+    /// The row of an operation.
+    pub(crate) fn answered(operator: Operator, operation: O, outcome: Outcome) -> Row<O>
+        ensures { result ≡ answered operator operation outcome }
+    {
+        Row {
+            operator,
+            request: Request::Do(operation),
+            reply: RowReply::Answered(outcome.answer),
+            changes: outcome.changes,
+            reading: outcome.reading,
+            undone_by: None,
+        }
+    }
+
+    /// The row of an undo, which holds no changes of its own and looked at nothing.
+    pub(crate) fn of_undo(alloc: Global, operator: Operator, n: u32, reply: RowReply) -> Row<O>
+        ensures { result ≡ row_of_undo operator n reply }
+    {
+        Row {
+            operator,
+            request: Request::Undo(n),
+            reply,
+            changes: Changes::none(alloc),
+            reading: Reading::none(alloc),
+            undone_by: None,
+        }
+    }
+
+    /// Whether it is a command that was accepted; what only asks is none.
+    pub fn is_command(&self) -> bool
+        ensures { result ≡ is_some (accepted O.asks self.now.request self.now.reply) }
+    {
+        match (&self.request, &self.reply) {
+            (Request::Do(operation), RowReply::Answered(answer)) => {
+                !(operation.asks_only() || is_refused(answer))
+            }
+            _ => false,
+        }
+    }
+
+    /// Whether it is an accepted command that isn't undone.
+    pub fn survives(&self) -> bool
+        ensures { result ≡ is_some (survivor O.asks self.now) }
+    {
+        match self.undone_by {
+            None => self.is_command(),
+            Some(_) => false,
+        }
+    }
+
+    /// Why it can't be undone, whatever rows come after it.
+    pub fn refusal(&self) -> Option<UndoRefusal>
+        ensures { result ≡ row_refusal (accepted O.asks self.now.request self.now.reply) self.now.undone_by }
+    {
+        if self.is_command() {
+            self.undone_by.map(UndoRefusal::AlreadyUndone)
+        } else {
+            Some(UndoRefusal::NotACommand)
+        }
+    }
+}

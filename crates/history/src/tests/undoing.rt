@@ -1,0 +1,159 @@
+//! Calls, and what is undone of them.
+
+use crate::tests::steps::Step;
+use crate::{CallError, History, Operator, Row, RowReply, UndoRefusal, Unrun};
+use footprint::{Answer, Operation};
+use link_tree::{PathError, Tree, TreePath};
+use std::alloc::{AllocError, Global};
+use std::test::Fail;
+use unit_name::ample;
+
+const A: &[u8] = b"/etc/systemd/system/a.service";
+
+const B: &[u8] = b"/etc/systemd/system/b.service";
+
+fn path(alloc: Global, text: &[u8]) -> Result<TreePath, PathError> {
+    ample!(TreePath::parse(alloc, text), PathError::OutOfMemory)
+}
+
+/// The step of a word: `+a` puts a file at the slot of a, `-a` takes it away, `=a` looks there, and `?a` only asks.
+fn step(alloc: Global, word: &[u8]) -> Result<Step, PathError> {
+    let slot = if word.last() == Some(&b'a') { A } else { B };
+    Ok(Step {
+        slot: path(alloc, slot)?,
+        puts: match word.first() {
+            Some(b'+') => Some(true),
+            Some(b'-') => Some(false),
+            _ => None,
+        },
+        asks: word.first() == Some(&b'?'),
+    })
+}
+
+/// A call. Where memory was wanted, the operation that came back is run.
+fn call(
+    alloc: Global,
+    history: &mut History<Step>,
+    operator: Operator,
+    step: Step,
+) -> Result<u32, Unrun<Step>> {
+    match history.call(alloc, operator, step) {
+        Err(
+            Unrun {
+                operation,
+                why: CallError::OutOfMemory,
+            },
+        ) => history.call(alloc, operator, operation),
+        answer => answer,
+    }
+}
+
+/// Makes the call of a word, of which `u1` undoes row 1.
+fn make(alloc: Global, history: &mut History<Step>, word: &[u8]) -> Result<(), Fail> {
+    let operator = Operator::parse(b"alice")?;
+    match word {
+        [b'u', digit] => {
+            let n = u32::from(digit.wrapping_sub(b'0'));
+            ample!(history.undo(alloc, operator, n), CallError::OutOfMemory).map_err(|_| "full")?;
+        }
+        _ => {
+            let step = step(alloc, word)?;
+            call(alloc, history, operator, step).map_err(|_| "full")?;
+        }
+    }
+    Ok(())
+}
+
+/// What a reply says: that it was done, refused or told, or why an undo was refused.
+fn letter(reply: &RowReply) -> u8 {
+    match reply {
+        RowReply::Answered(Answer::Refused(_)) => b'r',
+        RowReply::Answered(Answer::State(_)) => b's',
+        RowReply::Answered(_) => b'k',
+        RowReply::Undid(_) => b'U',
+        RowReply::UndoRefused(UndoRefusal::NoSuchRow) => b'n',
+        RowReply::UndoRefused(UndoRefusal::NotACommand) => b'c',
+        RowReply::UndoRefused(UndoRefusal::AlreadyUndone(_)) => b'a',
+        RowReply::UndoRefused(UndoRefusal::Blocked(_)) => b'b',
+    }
+}
+
+/// The row that a reply names, as a digit.
+fn named(reply: &RowReply) -> u8 {
+    match reply {
+        RowReply::Undid(m)
+        | RowReply::UndoRefused(UndoRefusal::AlreadyUndone(m))
+        | RowReply::UndoRefused(UndoRefusal::Blocked(m)) => {
+            u8::try_from(*m).map_or(b'?', |m| b'0'.wrapping_add(m))
+        }
+        _ => b'-',
+    }
+}
+
+/// Two bytes for each reply.
+fn text_of(alloc: Global, rows: &[Row<Step>]) -> Result<Vec<u8>, AllocError> {
+    let mut out = Vec::new(alloc);
+    for row in rows {
+        out.push(letter(&row.reply))?;
+        out.push(named(&row.reply))?;
+    }
+    Ok(out)
+}
+
+/// The replies to the calls of a script.
+fn said(alloc: Global, script: &[u8]) -> Result<Vec<u8>, Fail> {
+    let mut history = ample!(History::new(alloc, Tree::empty(alloc)), AllocError)?;
+    for word in script.split(|b| *b == b' ') {
+        make(alloc, &mut history, word)?;
+    }
+    Ok(ample!(text_of(alloc, history.rows()), AllocError)?)
+}
+
+#[test]
+fn a_command_is_undone_under_later_ones(rt: HostRuntime) -> Result<(), Fail> {
+    let said = said(rt.alloc(), b"+a +b =b u1 u1 -a +b")?;
+    assert_eq!(rt; said.as_slice(), b"k-k-k-U1a4r-r-".as_slice());
+    Ok(())
+}
+
+#[test]
+fn what_looked_at_a_change_blocks_it(rt: HostRuntime) -> Result<(), Fail> {
+    let said = said(rt.alloc(), b"+a =a -a =a +b u1 u3 u4 u3 u2 u1 -a +b")?;
+    assert_eq!(rt; said.as_slice(), b"k-k-k-k-k-b2b4U4U3U2U1r-r-".as_slice());
+    Ok(())
+}
+
+#[test]
+fn refused_calls_and_questions_block_nothing(rt: HostRuntime) -> Result<(), Fail> {
+    let said = said(rt.alloc(), b"+a +a ?a u0 u6 u2 u3 u4 u1 u1")?;
+    assert_eq!(rt; said.as_slice(), b"k-r-s-n-n-c-c-c-U1a9".as_slice());
+    Ok(())
+}
+
+#[test]
+fn a_full_history_hands_the_operation_back(rt: HostRuntime) -> Result<(), Fail> {
+    let alloc = rt.alloc();
+    let operator = Operator::parse(b"alice")?;
+    let mut history = ample!(
+        History::with_limit(alloc, Tree::empty(alloc), 1),
+        AllocError
+    )?;
+    assert_eq!(rt;
+        call(alloc, &mut history, operator, step(alloc, b"+a")?).ok(),
+        Some(1)
+    );
+    match call(alloc, &mut history, operator, step(alloc, b"+b")?) {
+        Err(
+            Unrun {
+                operation,
+                why: CallError::Full,
+            },
+        ) => assert!(rt; operation.same(&step(alloc, b"+b")?)),
+        _ => panic!(rt; "not full"),
+    }
+    assert_eq!(rt; history.undo(alloc, operator, 0), Err(CallError::Full));
+    assert_eq!(rt; history.rows().len(), 1);
+    assert_eq!(rt; history.tree().len(), 1);
+    assert!(rt; history.first().is_empty() && history.blocker(1).is_none());
+    Ok(())
+}
