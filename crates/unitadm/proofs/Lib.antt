@@ -1,7 +1,6 @@
-pub mod AtOnce
 pub mod Calls
-pub mod NameLists
+pub mod EscapedTexts
 pub mod Numbers
-pub mod Padded
-pub mod Replayed
 pub mod ScriptLines
+pub mod WordLists
+pub mod Histories

@@ -1,7 +1,7 @@
 -- Digits, one after another.
 use Rattle.std.proofs.Common.{◌≡◌, ℕ, ◌+◌, ◌<◌, ◌≤◌, Bool, true, false, cond, List, [], ◌∷◌, Option, None, Some, refl, sym, ap, ◌∙◌, length, drop, get_or}
 use Rattle.std.proofs.lemmas.List.{drop_more, drop_all}
-use Rattle.unitadm.specs.Script.{number_from}
+use Rattle.unitadm.specs.Words.{number_from}
 
 cut_none : (t : Bool) (m : ℕ) (f : ℕ → Option ℕ) → cond t (Some m) None ≡ None → cond t (f m) None ≡ None
 cut_none true m f h = cc

@@ -1,11 +1,12 @@
 -- Laws of scripts, each the contract of a public function.
-use Rattle.std.specs.Prelude.{◌≡◌, ◌≤◌, ◌+◌, ℕ, Bool, true, not, ◌&&◌, ◌==◌, nat_le, List, [], ◌∷◌, ◌++◌, length, Result, Ok, codes}
+use Rattle.std.specs.Prelude.{◌≡◌, ◌≤◌, ◌+◌, ℕ, Bool, true, not, ◌&&◌, ◌==◌, nat_le, List, [], ◌∷◌, ◌++◌, length, Some, Result, Ok, codes}
 use Rattle.std.specs.List.{flat_map, list_all}
 use Rattle.link_tree.specs.Inventory.{◌>>=◌}
 use Rattle.unitadm.specs.declared.call.Call.{Call}
 use Rattle.unitadm.specs.declared.reason.ScriptFault.{ScriptFault}
 use Rattle.unitadm.specs.declared.script.TheConstants.{MAX_LINE, MAX_LINES}
-use Rattle.unitadm.specs.Script.{call_of_line, in_line, with_call, script_of}
+use Rattle.unitadm.specs.Escapes.{text_of, escaped}
+use Rattle.unitadm.specs.Script.{is_space, call_of_line, in_line, with_call, script_of}
 use Prim.Native.Char.{code}
 
 abbrev pub is_line_byte : ℕ → Bool
@@ -29,3 +30,15 @@ calls_of number (line ∷ lines) = do
 -- A script is its lines: it gives the calls of all of them in order, or the first that is bad.
 abbrev pub ScriptIsLines : Type 0
 ScriptIsLines = (lines : List (List ℕ)) → list_all is_line lines ≡ true → length lines ≤ MAX_LINES → script_of (codes "== calls\n" ++ lines_text lines) ≡ calls_of 1 lines
+
+-- no space and no line end, so that it can stand in a word of a line
+abbrev pub is_word_byte : ℕ → Bool
+is_word_byte b = not (is_space b) && is_line_byte b
+
+-- Bytes that are escaped are read again, whatever they are,
+abbrev pub EscapedIsRead : Type 0
+EscapedIsRead = (bytes : List ℕ) → text_of (flat_map escaped bytes) ≡ Some bytes
+
+-- and they can stand in one word.
+abbrev pub EscapedIsWord : Type 0
+EscapedIsWord = (bytes : List ℕ) → list_all is_word_byte (flat_map escaped bytes) ≡ true

@@ -1,9 +1,11 @@
 pub mod Actions
+pub mod Escapes
 pub mod Laws
 pub mod Machine
-pub mod Operators
+pub mod Requests
 pub mod Runs
 pub mod Script
 pub mod ScriptReads
 pub mod Statuses
 pub mod Texts
+pub mod Words

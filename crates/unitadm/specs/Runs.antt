@@ -1,12 +1,12 @@
 -- What a run gives for an input.
-use Rattle.std.specs.Prelude.{◌≡◌, ◌≤◌, ℕ, nat_lt, if◌then◌else◌, List, [], length, take, Option, Some, Result, Ok, Err}
+use Rattle.std.specs.Prelude.{◌≡◌, ◌≤◌, ℕ, nat_lt, if◌then◌else◌, List, length, take, Option, Some, Result, Ok, Err}
 use Rattle.std.specs.Io.KnownBytes.{Appends, Keeps}
 use Rattle.link_tree.specs.Streams.{HasCause}
 use Rattle.link_tree.specs.Trees.{Entries}
 use Rattle.link_tree.specs.Inventory.{◌>>=◌, inventory_of}
 use Rattle.link_tree.specs.declared.inventory.InventoryFault.{InventoryFault}
 use Rattle.unitadm.specs.declared.call.Call.{Call}
-use Rattle.unitadm.specs.declared.row.TheConstants.{MAX_ROWS}
+use Rattle.history.specs.declared.history.TheConstants.{MAX_ROWS}
 use Rattle.unitadm.specs.declared.reason.ScriptFault.{ScriptFault}
 use Rattle.unitadm.specs.declared.reason.ScriptFault.TheVariants.{NoCalls, Bad}
 use Rattle.unitadm.specs.declared.run_fault.InputFault.{InputFault}
@@ -29,7 +29,7 @@ in_script (Err fault) = Err (Script fault)
 
 -- the machine's text; each call makes a row
 unfoldable pub text_of_calls : Entries → List Call → Result (List ℕ) InputFault
-text_of_calls tree calls = if nat_lt MAX_ROWS (length calls) then Err Full else Ok (text_of tree (rows_of tree [] calls))
+text_of_calls tree calls = if nat_lt MAX_ROWS (length calls) then Err Full else Ok (text_of tree (rows_of tree calls))
 
 -- The text for an input, or its first fault: an inventory, a script after it, and then the machine.
 abbrev pub outcome_of : List ℕ → Result (List ℕ) InputFault

@@ -1,99 +1,27 @@
 -- Scripts, as texts: the calls, or the first bad line.
-use Rattle.std.specs.Prelude.{ℕ, ◌+◌, ◌*◌, ◌-◌, ◌^◌, Bool, true, false, ◌&&◌, ◌==◌, nat_lt, nat_le, if◌then◌else◌, List, [], ◌∷◌, ◌++◌, Option, Some, None, Result, Ok, Err, codes, zero, suc}
-use Rattle.std.specs.List.{filter, list_all, slice_split}
+use Rattle.std.specs.Prelude.{ℕ, ◌+◌, Bool, true, false, ◌==◌, if◌then◌else◌, List, [], ◌∷◌, ◌++◌, Option, Some, None, Result, Ok, Err, codes, zero, suc}
+use Rattle.std.specs.List.{filter, slice_split}
 use Rattle.std.specs.Str.{bytes_eq}
 use Rattle.std.specs.Option.{option_map_or}
-use Rattle.unit_name.specs.Name.{is_unit_name}
-use Rattle.link_tree.specs.declared.slot.Scope.{Scope}
-use Rattle.link_tree.specs.declared.slot.Scope.TheVariants.{Etc, Run}
 use Rattle.link_tree.specs.Lines.{front_line, Front, Whole, Last, Long}
 use Rattle.link_tree.specs.Inventory.{◌>>=◌}
-use Rattle.unitadm.specs.Operators.{is_operator}
-use Rattle.unitadm.specs.declared.action.Action.TheVariants as actions
+use Rattle.history.specs.Operators.{is_operator}
 use Rattle.unitadm.specs.declared.call.Call.{Call}
-use Rattle.unitadm.specs.declared.call.Request.{Request}
-use Rattle.unitadm.specs.declared.call.Request.TheVariants.{Do, Undo}
 use Rattle.unitadm.specs.declared.reason.Reason.{Reason}
-use Rattle.unitadm.specs.declared.reason.Reason.TheVariants.{TooManyLines, LineTooLong, BadOperator, UnknownVerb, WrongArguments, BadName, BadNumber}
+use Rattle.unitadm.specs.declared.reason.Reason.TheVariants.{TooManyLines, LineTooLong, BadOperator}
 use Rattle.unitadm.specs.declared.reason.ScriptFault.{ScriptFault}
 use Rattle.unitadm.specs.declared.reason.ScriptFault.TheVariants.{NoCalls, Bad}
 use Rattle.unitadm.specs.declared.script.TheConstants.{MAX_LINE, MAX_LINES}
+use Rattle.unitadm.specs.Words.{is_word}
+use Rattle.unitadm.specs.Requests.{request_of}
 use Prim.Native.Char.{code}
 
 abbrev pub is_space : ℕ → Bool
 is_space b = b == code " "
 
-abbrev pub is_word : List ℕ → Bool
-is_word [] = false
-is_word (b ∷ bs) = true
-
 -- the words of a line, with spaces between them
 unfoldable pub words_of : List ℕ → List (List ℕ)
 words_of line = filter is_word (slice_split is_space line)
-
-abbrev pub is_digit : ℕ → Bool
-is_digit b = nat_le (code "0") b && nat_le b (code "9")
-
--- the number that digits make after those of n, if it is below 2^32
-unfoldable pub number_from : ℕ → List ℕ → Option ℕ
-number_from n [] = Some n
-number_from n (b ∷ bs) = if is_digit b && nat_lt (n * 10 + (b - code "0")) (2 ^ 32) then number_from (n * 10 + (b - code "0")) bs else None
-
--- the number of a word of digits
-unfoldable pub number_of : List ℕ → Option ℕ
-number_of word = if is_word word then number_from 0 word else None
-
-unfoldable pub name_of : List ℕ → Result (List ℕ) Reason
-name_of word = if is_unit_name word then Ok word else Err BadName
-
--- words that are all names of units
-unfoldable pub names_of : List (List ℕ) → Result (List (List ℕ)) Reason
-names_of words = if list_all is_unit_name words then Ok words else Err BadName
-
--- the names of units, of which one at least is given
-abbrev pub units_of : List (List ℕ) → Result (List (List ℕ)) Reason
-units_of [] = Err WrongArguments
-units_of (word ∷ words) = names_of (word ∷ words)
-
-abbrev pub is_runtime : List ℕ → Bool
-is_runtime word = bytes_eq word (codes "--runtime")
-
--- the scope that an option before all arguments sets
-abbrev pub scope_of : List (List ℕ) → Scope
-scope_of [] = Etc
-scope_of (word ∷ words) = if is_runtime word then Run else Etc
-
--- the words without that option
-abbrev pub arguments_of : List (List ℕ) → List (List ℕ)
-arguments_of [] = []
-arguments_of (word ∷ words) = if is_runtime word then words else word ∷ words
-
-abbrev pub mask_of : List (List ℕ) → Result Request Reason
-mask_of words = units_of (arguments_of words) >>= λ units. Ok (Do (actions.Mask (record { scope = scope_of words; units = units })))
-
-abbrev pub unmask_of : List (List ℕ) → Result Request Reason
-unmask_of words = units_of (arguments_of words) >>= λ units. Ok (Do (actions.Unmask (record { scope = scope_of words; units = units })))
-
-abbrev pub undo_of_word : List ℕ → Result Request Reason
-undo_of_word word = option_map_or (λ n. Ok (Undo n)) (number_of word) (Err BadNumber)
-
--- the undo of the row that the one word names
-abbrev pub undo_of : List (List ℕ) → Result Request Reason
-undo_of [] = Err WrongArguments
-undo_of (word ∷ []) = undo_of_word word
-undo_of (word ∷ other ∷ words) = Err WrongArguments
-
--- what a verb asks for with the words after it
-unfoldable pub request_of_verb : List ℕ → List (List ℕ) → Result Request Reason
-request_of_verb verb words =
-    if bytes_eq verb (codes "mask") then mask_of words
-    else if bytes_eq verb (codes "unmask") then unmask_of words
-    else if bytes_eq verb (codes "undo") then undo_of words
-    else Err UnknownVerb
-
-abbrev pub request_of : List (List ℕ) → Result Request Reason
-request_of [] = Err UnknownVerb
-request_of (verb ∷ words) = request_of_verb verb words
 
 -- the call of an operator with the words after its name
 unfoldable pub call_of : List ℕ → List (List ℕ) → Result (Option Call) Reason

@@ -1,26 +1,38 @@
 -- The text of rows.
-use Rattle.std.specs.Prelude.{ℕ, ◌+◌, List, [], ◌∷◌, ◌++◌, Option, Some, None, codes}
+use Rattle.std.specs.Prelude.{ℕ, Bool, true, false, ◌+◌, List, [], ◌∷◌, ◌++◌, length, Option, Some, None, codes}
 use Rattle.std.specs.List.{flat_map}
 use Rattle.std.specs.Fmt.{decimal}
 use Rattle.link_tree.specs.declared.entry.Entry.{Entry}
-use Rattle.link_tree.specs.declared.entry.Entry.TheVariants.{Link}
+use Rattle.link_tree.specs.declared.entry.Entry.TheVariants.{File, Link}
 use Rattle.link_tree.specs.declared.entry.Change.{Change}
 use Rattle.link_tree.specs.Trees.{Entries, turned, inventory_text}
-use Rattle.slot_commands.specs.declared.outcome.Answer.{Answer}
-use Rattle.slot_commands.specs.declared.outcome.Answer.TheVariants.{Done, Refused}
-use Rattle.slot_commands.specs.declared.outcome.Refusal.{Refusal}
-use Rattle.slot_commands.specs.declared.outcome.Refusal.TheVariants.{Exists}
-use Rattle.unitadm.specs.declared.call.Request.{Request}
-use Rattle.unitadm.specs.declared.call.Request.TheVariants.{Do, Undo}
-use Rattle.unitadm.specs.declared.row.UndoRefusal.{UndoRefusal}
-use Rattle.unitadm.specs.declared.row.UndoRefusal.TheVariants.{NoSuchRow, NotACommand, AlreadyUndone, Blocked}
-use Rattle.unitadm.specs.declared.row.Row.{Row}
-use Rattle.unitadm.specs.declared.row.RowReply.{RowReply}
-use Rattle.unitadm.specs.declared.row.RowReply.TheVariants.{Answered, Undid, UndoRefused}
-use Rattle.unitadm.specs.Machine.{row_at, replay}
+use Rattle.footprint.specs.declared.answer.Answer.{Answer}
+use Rattle.footprint.specs.declared.answer.Answer.TheVariants.{Done, State, Name, Names, Refused}
+use Rattle.footprint.specs.declared.answer.StateWord.{StateWord}
+use Rattle.footprint.specs.declared.answer.StateWord.TheVariants as states
+use Rattle.footprint.specs.declared.notice.Notice.{Notice}
+use Rattle.footprint.specs.declared.notice.NoticeKey.{NoticeKey}
+use Rattle.footprint.specs.declared.notice.NoticeKey.TheVariants as notices
+use Rattle.footprint.specs.declared.notice.Reason.{Reason}
+use Rattle.footprint.specs.declared.notice.Reason.TheVariants as reasons
+use Rattle.footprint.specs.declared.refusal.Refusal.{Refusal}
+use Rattle.footprint.specs.declared.refusal.Refusal.TheVariants.{NotFound, Masked, Dangling, BadType, NeedsInstance, NotASlot, Absent, Exists, IsAlias, TooMany, Clash}
+use Rattle.footprint.specs.declared.refusal.Subject.{Subject}
+use Rattle.footprint.specs.declared.refusal.Subject.TheVariants.{Unit, Path}
+use Rattle.history.specs.declared.row.Request.{Request}
+use Rattle.history.specs.declared.row.Request.TheVariants.{Do, Undo}
+use Rattle.history.specs.declared.row.UndoRefusal.{UndoRefusal}
+use Rattle.history.specs.declared.row.UndoRefusal.TheVariants.{NoSuchRow, NotACommand, AlreadyUndone, Blocked}
+use Rattle.history.specs.declared.row.Row.{Row}
+use Rattle.history.specs.declared.row.RowReply.{RowReply}
+use Rattle.history.specs.declared.row.RowReply.TheVariants.{Answered, Undid, UndoRefused}
+use Rattle.history.specs.Rows.{row_at}
+use Rattle.unitadm.specs.declared.action.Action.{Action}
+use Rattle.unitadm.specs.Machine.{replay}
 
--- a line for an entry, after a sign
+-- a line for an entry, after a sign: how many bytes a file has, or where a link leads
 abbrev pub entry_text : List ℕ → List ℕ → Entry → List ℕ
+entry_text sign path (File contents) = sign ++ path ++ codes " file " ++ decimal (length contents) ++ codes "\n"
 entry_text sign path (Link target) = sign ++ path ++ codes " -> " ++ target ++ codes "\n"
 
 -- a line for what stood or stands there, if anything does
@@ -35,12 +47,91 @@ sides_text path before after = side_text (codes "  - ") path before ++ side_text
 abbrev pub change_text : Change → List ℕ
 change_text change = sides_text change.path change.before change.after
 
+-- the name of a unit, or a path
+abbrev pub subject_text : Subject → List ℕ
+subject_text (Unit name) = name
+subject_text (Path path) = path
+
 abbrev pub refusal_text : Refusal → List ℕ
+refusal_text (NotFound subject) = subject_text subject ++ codes " not found"
+refusal_text (Masked subject) = subject_text subject ++ codes " is masked"
+refusal_text (Dangling link) = link ++ codes " leads nowhere"
+refusal_text (BadType subject) = subject_text subject ++ codes " has the wrong type"
+refusal_text (NeedsInstance name) = name ++ codes " needs an instance"
+refusal_text (NotASlot path) = path ++ codes " is not a slot"
+refusal_text (Absent path) = path ++ codes " is absent"
 refusal_text (Exists path) = path ++ codes " exists"
+refusal_text (IsAlias unit real) = unit ++ codes " is an alias of " ++ real
+refusal_text TooMany = codes "too many units"
+refusal_text (Clash path) = path ++ codes " is wanted twice"
+
+-- whether a unit is enabled: systemctl(1), is-enabled
+abbrev pub state_text : StateWord → List ℕ
+state_text states.NotFound = codes "not-found"
+state_text states.Masked = codes "masked"
+state_text states.MaskedRuntime = codes "masked-runtime"
+state_text states.Alias = codes "alias"
+state_text states.Enabled = codes "enabled"
+state_text states.EnabledRuntime = codes "enabled-runtime"
+state_text states.Linked = codes "linked"
+state_text states.LinkedRuntime = codes "linked-runtime"
+state_text states.Static = codes "static"
+state_text states.Indirect = codes "indirect"
+state_text states.Disabled = codes "disabled"
+
+-- the words that systemctl counts as success
+abbrev pub is_success : StateWord → Bool
+is_success states.Alias = true
+is_success states.Enabled = true
+is_success states.EnabledRuntime = true
+is_success states.Static = true
+is_success states.Indirect = true
+is_success state = false
+
+abbrev pub success_text : Bool → List ℕ
+success_text true = codes " yes"
+success_text false = codes " no"
 
 abbrev pub answer_text : Answer → List ℕ
-answer_text Done = codes "ok"
+answer_text (Done notices) = codes "ok"
+answer_text (State state) = codes "state " ++ state_text state ++ success_text (is_success state)
+answer_text (Name name) = codes "name " ++ name
+answer_text (Names names) = codes "names " ++ decimal (length names)
 answer_text (Refused refusal) = codes "refused: " ++ refusal_text refusal
+
+-- a line for a name
+abbrev pub name_line : List ℕ → List ℕ
+name_line name = codes "  " ++ name ++ codes "\n"
+
+abbrev pub key_text : NoticeKey → List ℕ
+key_text notices.Also = codes "Also"
+key_text notices.WantedBy = codes "WantedBy"
+key_text notices.RequiredBy = codes "RequiredBy"
+key_text notices.Alias = codes "Alias"
+key_text notices.Preset = codes "Preset"
+
+abbrev pub reason_text : Reason → List ℕ
+reason_text reasons.BadSpecifier = codes "bad specifier"
+reason_text reasons.BadName = codes "bad name"
+reason_text reasons.BadAlias = codes "bad alias"
+reason_text reasons.NotFound = codes "not found"
+reason_text reasons.Masked = codes "masked"
+reason_text reasons.Dangling = codes "dangling"
+reason_text reasons.IsAlias = codes "is an alias"
+
+-- a line for a word that was skipped
+abbrev pub notice_line : Notice → List ℕ
+notice_line notice = codes "  ! " ++ notice.unit ++ codes ": " ++ key_text notice.key ++ codes " " ++ notice.word ++ codes ": " ++ reason_text notice.reason ++ codes "\n"
+
+-- the lines of the names that are answered
+abbrev pub names_lines : RowReply → List ℕ
+names_lines (Answered (Names names)) = flat_map name_line names
+names_lines reply = []
+
+-- the lines of what was skipped
+abbrev pub notice_lines : RowReply → List ℕ
+notice_lines (Answered (Done notices)) = flat_map notice_line notices
+notice_lines reply = []
 
 -- a number between two texts
 abbrev pub numbered : List ℕ → ℕ → List ℕ → List ℕ
@@ -57,7 +148,7 @@ undo_refusal_text n (AlreadyUndone by) = two_rows n (codes " was undone by row "
 undo_refusal_text n (Blocked by) = two_rows n (codes " is blocked by row ") by
 
 -- the row that an undo names
-abbrev pub number_asked : Request → ℕ
+abbrev pub number_asked : Request Action → ℕ
 number_asked (Do c) = 0
 number_asked (Undo n) = n
 
@@ -66,29 +157,30 @@ reply_text n (Answered answer) = answer_text answer
 reply_text n (Undid m) = numbered (codes "undid ") m []
 reply_text n (UndoRefused refusal) = codes "refused: " ++ undo_refusal_text n refusal
 
-abbrev pub changes_at : Option Row → List Change
+abbrev pub changes_at : Option (Row Action) → List Change
 changes_at None = []
 changes_at (Some row) = row.changes
 
 -- what a row shows as changed: an accepted undo, the changes of the row that it names, turned round
-abbrev pub shown_changes : List Row → RowReply → List Change → List Change
+abbrev pub shown_changes : List (Row Action) → RowReply → List Change → List Change
 shown_changes rows (Answered answer) changes = changes
 shown_changes rows (Undid n) changes = turned (changes_at (row_at rows n))
 shown_changes rows (UndoRefused refusal) changes = changes
 
 -- the first line of a row
-abbrev pub row_line : ℕ → Row → List ℕ
+abbrev pub row_line : ℕ → Row Action → List ℕ
 row_line number row = numbered [] number (codes " ") ++ row.operator ++ codes " " ++ reply_text (number_asked row.request) row.reply ++ codes "\n"
 
--- the lines of a row among all
-abbrev pub row_text : List Row → ℕ → Row → List ℕ
-row_text all number row = row_line number row ++ flat_map change_text (shown_changes all row.reply row.changes)
+-- the lines of a row among all: its reply, the names that it answers, what it changed, and what it skipped
+abbrev pub row_text : List (Row Action) → ℕ → Row Action → List ℕ
+row_text all number row =
+    row_line number row ++ names_lines row.reply ++ flat_map change_text (shown_changes all row.reply row.changes) ++ notice_lines row.reply
 
 -- the lines of rows among all, from the row of this number on
-abbrev pub rows_text : List Row → ℕ → List Row → List ℕ
+abbrev pub rows_text : List (Row Action) → ℕ → List (Row Action) → List ℕ
 rows_text all number [] = []
 rows_text all number (row ∷ rows) = row_text all number row ++ rows_text all (number + 1) rows
 
 -- the whole output: the rows, and the tree that they leave
-abbrev pub text_of : Entries → List Row → List ℕ
+abbrev pub text_of : Entries → List (Row Action) → List ℕ
 text_of first rows = rows_text rows 1 rows ++ codes "== tree\n" ++ inventory_text (replay first rows)

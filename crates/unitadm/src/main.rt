@@ -3,13 +3,13 @@
 
 mod action;
 mod call;
-mod history;
+mod escapes;
 mod laws;
-mod operator;
+mod lines;
 mod program;
 mod reason;
 mod reply;
-mod row;
+mod requests;
 mod run_fault;
 mod running;
 mod script;

@@ -6,7 +6,7 @@ ghost use Rattle.unitadm.specs.declared.reason.LineError.TheVariants as lines;
 use std::alloc::{AllocError, AllocFailed};
 use thiserror::Error;
 
-/// Why a line is refused, in the order in which the reasons are tried.
+/// Why a line is refused, in the order in which the reasons are tried: of bad words the first one decides.
 #[derive(Clone, Copy, Debug, PartialEq, Eq, Error)]
 pub enum Reason {
     /// It is the 2,000,001st.
@@ -19,12 +19,21 @@ pub enum Reason {
     BadOperator,
     #[error("unknown verb")]
     UnknownVerb,
-    /// The verb takes more or fewer words.
+    /// The verb takes more or fewer words, or others.
     #[error("wrong arguments")]
     WrongArguments,
     /// A word is no unit's name.
     #[error("bad name")]
     BadName,
+    /// A word is no path.
+    #[error("bad path")]
+    BadPath,
+    /// A word is no target of a link.
+    #[error("bad target")]
+    BadTarget,
+    /// A word is no text of a file.
+    #[error("bad text")]
+    BadText,
     /// A word is no number below 2^32.
     #[error("bad number")]
     BadNumber,

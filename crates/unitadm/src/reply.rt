@@ -4,22 +4,16 @@ ghost use Rattle.std.specs.List.{flat_map};
 ghost use Rattle.std.specs.Fmt.{decimal};
 ghost use Rattle.std.specs.Option.{option_copied};
 ghost use Rattle.link_tree.specs.Trees.{turned};
-ghost use Rattle.unitadm.specs.declared.row.TheConstants.{MAX_ROWS};
-ghost use Rattle.unitadm.specs.Machine.{row_at};
-ghost use Rattle.unitadm.specs.Texts.{entry_text, side_text, sides_text, change_text, refusal_text, answer_text, numbered, two_rows, undo_refusal_text, number_asked, reply_text, changes_at, shown_changes, row_line, row_text, rows_text};
+ghost use Rattle.history.specs.declared.history.TheConstants.{MAX_ROWS};
+ghost use Rattle.history.specs.Rows.{row_at};
+ghost use Rattle.unitadm.specs.Texts.{entry_text, side_text, sides_text, change_text, subject_text, refusal_text, state_text, is_success, success_text, answer_text, name_line, key_text, reason_text, notice_line, names_lines, notice_lines, numbered, two_rows, undo_refusal_text, number_asked, reply_text, changes_at, shown_changes, row_line, row_text, rows_text};
 
-use crate::call::Request;
-use crate::row::{Row, RowReply, UndoRefusal};
-use link_tree::{Change, Entry, TreePath};
-use slot_commands::{Answer, Refusal};
-use std::alloc::{AllocError, Global};
-
-fn push_number(out: &mut Vec<u8>, alloc: Global, n: u32) -> Result<(), AllocError>
-    ensures { OnOk result (out.new.items ≡ out.old.items ++ decimal n) }
-{
-    let text = n.to_string(alloc)?;
-    out.extend_from_slice(text.as_bytes())
-}
+use crate::action::Action;
+use footprint::{Answer, Notice, NoticeKey, Reason, Refusal, StateWord, Subject};
+use history::{Request, Row, RowReply, UndoRefusal};
+use link_tree::{Change, Entry, TreePath, push_decimal};
+use std::alloc::AllocError;
+use unit_name::UnitName;
 
 fn push_entry(
     out: &mut Vec<u8>,
@@ -29,15 +23,19 @@ fn push_entry(
 ) -> Result<(), AllocError>
     ensures { OnOk result (out.new.items ≡ out.old.items ++ entry_text sign.now path.now entry.now) }
 {
+    out.extend_from_slice(sign)?;
+    out.extend_from_slice(path.text())?;
     match entry {
+        Entry::File(contents) => {
+            out.extend_from_slice(b" file ")?;
+            push_decimal(out, contents.bytes().len())?;
+        }
         Entry::Link(target) => {
-            out.extend_from_slice(sign)?;
-            out.extend_from_slice(path.text())?;
             out.extend_from_slice(b" -> ")?;
             out.extend_from_slice(target.text())?;
-            out.extend_from_slice(b"\n")
         }
     }
+    out.extend_from_slice(b"\n")
 }
 
 fn push_side(
@@ -67,7 +65,8 @@ fn push_sides(
     push_side(out, b"  + ", path, after)
 }
 
-fn push_changes(out: &mut Vec<u8>, changes: &[Change]) -> Result<(), AllocError>
+/// The lines of changes.
+pub(crate) fn push_changes(out: &mut Vec<u8>, changes: &[Change]) -> Result<(), AllocError>
     ensures { OnOk result (out.new.items ≡ out.old.items ++ flat_map change_text changes.now) }
 {
     for change in changes {
@@ -86,22 +85,99 @@ fn push_turned(out: &mut Vec<u8>, changes: &[Change]) -> Result<(), AllocError>
     Ok(())
 }
 
-fn push_refusal(out: &mut Vec<u8>, refusal: &Refusal) -> Result<(), AllocError>
+fn subject_text(subject: &Subject) -> &[u8]
+    ensures { result.now ≡ subject_text subject.now }
+{
+    match subject {
+        Subject::Unit(name) => name.text(),
+        Subject::Path(path) => path.text(),
+    }
+}
+
+/// What is said of a subject.
+fn push_said(out: &mut Vec<u8>, subject: &[u8], said: &[u8]) -> Result<(), AllocError>
+    ensures { OnOk result (out.new.items ≡ out.old.items ++ subject.now ++ said.now) }
+{
+    out.extend_from_slice(subject)?;
+    out.extend_from_slice(said)
+}
+
+/// Why an operation was refused.
+pub(crate) fn push_refusal(out: &mut Vec<u8>, refusal: &Refusal) -> Result<(), AllocError>
     ensures { OnOk result (out.new.items ≡ out.old.items ++ refusal_text refusal.now) }
 {
     match refusal {
-        Refusal::Exists(path) => {
-            out.extend_from_slice(path.text())?;
-            out.extend_from_slice(b" exists")
+        Refusal::NotFound(subject) => push_said(out, subject_text(subject), b" not found"),
+        Refusal::Masked(subject) => push_said(out, subject_text(subject), b" is masked"),
+        Refusal::Dangling(link) => push_said(out, link.text(), b" leads nowhere"),
+        Refusal::BadType(subject) => push_said(out, subject_text(subject), b" has the wrong type"),
+        Refusal::NeedsInstance(name) => push_said(out, name.text(), b" needs an instance"),
+        Refusal::NotASlot(path) => push_said(out, path.text(), b" is not a slot"),
+        Refusal::Absent(path) => push_said(out, path.text(), b" is absent"),
+        Refusal::Exists(path) => push_said(out, path.text(), b" exists"),
+        Refusal::IsAlias { unit, real } => {
+            push_said(out, unit.text(), b" is an alias of ")?;
+            out.extend_from_slice(real.text())
         }
+        Refusal::TooMany => out.extend_from_slice(b"too many units"),
+        Refusal::Clash(path) => push_said(out, path.text(), b" is wanted twice"),
     }
+}
+
+fn state_text(state: StateWord) -> &'static str
+    ensures { result.now ≡ state_text state }
+{
+    match state {
+        StateWord::NotFound => "not-found",
+        StateWord::Masked => "masked",
+        StateWord::MaskedRuntime => "masked-runtime",
+        StateWord::Alias => "alias",
+        StateWord::Enabled => "enabled",
+        StateWord::EnabledRuntime => "enabled-runtime",
+        StateWord::Linked => "linked",
+        StateWord::LinkedRuntime => "linked-runtime",
+        StateWord::Static => "static",
+        StateWord::Indirect => "indirect",
+        StateWord::Disabled => "disabled",
+    }
+}
+
+/// Whether systemctl counts the state as success.
+fn success_text(state: StateWord) -> &'static str
+    ensures { result.now ≡ success_text (is_success state) }
+{
+    match state {
+        StateWord::Alias
+        | StateWord::Enabled
+        | StateWord::EnabledRuntime
+        | StateWord::Static
+        | StateWord::Indirect => " yes",
+        _ => " no",
+    }
+}
+
+fn push_state(out: &mut Vec<u8>, state: StateWord) -> Result<(), AllocError>
+    ensures { OnOk result (out.new.items ≡ out.old.items ++ codes "state " ++ state_text state ++ success_text (is_success state)) }
+{
+    out.extend_from_slice(b"state ")?;
+    out.extend_from_slice(state_text(state).as_bytes())?;
+    out.extend_from_slice(success_text(state).as_bytes())
 }
 
 fn push_answer(out: &mut Vec<u8>, answer: &Answer) -> Result<(), AllocError>
     ensures { OnOk result (out.new.items ≡ out.old.items ++ answer_text answer.now) }
 {
     match answer {
-        Answer::Done => out.extend_from_slice(b"ok"),
+        Answer::Done(_) => out.extend_from_slice(b"ok"),
+        Answer::State(state) => push_state(out, *state),
+        Answer::Name(name) => {
+            out.extend_from_slice(b"name ")?;
+            out.extend_from_slice(name.text())
+        }
+        Answer::Names(names) => {
+            out.extend_from_slice(b"names ")?;
+            push_decimal(out, names.as_slice().len())
+        }
         Answer::Refused(refusal) => {
             out.extend_from_slice(b"refused: ")?;
             push_refusal(out, refusal)
@@ -109,53 +185,110 @@ fn push_answer(out: &mut Vec<u8>, answer: &Answer) -> Result<(), AllocError>
     }
 }
 
-/// A number between two texts.
-fn push_numbered(
-    out: &mut Vec<u8>,
-    alloc: Global,
-    before: &[u8],
-    n: u32,
-    after: &[u8],
-) -> Result<(), AllocError>
-    ensures { OnOk result (out.new.items ≡ out.old.items ++ numbered before.now n after.now) }
+fn key_text(key: NoticeKey) -> &'static str
+    ensures { result.now ≡ key_text key }
 {
-    out.extend_from_slice(before)?;
-    push_number(out, alloc, n)?;
-    out.extend_from_slice(after)
-}
-
-fn push_two_rows(
-    out: &mut Vec<u8>,
-    alloc: Global,
-    n: u32,
-    between: &[u8],
-    by: u32,
-) -> Result<(), AllocError>
-    ensures { OnOk result (out.new.items ≡ out.old.items ++ two_rows n between.now by) }
-{
-    push_numbered(out, alloc, b"row ", n, between)?;
-    push_number(out, alloc, by)
-}
-
-fn push_undo_refusal(
-    out: &mut Vec<u8>,
-    alloc: Global,
-    n: u32,
-    refusal: UndoRefusal,
-) -> Result<(), AllocError>
-    ensures { OnOk result (out.new.items ≡ out.old.items ++ undo_refusal_text n refusal) }
-{
-    match refusal {
-        UndoRefusal::NoSuchRow => push_numbered(out, alloc, b"no row ", n, b""),
-        UndoRefusal::NotACommand => {
-            push_numbered(out, alloc, b"row ", n, b" is no accepted command")
-        }
-        UndoRefusal::AlreadyUndone(by) => push_two_rows(out, alloc, n, b" was undone by row ", by),
-        UndoRefusal::Blocked(by) => push_two_rows(out, alloc, n, b" is blocked by row ", by),
+    match key {
+        NoticeKey::Also => "Also",
+        NoticeKey::WantedBy => "WantedBy",
+        NoticeKey::RequiredBy => "RequiredBy",
+        NoticeKey::Alias => "Alias",
+        NoticeKey::Preset => "Preset",
     }
 }
 
-fn number_asked(request: &Request) -> u32
+fn reason_text(reason: Reason) -> &'static str
+    ensures { result.now ≡ reason_text reason }
+{
+    match reason {
+        Reason::BadSpecifier => "bad specifier",
+        Reason::BadName => "bad name",
+        Reason::BadAlias => "bad alias",
+        Reason::NotFound => "not found",
+        Reason::Masked => "masked",
+        Reason::Dangling => "dangling",
+        Reason::IsAlias => "is an alias",
+    }
+}
+
+/// The line of a word that was skipped.
+fn push_notice(out: &mut Vec<u8>, notice: &Notice) -> Result<(), AllocError>
+    ensures { OnOk result (out.new.items ≡ out.old.items ++ notice_line notice.now) }
+{
+    out.extend_from_slice(b"  ! ")?;
+    push_said(out, notice.unit.text(), b": ")?;
+    push_said(out, key_text(notice.key).as_bytes(), b" ")?;
+    push_said(out, notice.word.bytes(), b": ")?;
+    push_said(out, reason_text(notice.reason).as_bytes(), b"\n")
+}
+
+fn push_notices(out: &mut Vec<u8>, notices: &[Notice]) -> Result<(), AllocError>
+    ensures { OnOk result (out.new.items ≡ out.old.items ++ flat_map notice_line notices.now) }
+{
+    for notice in notices {
+        push_notice(out, notice)?;
+    }
+    Ok(())
+}
+
+/// The lines of the names that are answered.
+fn push_names(out: &mut Vec<u8>, reply: &RowReply) -> Result<(), AllocError>
+    ensures { OnOk result (out.new.items ≡ out.old.items ++ names_lines reply.now) }
+{
+    match reply {
+        RowReply::Answered(Answer::Names(names)) => push_name_lines(out, names.as_slice()),
+        _ => Ok(()),
+    }
+}
+
+fn push_name_lines(out: &mut Vec<u8>, names: &[UnitName]) -> Result<(), AllocError>
+    ensures { OnOk result (out.new.items ≡ out.old.items ++ flat_map name_line names.now) }
+{
+    for name in names {
+        out.extend_from_slice(b"  ")?;
+        push_said(out, name.text(), b"\n")?;
+    }
+    Ok(())
+}
+
+/// The lines of what was skipped.
+fn push_skipped(out: &mut Vec<u8>, reply: &RowReply) -> Result<(), AllocError>
+    ensures { OnOk result (out.new.items ≡ out.old.items ++ notice_lines reply.now) }
+{
+    match reply {
+        RowReply::Answered(Answer::Done(notices)) => push_notices(out, notices.as_slice()),
+        _ => Ok(()),
+    }
+}
+
+/// A number between two texts.
+fn push_numbered(out: &mut Vec<u8>, before: &[u8], n: u32, after: &[u8]) -> Result<(), AllocError>
+    ensures { OnOk result (out.new.items ≡ out.old.items ++ numbered before.now n after.now) }
+{
+    out.extend_from_slice(before)?;
+    push_decimal(out, n as usize)?;
+    out.extend_from_slice(after)
+}
+
+fn push_two_rows(out: &mut Vec<u8>, n: u32, between: &[u8], by: u32) -> Result<(), AllocError>
+    ensures { OnOk result (out.new.items ≡ out.old.items ++ two_rows n between.now by) }
+{
+    push_numbered(out, b"row ", n, between)?;
+    push_decimal(out, by as usize)
+}
+
+fn push_undo_refusal(out: &mut Vec<u8>, n: u32, refusal: UndoRefusal) -> Result<(), AllocError>
+    ensures { OnOk result (out.new.items ≡ out.old.items ++ undo_refusal_text n refusal) }
+{
+    match refusal {
+        UndoRefusal::NoSuchRow => push_numbered(out, b"no row ", n, b""),
+        UndoRefusal::NotACommand => { push_numbered(out, b"row ", n, b" is no accepted command") }
+        UndoRefusal::AlreadyUndone(by) => push_two_rows(out, n, b" was undone by row ", by),
+        UndoRefusal::Blocked(by) => push_two_rows(out, n, b" is blocked by row ", by),
+    }
+}
+
+fn number_asked(request: &Request<Action>) -> u32
     ensures { result ≡ number_asked request.now }
 {
     match request {
@@ -164,30 +297,30 @@ fn number_asked(request: &Request) -> u32
     }
 }
 
-fn push_reply(out: &mut Vec<u8>, alloc: Global, n: u32, reply: &RowReply) -> Result<(), AllocError>
+fn push_reply(out: &mut Vec<u8>, n: u32, reply: &RowReply) -> Result<(), AllocError>
     ensures { OnOk result (out.new.items ≡ out.old.items ++ reply_text n reply.now) }
 {
     match reply {
         RowReply::Answered(answer) => push_answer(out, answer),
-        RowReply::Undid(m) => push_numbered(out, alloc, b"undid ", *m, b""),
+        RowReply::Undid(m) => push_numbered(out, b"undid ", *m, b""),
         RowReply::UndoRefused(refusal) => {
             out.extend_from_slice(b"refused: ")?;
-            push_undo_refusal(out, alloc, n, *refusal)
+            push_undo_refusal(out, n, *refusal)
         }
     }
 }
 
-fn push_row_line(out: &mut Vec<u8>, alloc: Global, number: u32, row: &Row) -> Result<(), AllocError>
+fn push_row_line(out: &mut Vec<u8>, number: u32, row: &Row<Action>) -> Result<(), AllocError>
     ensures { OnOk result (out.new.items ≡ out.old.items ++ row_line number row.now) }
 {
-    push_numbered(out, alloc, b"", number, b" ")?;
+    push_numbered(out, b"", number, b" ")?;
     out.extend_from_slice(row.operator.text())?;
     out.extend_from_slice(b" ")?;
-    push_reply(out, alloc, number_asked(&row.request), &row.reply)?;
+    push_reply(out, number_asked(&row.request), &row.reply)?;
     out.extend_from_slice(b"\n")
 }
 
-fn row_at(rows: &[Row], n: u32) -> Option<&Row>
+fn row_at(rows: &[Row<Action>], n: u32) -> Option<&Row<Action>>
     ensures { option_copied result ≡ row_at rows.now n }
 {
     if n == 0 {
@@ -197,7 +330,7 @@ fn row_at(rows: &[Row], n: u32) -> Option<&Row>
 }
 
 /// The lines of what the undo of row n took back.
-fn push_undone(out: &mut Vec<u8>, rows: &[Row], n: u32) -> Result<(), AllocError>
+fn push_undone(out: &mut Vec<u8>, rows: &[Row<Action>], n: u32) -> Result<(), AllocError>
     ensures { OnOk result (out.new.items ≡ out.old.items ++ flat_map change_text (turned (changes_at (row_at rows.now n)))) }
 {
     match row_at(rows, n) {
@@ -206,7 +339,7 @@ fn push_undone(out: &mut Vec<u8>, rows: &[Row], n: u32) -> Result<(), AllocError
     }
 }
 
-fn push_shown(out: &mut Vec<u8>, rows: &[Row], row: &Row) -> Result<(), AllocError>
+fn push_shown(out: &mut Vec<u8>, rows: &[Row<Action>], row: &Row<Action>) -> Result<(), AllocError>
     ensures { OnOk result (out.new.items ≡ out.old.items ++ flat_map change_text (shown_changes rows.now row.now.reply row.now.changes)) }
 {
     match &row.reply {
@@ -218,25 +351,26 @@ fn push_shown(out: &mut Vec<u8>, rows: &[Row], row: &Row) -> Result<(), AllocErr
 /// The lines of a row.
 fn push_row(
     out: &mut Vec<u8>,
-    alloc: Global,
-    rows: &[Row],
+    rows: &[Row<Action>],
     number: u32,
-    row: &Row,
+    row: &Row<Action>,
 ) -> Result<(), AllocError>
     ensures { OnOk result (out.new.items ≡ out.old.items ++ row_text rows.now number row.now) }
 {
-    push_row_line(out, alloc, number, row)?;
-    push_shown(out, rows, row)
+    push_row_line(out, number, row)?;
+    push_names(out, &row.reply)?;
+    push_shown(out, rows, row)?;
+    push_skipped(out, &row.reply)
 }
 
 /// The lines of all rows.
-pub(crate) fn push_rows(out: &mut Vec<u8>, alloc: Global, rows: &[Row]) -> Result<(), AllocError>
+pub(crate) fn push_rows(out: &mut Vec<u8>, rows: &[Row<Action>]) -> Result<(), AllocError>
     requires { length rows.now ≤ MAX_ROWS }
     ensures { OnOk result (out.new.items ≡ out.old.items ++ rows_text rows.now 1 rows.now) }
 {
     let mut number = 1;
     for row in rows {
-        push_row(out, alloc, rows, number, row)?;
+        push_row(out, rows, number, row)?;
         number += 1;
     }
     Ok(())

@@ -1,52 +1,75 @@
 //! From input to output.
 ghost use Rattle.std.specs.Prelude.{◌≡◌, ◌<◌, ◌≤◌, ℕ, List, [], length, Option, Some, true, OnOk, IfOk, IfErr, IsErrOf};
 ghost use Rattle.link_tree.specs.Inventory.{inventory_of};
-ghost use Rattle.unitadm.specs.Machine.{rows_of};
+ghost use Rattle.history.specs.Rows.{rows_after};
+ghost use Rattle.history.specs.declared.history.TheConstants.{MAX_ROWS};
+ghost use Rattle.unitadm.specs.Actions.{asks, meaning};
+ghost use Rattle.unitadm.specs.Machine.{asked, rows_of};
 ghost use Rattle.unitadm.specs.Script.{script_of};
-ghost use Rattle.unitadm.specs.declared.row.TheConstants.{MAX_ROWS};
 ghost use Rattle.unitadm.specs.Texts.{text_of};
 ghost use Rattle.unitadm.specs.Runs.{TreeOfInput, outcome_of, text_of_calls, in_inventory, in_script, GivesInput, InputCause, WritesAll, FaultOf, Silent, FaultCause};
 
+use crate::action::Action;
 use crate::call::Call;
-use crate::history::{CallError, History};
 use crate::reason::ScriptError;
 use crate::reply::push_rows;
 use crate::run_fault::{InputError, InputFault, RunFault};
 use crate::script::read_script;
+use history::{CallError, History, Request};
 use link_tree::{
     InventoryError, Sink, Source, Tree, WriteFault, inventory_text, read_inventory, write_text,
 };
 use std::alloc::{AllocError, Global};
 
+/// One call more.
+fn make(history: &mut History<Action>, alloc: Global, call: Call) -> Result<(), CallError>
+    ensures first { history.new.first ≡ history.old.first }
+    ensures limit { history.new.limit ≡ history.old.limit }
+    ensures rows { OnOk result (history.new.rows ≡ rows_after asks meaning history.old.first history.old.rows (asked call)) }
+    ensures full { IsErrOf result CallError.Full → length history.old.rows ≡ history.old.limit }
+    ensures room { OnOk result (length history.old.rows < history.old.limit) }
+{
+    let Call { operator, request } = call;
+    match request {
+        Request::Do(action) => match history.call(alloc, operator, action) {
+            Ok(_) => Ok(()),
+            Err(unrun) => Err(unrun.why),
+        },
+        Request::Undo(n) => match history.undo(alloc, operator, n) {
+            Ok(_) => Ok(()),
+            Err(why) => Err(why),
+        },
+    }
+}
+
 /// The history of all calls, one after another.
-fn history_of(alloc: Global, tree: Tree, calls: Vec<Call>) -> Result<History, CallError>
-    ensures first { IfOk result (λ history. history.0 ≡ tree) }
-    ensures rows { IfOk result (λ history. history.1 ≡ rows_of tree [] calls.items) }
+fn history_of(alloc: Global, tree: Tree, calls: Vec<Call>) -> Result<History<Action>, CallError>
+    ensures first { IfOk result (λ history. history.first ≡ tree) }
+    ensures limit { IfOk result (λ history. history.limit ≡ MAX_ROWS) }
+    ensures rows { IfOk result (λ history. history.rows ≡ rows_of tree calls.items) }
     ensures room { OnOk result (length calls.items ≤ MAX_ROWS) }
     ensures full { IsErrOf result CallError.Full → MAX_ROWS < length calls.items }
 {
     let mut history = History::new(alloc, tree)?;
     for call in calls {
-        match history.call(alloc, call) {
-            Ok(()) => {}
-            Err(e) => return Err(e),
-        }
+        make(&mut history, alloc, call)?;
     }
     Ok(history)
 }
 
-fn text_of_history(alloc: Global, history: &History) -> Result<Vec<u8>, AllocError>
-    ensures { IfOk result (λ text. text.items ≡ text_of history.now.0 history.now.1) }
+fn text_of_history(alloc: Global, history: &History<Action>) -> Result<Vec<u8>, AllocError>
+    requires { history.now.limit ≤ MAX_ROWS }
+    ensures { IfOk result (λ text. text.items ≡ text_of history.now.first history.now.rows) }
 {
     let mut out = Vec::new(alloc);
-    push_rows(&mut out, alloc, history.rows())?;
+    push_rows(&mut out, history.rows())?;
     out.extend_from_slice(b"== tree\n")?;
     out.extend_from_slice(&inventory_text(alloc, history.tree())?)?;
     Ok(out)
 }
 
 fn text_of_rows(alloc: Global, tree: Tree, calls: Vec<Call>) -> Result<Vec<u8>, CallError>
-    ensures text { IfOk result (λ text. text.items ≡ text_of tree (rows_of tree [] calls.items)) }
+    ensures text { IfOk result (λ text. text.items ≡ text_of tree (rows_of tree calls.items)) }
     ensures room { OnOk result (length calls.items ≤ MAX_ROWS) }
     ensures full { IsErrOf result CallError.Full → MAX_ROWS < length calls.items }
 {

@@ -7,8 +7,8 @@ ghost use Rattle.unitadm.specs.ScriptReads.{CallOf, ReadsCall, GivesScript, Call
 ghost use Rattle.unitadm.specs.declared.call.Call.{Call as CallSeen};
 
 use crate::call::Call;
+use crate::lines::call_of_line;
 use crate::reason::{ReadLineError, Reason, ScriptError, ScriptFault};
-use crate::words::call_of_line;
 use link_tree::{Line, ReadError, Source, read_line};
 use std::alloc::{AllocError, Global};
 

@@ -1,3 +1,6 @@
 mod actions;
 mod faults;
+mod refusals;
+mod replies;
 mod streams;
+mod verbs;

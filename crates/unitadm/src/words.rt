@@ -1,27 +1,17 @@
-//! The words of a line, and the call that they make.
-ghost use Rattle.std.specs.Prelude.{◌≡◌, ℕ, List, ◌∷◌, [], map, Option, Some, IfOk};
-ghost use Rattle.unitadm.specs.Script.{words_of, is_digit, number_from, number_of, name_of, names_of, units_of, is_runtime, scope_of, arguments_of, mask_of, unmask_of, undo_of_word, undo_of, request_of_verb, request_of, call_of, call_of_words, is_comment, call_of_line};
+//! Single words of a script, and lists of them.
+ghost use Rattle.std.specs.Prelude.{◌≡◌, ◌∷◌, [], map};
+ghost use Rattle.unitadm.specs.Words.{number_from, number_of, name_of, names_of, units_of, path_of, paths_of, given_paths, link_of, file_with, file_of};
 ghost use Rattle.unitadm.specs.ScriptReads.{GivesLine};
 
-use crate::action::Action;
-use crate::call::{Call, Request};
-use crate::operator::{BadOperator, Operator};
+use crate::escapes::unescaped;
 use crate::reason::{LineError, Reason};
-use link_tree::Scope;
-use slot_commands::{Mask, Units, Unmask};
-use std::alloc::{AllocError, Global};
+use footprint::Units;
+use link_tree::{Entry, FileError, PathError, TargetError, TreePath};
+use slot_commands::Paths;
+use std::alloc::Global;
 use unit_name::{NameError, UnitName};
 
-#[tactic(auto, unfolding(crate::specs::Script::words_of))]
-fn words_of<'a>(alloc: Global, line: &'a [u8]) -> Result<Vec<&'a [u8]>, AllocError>
-    ensures { IfOk result (λ words. map (λ word. word.now) words.items ≡ words_of line.now) }
-{
-    line.split(|b| *b == b' ')
-        .filter(|word| !word.is_empty())
-        .collect(alloc)
-}
-
-#[tactic(auto, unfolding(crate::specs::Script::number_from))]
+#[tactic(auto, unfolding(crate::specs::Words::number_from))]
 fn with_digit(number: u32, b: u8) -> Option<u32>
     ensures { result ≡ number_from number (b ∷ []) }
 {
@@ -44,8 +34,9 @@ fn number_of_digits(word: &[u8]) -> Option<u32>
     Some(number)
 }
 
-#[tactic(auto, unfolding(crate::specs::Script::number_of))]
-fn number_of(word: &[u8]) -> Option<u32>
+/// The number that a word of digits makes, if it is below 2^32.
+#[tactic(auto, unfolding(crate::specs::Words::number_of))]
+pub(crate) fn number_of(word: &[u8]) -> Option<u32>
     ensures { result ≡ number_of word.now }
 {
     match word {
@@ -54,7 +45,8 @@ fn number_of(word: &[u8]) -> Option<u32>
     }
 }
 
-fn name_of(alloc: Global, word: &[u8]) -> Result<UnitName, LineError>
+/// The name of a unit.
+pub(crate) fn name_of(alloc: Global, word: &[u8]) -> Result<UnitName, LineError>
     ensures { GivesLine result (name_of word.now) }
 {
     match UnitName::parse(alloc, word) {
@@ -64,7 +56,8 @@ fn name_of(alloc: Global, word: &[u8]) -> Result<UnitName, LineError>
     }
 }
 
-fn names_of(alloc: Global, words: &[&[u8]]) -> Result<Units, LineError>
+/// Words that are all names of units.
+pub(crate) fn names_of(alloc: Global, words: &[&[u8]]) -> Result<Units, LineError>
     ensures { GivesLine result (names_of (map (λ word. word.now) words.now)) }
 {
     let mut units = Units::none(alloc);
@@ -77,7 +70,8 @@ fn names_of(alloc: Global, words: &[&[u8]]) -> Result<Units, LineError>
     Ok(units)
 }
 
-fn units_of(alloc: Global, words: &[&[u8]]) -> Result<Units, LineError>
+/// The names of units, of which one at least is given.
+pub(crate) fn units_of(alloc: Global, words: &[&[u8]]) -> Result<Units, LineError>
     ensures { GivesLine result (units_of (map (λ word. word.now) words.now)) }
 {
     match words {
@@ -86,127 +80,70 @@ fn units_of(alloc: Global, words: &[&[u8]]) -> Result<Units, LineError>
     }
 }
 
-fn is_runtime(word: &[u8]) -> bool
-    ensures { result ≡ is_runtime word.now }
+/// A path.
+#[tactic(auto, unfolding(crate::specs::Words::path_of))]
+pub(crate) fn path_of(alloc: Global, word: &[u8]) -> Result<TreePath, LineError>
+    ensures { GivesLine result (path_of word.now) }
 {
-    word == b"--runtime".as_slice()
-}
-
-fn scope_of(words: &[&[u8]]) -> Scope
-    ensures { result ≡ scope_of (map (λ word. word.now) words.now) }
-{
-    match words {
-        [word, ..] if is_runtime(word) => Scope::Run,
-        _ => Scope::Etc,
+    match TreePath::parse(alloc, word) {
+        Ok(path) => Ok(path),
+        Err(PathError::BadPath) => Err(LineError::Bad(Reason::BadPath)),
+        Err(PathError::OutOfMemory) => Err(LineError::OutOfMemory),
     }
 }
 
-fn arguments_of<'a>(words: &'a [&'a [u8]]) -> &'a [&'a [u8]]
-    ensures { map (λ word. word.now) result.now ≡ arguments_of (map (λ word. word.now) words.now) }
+fn paths_of(alloc: Global, words: &[&[u8]]) -> Result<Paths, LineError>
+    ensures { GivesLine result (paths_of (map (λ word. word.now) words.now)) }
 {
-    match words {
-        [word, rest @ ..] if is_runtime(word) => rest,
-        _ => words,
-    }
-}
-
-fn mask_of(alloc: Global, words: &[&[u8]]) -> Result<Request, LineError>
-    ensures { GivesLine result (mask_of (map (λ word. word.now) words.now)) }
-{
-    let units = units_of(alloc, arguments_of(words))?;
-    let scope = scope_of(words);
-    Ok(Request::Do(Action::Mask(Mask { scope, units })))
-}
-
-fn unmask_of(alloc: Global, words: &[&[u8]]) -> Result<Request, LineError>
-    ensures { GivesLine result (unmask_of (map (λ word. word.now) words.now)) }
-{
-    let units = units_of(alloc, arguments_of(words))?;
-    let scope = scope_of(words);
-    Ok(Request::Do(Action::Unmask(Unmask { scope, units })))
-}
-
-fn undo_of_word(word: &[u8]) -> Result<Request, LineError>
-    ensures { GivesLine result (undo_of_word word.now) }
-{
-    match number_of(word) {
-        Some(number) => Ok(Request::Undo(number)),
-        None => Err(LineError::Bad(Reason::BadNumber)),
-    }
-}
-
-fn undo_of(words: &[&[u8]]) -> Result<Request, LineError>
-    ensures { GivesLine result (undo_of (map (λ word. word.now) words.now)) }
-{
-    match words {
-        [word] => undo_of_word(word),
-        _ => Err(LineError::Bad(Reason::WrongArguments)),
-    }
-}
-
-#[tactic(auto, unfolding(crate::specs::Script::request_of_verb))]
-fn request_of_verb(alloc: Global, verb: &[u8], words: &[&[u8]]) -> Result<Request, LineError>
-    ensures { GivesLine result (request_of_verb verb.now (map (λ word. word.now) words.now)) }
-{
-    if verb == b"mask".as_slice() {
-        mask_of(alloc, words)
-    } else if verb == b"unmask".as_slice() {
-        unmask_of(alloc, words)
-    } else if verb == b"undo".as_slice() {
-        undo_of(words)
-    } else {
-        Err(LineError::Bad(Reason::UnknownVerb))
-    }
-}
-
-fn request_of(alloc: Global, words: &[&[u8]]) -> Result<Request, LineError>
-    ensures { GivesLine result (request_of (map (λ word. word.now) words.now)) }
-{
-    match words {
-        [] => Err(LineError::Bad(Reason::UnknownVerb)),
-        [verb, words @ ..] => request_of_verb(alloc, verb, words),
-    }
-}
-
-#[tactic(auto, unfolding(crate::specs::Script::call_of))]
-fn call_of(alloc: Global, operator: &[u8], words: &[&[u8]]) -> Result<Option<Call>, LineError>
-    ensures { GivesLine result (call_of operator.now (map (λ word. word.now) words.now)) }
-{
-    match Operator::parse(operator) {
-        Ok(operator) => {
-            let request = request_of(alloc, words)?;
-            Ok(Some(Call { operator, request }))
+    let mut paths = Paths::none(alloc);
+    for word in words {
+        match path_of(alloc, word) {
+            Ok(path) => paths.push(path)?,
+            Err(e) => return Err(e),
         }
-        Err(BadOperator) => Err(LineError::Bad(Reason::BadOperator)),
     }
+    Ok(paths)
 }
 
-fn call_of_words(alloc: Global, words: &[&[u8]]) -> Result<Option<Call>, LineError>
-    ensures { GivesLine result (call_of_words (map (λ word. word.now) words.now)) }
+/// Paths, of which one at least is given.
+pub(crate) fn given_paths(alloc: Global, words: &[&[u8]]) -> Result<Paths, LineError>
+    ensures { GivesLine result (given_paths (map (λ word. word.now) words.now)) }
 {
     match words {
-        [] => Ok(None),
-        [operator, words @ ..] => call_of(alloc, operator, words),
+        [] => Err(LineError::Bad(Reason::WrongArguments)),
+        _ => paths_of(alloc, words),
     }
 }
 
-fn is_comment(line: &[u8]) -> bool
-    ensures { result ≡ is_comment line.now }
+/// The link to a target.
+#[tactic(auto, unfolding(crate::specs::Words::link_of))]
+pub(crate) fn link_of(alloc: Global, word: &[u8]) -> Result<Entry, LineError>
+    ensures { GivesLine result (link_of word.now) }
 {
-    match line {
-        [] => false,
-        [first, ..] => *first == b'#',
+    match Entry::link(alloc, word) {
+        Ok(entry) => Ok(entry),
+        Err(TargetError::BadTarget) => Err(LineError::Bad(Reason::BadTarget)),
+        Err(TargetError::OutOfMemory) => Err(LineError::OutOfMemory),
     }
 }
 
-/// The call of a line, or none where the line is skipped.
-#[tactic(auto, unfolding(crate::specs::Script::call_of_line))]
-pub(crate) fn call_of_line(alloc: Global, line: &[u8]) -> Result<Option<Call>, LineError>
-    ensures { GivesLine result (call_of_line line.now) }
+#[tactic(auto, unfolding(crate::specs::Words::file_with))]
+fn file_with(alloc: Global, bytes: &[u8]) -> Result<Entry, LineError>
+    ensures { GivesLine result (file_with bytes.now) }
 {
-    if is_comment(line) {
-        return Ok(None);
+    match Entry::file(alloc, bytes) {
+        Ok(entry) => Ok(entry),
+        Err(FileError::TooLarge) => Err(LineError::Bad(Reason::BadText)),
+        Err(FileError::OutOfMemory) => Err(LineError::OutOfMemory),
     }
-    let words = words_of(alloc, line)?;
-    call_of_words(alloc, &words)
+}
+
+/// The file that holds what a word is written for.
+pub(crate) fn file_of(alloc: Global, word: &[u8]) -> Result<Entry, LineError>
+    ensures { GivesLine result (file_of word.now) }
+{
+    match unescaped(alloc, word)? {
+        Some(bytes) => file_with(alloc, &bytes),
+        None => Err(LineError::Bad(Reason::BadText)),
+    }
 }

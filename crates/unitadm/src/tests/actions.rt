@@ -1,14 +1,14 @@
-//! Actions and operators.
+//! Actions.
 
 use crate::action::Action;
-use crate::operator::{BadOperator, Operator};
+use footprint::{Answer, Operation, Units};
 use link_tree::{Scope, Tree};
-use slot_commands::{Answer, Mask, Units, Unmask};
+use slot_commands::{Mask, Unmask};
 use std::alloc::{AllocError, Global};
 use std::test::Fail;
 use unit_name::{NameError, UnitName, ample};
 
-fn units(alloc: Global, name: &[u8]) -> Result<Units, NameError> {
+pub(crate) fn units(alloc: Global, name: &[u8]) -> Result<Units, NameError> {
     let mut units = Units::none(alloc);
     ample!(
         {
@@ -26,8 +26,8 @@ fn changes_of(alloc: Global, action: &Action) -> Result<usize, AllocError> {
     let copy = ample!(action.copy(), AllocError)?;
     let outcome = ample!(copy.run(alloc, &tree), AllocError)?;
     match outcome.answer {
-        Answer::Done => Ok(outcome.changes.as_slice().len()),
-        Answer::Refused(_) => Ok(usize::MAX),
+        Answer::Done(_) => Ok(outcome.changes.as_slice().len()),
+        _ => Ok(usize::MAX),
     }
 }
 
@@ -45,26 +45,7 @@ fn a_copy_does_the_same(rt: HostRuntime) -> Result<(), Fail> {
         units: units(alloc, b"x.service")?,
     });
     assert_eq!(rt; changes_of(alloc, &unmask), Ok(0));
+    let copy = ample!(mask.copy(), AllocError)?;
+    assert!(rt; mask.same(&copy) && !mask.same(&unmask) && !mask.asks_only());
     Ok(())
-}
-
-#[test]
-fn operators_have_short_names(rt: HostRuntime) {
-    let names: [&[u8]; 4] = [b"a", b"-", b"alice-2", b"0123456789abcdefghijklmnopqrstu-"];
-    for name in names {
-        match Operator::parse(name) {
-            Ok(operator) => assert_eq!(rt; operator.text(), name),
-            Err(BadOperator) => panic!(rt; "refused"),
-        }
-    }
-    let others: [&[u8]; 5] = [
-        b"",
-        b"Alice",
-        b"a_b",
-        b"\xc3\xa4",
-        b"0123456789abcdefghijklmnopqrstuv-",
-    ];
-    for name in others {
-        assert!(rt; Operator::parse(name).is_err());
-    }
 }

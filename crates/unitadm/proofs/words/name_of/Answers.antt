@@ -2,7 +2,7 @@ use Rattle.std.proofs.Common.{Err, refl, subst}
 use Rattle.unit_name.specs.Name.{Parses}
 use Rattle.unit_name.specs.declared.fault.NameError.{NameError}
 use Rattle.unit_name.proofs.Names.{no_fault_in_name}
-use Rattle.unitadm.specs.Script.{name_of}
+use Rattle.unitadm.specs.Words.{name_of}
 use Rattle.unitadm.proofs.words.name_of.Goals as goal
 
 pub returns-in-Ok : goal.returns-in-Ok

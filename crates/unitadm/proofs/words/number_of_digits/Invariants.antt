@@ -1,5 +1,5 @@
 use Rattle.std.proofs.Common.{◌≡◌, drop}
-use Rattle.unitadm.specs.Script.{number_from}
+use Rattle.unitadm.specs.Words.{number_from}
 use Rattle.unitadm.proofs.words.number_of_digits.Given as goal
 
 -- the number so far, and what is left decides

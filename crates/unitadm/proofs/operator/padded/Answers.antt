@@ -1,5 +1,0 @@
-use Rattle.unitadm.proofs.Padded.{written_over}
-use Rattle.unitadm.proofs.operator.padded.Goals as goal
-
-pub returns : goal.returns
-returns c = written_over _ _ c.copy_from_slice.ensures.after
