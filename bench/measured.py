@@ -1,8 +1,29 @@
 """Runs of a program, measured."""
-import os, select, subprocess, sys, time
+import fcntl, os, select, struct, subprocess, sys, termios, time
 
 RUNS = 5
 ENOUGH = 10
+
+
+def peak_of(child):
+    with open(f"/proc/{child.pid}/status") as lines:
+        return next((int(line.split()[1]) * 1024 for line in lines if line.startswith("VmHWM:")), 0)
+
+
+def peak_of_reading(words, given):
+    """The peak of memory once a program has read all of its input and waits for more."""
+    child = subprocess.Popen(
+        words, stdin=subprocess.PIPE, stdout=subprocess.DEVNULL, env=dict(os.environ, LC_ALL="C")
+    )
+    with open(given, "rb") as stdin:
+        child.stdin.write(stdin.read())
+        child.stdin.flush()
+    while struct.unpack("i", fcntl.ioctl(child.stdin, termios.FIONREAD, b"\0" * 4))[0] > 0:
+        time.sleep(0.01)
+    time.sleep(0.2)
+    peak = peak_of(child)
+    child.communicate()
+    return peak
 
 
 def run(words, given):
@@ -18,8 +39,7 @@ def run(words, given):
             words, stdin=stdin, stdout=subprocess.PIPE, pipesize=4096, env=dict(os.environ, LC_ALL="C")
         )
         select.select([child.stdout], [], [])
-        with open(f"/proc/{child.pid}/status") as lines:
-            peak = next((int(line.split()[1]) * 1024 for line in lines if line.startswith("VmHWM:")), 0)
+        peak = peak_of(child)
         written, _ = child.communicate()
         taken = time.perf_counter() - start
     if child.returncode != 0:
