@@ -25,9 +25,12 @@ fn read_with_memory(alloc: Global, texts: &[&str]) -> Result<Arguments, Argument
 #[test]
 fn one_flag_is_known(rt: HostRuntime) -> Result<(), Fail> {
     let alloc = rt.alloc();
-    let given: [(&[&str], Result<bool, ArgumentError>); 7] = [
+    let given: [(&[&str], Result<bool, ArgumentError>); 16] = [
+        (&[], Ok(false)),
         (&["unitadm"], Ok(false)),
+        (&["unitadm", "--"], Ok(false)),
         (&["unitadm", "--sessions"], Ok(true)),
+        (&["unitadm", "--sessions", "--"], Ok(true)),
         (&["unitadm", "--help"], Err(ArgumentError::BadArguments)),
         (&["unitadm", "--version"], Err(ArgumentError::BadArguments)),
         (&["unitadm", "-h"], Err(ArgumentError::BadArguments)),
@@ -36,6 +39,18 @@ fn one_flag_is_known(rt: HostRuntime) -> Result<(), Fail> {
             &["unitadm", "--sessions", "--sessions"],
             Err(ArgumentError::BadArguments),
         ),
+        (
+            &["unitadm", "--", "--sessions"],
+            Err(ArgumentError::BadArguments),
+        ),
+        (&["unitadm", "--", "--"], Err(ArgumentError::BadArguments)),
+        (
+            &["unitadm", "--sessions="],
+            Err(ArgumentError::BadArguments),
+        ),
+        (&["unitadm", "--sess"], Err(ArgumentError::BadArguments)),
+        (&["unitadm", "-"], Err(ArgumentError::BadArguments)),
+        (&["unitadm", ""], Err(ArgumentError::BadArguments)),
     ];
     for (texts, want) in &given {
         let read = read_with_memory(alloc, texts).map(|arguments| arguments.sessions);

@@ -1,5 +1,10 @@
 //! What the words ask for.
-ghost use Rattle.std.specs.Prelude.{◌≡◌};
+ghost use Rattle.std.specs.Prelude.{◌≡◌, IfOk, IsErrOf, None, Some, map};
+ghost use Rattle.std.specs.String.{string_bytes};
+ghost use Rattle.clap.specs.Words.{app_of};
+ghost use Rattle.arguments.specs.Asked.{sessions_of};
+ghost use Rattle.arguments.specs.Commands.{unitadm_app};
+ghost use Rattle.arguments.specs.declared.words.ArgumentError.TheVariants.{OutOfMemory};
 ghost use Rattle.arguments.specs.Statuses.{status_of};
 
 use clap::error::ErrorKind;
@@ -24,12 +29,16 @@ pub enum ArgumentError {
 }
 
 impl From<AllocError> for ArgumentError {
+    ghost from_gives = { λ _ e. e ≡ OutOfMemory };
+
     fn from(_e: AllocError) -> ArgumentError {
         ArgumentError::OutOfMemory
     }
 }
 
 impl<T: Drop> From<AllocFailed<T>> for ArgumentError {
+    ghost from_gives = { λ _ e. e ≡ OutOfMemory };
+
     fn from(_e: AllocFailed<T>) -> ArgumentError {
         ArgumentError::OutOfMemory
     }
@@ -47,16 +56,25 @@ impl ArgumentError {
     }
 }
 
-/// Reads the words, the program's own first: one flag, `--sessions`, without help and version.
-pub fn arguments_of(alloc: Global, words: &[String]) -> Result<Arguments, ArgumentError> {
+/// The program's command: one flag, `--sessions`, without help and version.
+fn command<'a>(alloc: Global) -> Result<Command<'a>, AllocError>
+    ensures { IfOk result (λ built. app_of built ≡ unitadm_app) }
+{
     let sessions = Arg::new(alloc, "sessions")
         .long("sessions")
         .action(ArgAction::SetTrue);
-    let command = Command::new(alloc, "unitadm")
+    Command::new(alloc, "unitadm")
         .disable_help_flag(true)
         .disable_version_flag(true)
-        .arg(sessions)?;
-    match command.try_get_matches_from(words) {
+        .arg(sessions)
+}
+
+/// Whether the words, of which the first is the program's own, ask for sessions.
+pub fn arguments_of(alloc: Global, words: &[String]) -> Result<Arguments, ArgumentError>
+    ensures asked { IfOk result (λ given. sessions_of (map string_bytes words.now) ≡ Some given.sessions) }
+    ensures refused { IsErrOf result ArgumentError.BadArguments → sessions_of (map string_bytes words.now) ≡ None }
+{
+    match command(alloc)?.try_get_matches_from(words) {
         Ok(matches) => Ok(Arguments {
             sessions: matches.get_flag("sessions"),
         }),
