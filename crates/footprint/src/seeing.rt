@@ -29,7 +29,7 @@ fn part(alloc: Global, tree: &Tree, key: &Key) -> Result<Tree, AllocError>
     requires { is_cell key.now ≡ false }
     ensures { IfOk result (λ found. found ≡ part key.now tree.now) }
 {
-    let mut found = Tree::empty(alloc);
+    let mut found = Tree::empty(alloc)?;
     for (path, entry) in tree.iter() {
         if key.selects(path, entry) {
             found.set(path, Some(entry.copy()?))?;

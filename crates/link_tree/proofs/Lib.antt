@@ -7,13 +7,16 @@ pub mod Lines
 pub mod Prefixes
 pub mod Lying
 pub mod Maps
+pub mod Sharing
 pub mod Same
 pub mod Keys
 pub mod Shapes
+pub mod Placing
 pub mod Aboves
 pub mod Beneaths
 pub mod Slots
 pub mod Lengths
+pub mod Aheads
 pub mod FileBytes
 pub mod Entries
 pub mod Again

@@ -9,9 +9,10 @@ use crate::part::is_target;
 use crate::path::TreePath;
 use std::alloc::{AllocError, Global};
 use std::marker::Model;
+use std::sync::ArcSlice;
 
 /// Where a link leads, as it was written: 1 to 4,095 bytes without NUL, TAB and LF. Contracts see its text.
-#[derive(Clone, Debug, Drop)]
+#[derive(Debug, Drop)]
 pub struct Target {
     text: Vec<u8>,
 }
@@ -51,25 +52,28 @@ impl Target {
     pub fn copy(&self) -> Result<Target, AllocError>
         ensures { IfOk result (λ target. target ≡ self.now) }
     {
-        self.clone()
+        Ok(Target {
+            text: self.text.clone()?,
+        })
     }
 }
 
-/// What a file holds: at most 1,048,576 bytes. Contracts see the bytes.
-#[derive(Clone, Debug, Drop)]
+/// What a file holds: at most 1,048,576 bytes, which its copies share. Contracts see the bytes.
+#[derive(Debug, Drop)]
 pub struct Contents {
-    bytes: Vec<u8>,
+    bytes: ArcSlice<u8>,
 }
 
 impl Model for Contents {
     ghost use Rattle.std.specs.Prelude.{List, ℕ, IsTrue};
+    ghost use Rattle.std.specs.Arc.{arc_slice_items};
     ghost use Rattle.link_tree.specs.Files.{is_contents};
 
     ghost Value = { List ℕ };
 
-    ghost view = { λ contents. contents.bytes.items };
+    ghost view = { λ contents. arc_slice_items contents.bytes };
 
-    ghost invariant = { λ contents. IsTrue (is_contents contents.bytes.items) };
+    ghost invariant = { λ contents. IsTrue (is_contents (arc_slice_items contents.bytes)) };
 }
 
 impl Contents {
@@ -82,16 +86,18 @@ impl Contents {
         if bytes.len() > MAX_FILE {
             return Err(FileError::TooLarge);
         }
-        let bytes = Vec::from_slice(alloc, bytes)?;
+        let bytes = ArcSlice::from_slice(alloc, bytes)?;
         Ok(Contents { bytes })
     }
 
     /// Takes the bytes of a file.
-    pub(crate) fn new(bytes: Vec<u8>) -> Contents
+    pub(crate) fn new(bytes: Vec<u8>) -> Result<Contents, AllocError>
         requires { is_contents bytes.items ≡ true }
-        ensures { result ≡ bytes.items }
+        ensures { IfOk result (λ contents. contents ≡ bytes.items) }
     {
-        Contents { bytes }
+        Ok(Contents {
+            bytes: ArcSlice::from_vec(bytes)?,
+        })
     }
 
     pub fn bytes(&self) -> &[u8]
@@ -101,7 +107,7 @@ impl Contents {
         &self.bytes
     }
 
-    /// Equal contents.
+    /// Equal contents, without a copy of the bytes.
     pub fn copy(&self) -> Result<Contents, AllocError>
         ensures { IfOk result (λ contents. contents ≡ self.now) }
     {
@@ -112,7 +118,7 @@ impl Contents {
 }
 
 /// What stands at a path.
-#[derive(Clone, Debug, Drop)]
+#[derive(Debug, Drop)]
 pub enum Entry {
     File(Contents),
     Link(Target),
@@ -169,6 +175,14 @@ impl Entry {
             Entry::File(contents) => Ok(Entry::File(contents.copy()?)),
             Entry::Link(target) => Ok(Entry::Link(target.copy()?)),
         }
+    }
+}
+
+impl Clone for Entry {
+    ghost is_clone = { λ entry copy. copy ≡ entry };
+
+    fn clone(&self) -> Result<Entry, AllocError> {
+        self.copy()
     }
 }
 

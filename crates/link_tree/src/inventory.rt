@@ -3,6 +3,7 @@
 
 ghost use Rattle.std.specs.Prelude.{◌≡◌, ◌≤◌, ℕ, true, List, Option, OnOk, IfOk, IfErr, IsTrue, Some, is_some, Err};
 ghost use Rattle.link_tree.specs.declared.fault.TheConstants.{MAX_FILE};
+ghost use Rattle.link_tree.specs.Slots.{is_slot};
 ghost use Rattle.std.specs.FinMap as map;
 ghost use Rattle.link_tree.specs.Streams.{HasCause};
 ghost use Rattle.link_tree.specs.Lines.{Front, IsFront, front_line};
@@ -16,6 +17,7 @@ use crate::entry_line::{EntryLine, line_of};
 use crate::path::TreePath;
 use crate::reading::{Line, ReadError, next_byte, read_bytes, read_line};
 use crate::shape::is_bad_shape;
+use crate::slot::slot_of;
 use crate::stream::Source;
 use crate::tree::Tree;
 use std::alloc::{AllocError, Global};
@@ -77,6 +79,16 @@ pub(crate) enum EntryError {
     OutOfMemory,
 }
 
+impl From<AllocError> for EntryError {
+    ghost use Rattle.link_tree.specs.declared.inventory.EntryError.TheVariants.{OutOfMemory};
+
+    ghost from_gives = { λ _ e. e ≡ OutOfMemory };
+
+    fn from(_e: AllocError) -> EntryError {
+        EntryError::OutOfMemory
+    }
+}
+
 /// Why an inventory was not read: the first fault with the number of its entry. Entries count from 1, the header
 /// is 0, and the last line counts as the next entry.
 #[derive(Clone, Copy, Debug, PartialEq, Eq, Hash, Error)]
@@ -87,6 +99,16 @@ pub enum InventoryError {
     ReadFault(u32),
     #[error("out of memory")]
     OutOfMemory,
+}
+
+impl From<AllocError> for InventoryError {
+    ghost use Rattle.link_tree.specs.declared.inventory.InventoryError.TheVariants.{OutOfMemory};
+
+    ghost from_gives = { λ _ e. e ≡ OutOfMemory };
+
+    fn from(_e: AllocError) -> InventoryError {
+        InventoryError::OutOfMemory
+    }
 }
 
 /// Reads an inventory up to the end of its line `end`. What follows is left unread.
@@ -106,7 +128,7 @@ fn read_entries<S: Source>(alloc: Global, source: &mut S) -> Result<Tree, Invent
     ensures cause { IfErr result (λ e. (n : ℕ) → e ≡ InventoryError.ReadFault n → HasCause (S.failures source.old, S.interruptions source.old) (S.failures source.new, S.interruptions source.new)) }
     ensures calm { OnOk result (S.failures source.new ≡ S.failures source.old) }
 {
-    let mut tree = Tree::empty(alloc);
+    let mut tree = Tree::empty(alloc)?;
     let mut number = 1;
     'entries: loop {
         let (path, entry) = match read_entry(alloc, source, number <= MAX_ENTRIES) {
@@ -125,6 +147,9 @@ fn read_entries<S: Source>(alloc: Global, source: &mut S) -> Result<Tree, Invent
 fn place(tree: &mut Tree, path: TreePath, entry: Entry) -> Result<(), LineError>
     ensures { Gives (λ _. tree.new) result (placed tree.old (path, entry)) }
 {
+    if slot_of(path.text()).is_some() {
+        return place_at_slot(tree, path, entry);
+    }
     if tree.get(&path).is_some() {
         return Err(LineError::Fault(InventoryFault::Duplicate));
     }
@@ -138,7 +163,23 @@ fn place(tree: &mut Tree, path: TreePath, entry: Entry) -> Result<(), LineError>
     }
     let _valid = entry.bytes();
     match tree.insert(path, entry) {
-        Ok(()) => Ok(()),
+        Ok(_) => Ok(()),
+        Err(AllocError) => Err(LineError::OutOfMemory),
+    }
+}
+
+/// Slots are free wherever the tree has the shape of one, so the entry that stood there tells a duplicate.
+#[tactic(auto, unfolding(crate::specs::Inventory::placed))]
+fn place_at_slot(tree: &mut Tree, path: TreePath, entry: Entry) -> Result<(), LineError>
+    requires { is_slot path ≡ true }
+    ensures { Gives (λ _. tree.new) result (placed tree.old (path, entry)) }
+{
+    let _path = path.text();
+    let _valid = entry.bytes();
+    tree.shape();
+    match tree.insert(path, entry) {
+        Ok(None) => Ok(()),
+        Ok(Some(_)) => Err(LineError::Fault(InventoryFault::Duplicate)),
         Err(AllocError) => Err(LineError::OutOfMemory),
     }
 }
@@ -237,7 +278,7 @@ fn read_contents<S: Source>(
         Err(e) => return Err(read_error(e)),
     };
     match next_byte(source) {
-        Ok(Some(b'\n')) => Ok(Contents::new(bytes)),
+        Ok(Some(b'\n')) => Ok(Contents::new(bytes)?),
         Ok(Some(_)) => Err(EntryError::Fault(InventoryFault::BadLine)),
         Ok(None) => Err(EntryError::Fault(InventoryFault::Truncated)),
         Err(e) => Err(read_error(e)),

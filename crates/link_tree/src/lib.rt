@@ -1,6 +1,7 @@
 //! Trees of unit files and links: systemd.unit(5), "Unit File Load Path", and the one text of a tree, its inventory.
 #![tactic(auto)]
 
+mod ahead;
 mod canonical_form;
 mod compare;
 mod entry;
@@ -33,7 +34,7 @@ pub use reading::{Line, ReadError, read_line};
 pub use slot::{Dependency, Place, Scope, Slot};
 pub use standard::{FromRead, ToWrite};
 pub use stream::{PATIENCE, Sink, Source, Stop};
-pub use tree::{Tree, inventory_text, push_decimal};
+pub use tree::{Tree, inventory_text, push_decimal, push_inventory};
 pub use writing::{WriteError, WriteFault, write_inventory, write_text};
 
 #[cfg(test)]

@@ -15,7 +15,7 @@ const LEAST_BYTE: u8 = 1;
 
 /// Where an entry stands in a tree, as `/etc/systemd/system/ssh.service`: an absolute path of at most 4,095
 /// bytes, without empty parts, `.` and `..`, and not the root. Contracts see its text.
-#[derive(Clone, Debug, Drop)]
+#[derive(Debug, Drop)]
 pub struct TreePath {
     text: Vec<u8>,
 }
@@ -78,7 +78,9 @@ impl TreePath {
     pub fn copy(&self) -> Result<TreePath, AllocError>
         ensures { IfOk result (λ path. path ≡ self.now) }
     {
-        self.clone()
+        Ok(TreePath {
+            text: self.text.clone()?,
+        })
     }
 
     /// The directory of the path, or `None` where that is the root.
@@ -106,5 +108,13 @@ impl TreePath {
         text.push(b'/')?;
         text.push(LEAST_BYTE)?;
         Ok(TreePath::of_text(text))
+    }
+}
+
+impl Clone for TreePath {
+    ghost is_clone = { λ path copy. copy ≡ path };
+
+    fn clone(&self) -> Result<TreePath, AllocError> {
+        self.copy()
     }
 }

@@ -47,6 +47,7 @@ pub enum Line {
 }
 
 /// The next byte, however often the source is interrupted before it.
+#[inline]
 pub(crate) fn next_byte<S: Source>(source: &mut S) -> Result<Option<u8>, ReadError>
     ensures next { IfOk result (GivesNext (S.left source.old) (S.left source.new)) }
     ensures cause { OnErr result (HasCause (S.failures source.old, S.interruptions source.old) (S.failures source.new, S.interruptions source.new)) }
@@ -63,13 +64,16 @@ pub(crate) fn next_byte<S: Source>(source: &mut S) -> Result<Option<u8>, ReadErr
     Err(ReadError::Fault)
 }
 
+/// Room for most lines, in bytes, taken at once.
+const LINE_ROOM: usize = 128;
+
 /// The next line, if it has at most so many bytes.
 pub fn read_line<S: Source>(alloc: Global, source: &mut S, limit: usize) -> Result<Line, ReadError>
     ensures line { ReadsLine limit (S.left source.old) (S.left source.new) result }
     ensures cause { IsErrOf result ReadError.Fault → HasCause (S.failures source.old, S.interruptions source.old) (S.failures source.new, S.interruptions source.new) }
     ensures calm { OnOk result (S.failures source.new ≡ S.failures source.old) }
 {
-    let mut text = Vec::new(alloc);
+    let mut text = Vec::with_capacity(alloc, LINE_ROOM)?;
     loop {
         match next_byte(source)? {
             None => return Ok(Line::Last(text)),

@@ -1,19 +1,22 @@
 //! Readers and writers of std as sources and sinks.
-ghost use Rattle.std.specs.Prelude.{◌≡◌, ℕ, Err};
+ghost use Rattle.std.specs.Prelude.{◌≡◌, ℕ, [], Err, OnOk, OnErr};
+ghost use Rattle.std.specs.Io.KnownBytes.{prepend_known, Consumes, IsAtEnd, Keeps};
 ghost use Rattle.link_tree.specs.Streams.{failures_after, interruptions_after};
 
+use crate::ahead::Ahead;
 use crate::stream::{Sink, Source, Stop};
-use std::io::{BufRead, Error, ErrorKind, Write};
+use std::io::{Error, ErrorKind, Read, Write};
 
-/// A reader as a source.
+/// A reader as a source. It reads ahead, so the reader wants no buffer of its own.
 #[derive(Drop)]
 pub struct FromRead<R> {
     inner: R,
+    ahead: Ahead,
     failures: u64,
     interruptions: u64,
 }
 
-impl<R: BufRead> FromRead<R> {
+impl<R: Read> FromRead<R> {
     /// A source of the bytes that the reader has left.
     pub fn new(inner: R) -> FromRead<R>
         ensures left { ⟦<FromRead<R> as Source>⟧.left result ≡ R.remaining inner }
@@ -22,8 +25,27 @@ impl<R: BufRead> FromRead<R> {
     {
         FromRead {
             inner,
+            ahead: Ahead::none(),
             failures: 0,
             interruptions: 0,
+        }
+    }
+
+    /// Reads ahead, once all bytes are given.
+    #[cold]
+    fn read_ahead(&mut self) -> Result<(), Stop>
+        requires { self.old.ahead ≡ [] }
+        ensures ok { OnOk result (Consumes (R.remaining self.old.inner) (R.remaining self.new.inner) self.new.ahead × (self.new.ahead ≡ [] → IsAtEnd (R.remaining self.new.inner))) }
+        ensures err { OnErr result (Keeps (R.remaining self.old.inner) (R.remaining self.new.inner) × (self.new.ahead ≡ [])) }
+        ensures failures { self.new.failures ≡ failures_after self.old.failures result }
+        ensures interruptions { self.new.interruptions ≡ interruptions_after self.old.interruptions result }
+    {
+        match self.ahead.fill(&mut self.inner) {
+            Ok(()) => {
+                self.interruptions = 0;
+                Ok(())
+            }
+            Err(e) => Err(count(e, &mut self.failures, &mut self.interruptions)),
         }
     }
 }
@@ -43,32 +65,34 @@ fn count(e: Error, failures: &mut u64, interruptions: &mut u64) -> Stop
     }
 }
 
-impl<R: BufRead> Source for FromRead<R> {
-    ghost left = { λ s. R.remaining s.inner };
+impl<R: Read> Source for FromRead<R> {
+    ghost left = { λ s. prepend_known s.ahead (R.remaining s.inner) };
 
     ghost failures = { λ s. s.failures };
 
     ghost interruptions = { λ s. s.interruptions };
 
+    #[inline]
     fn byte(&mut self) -> Result<Option<u8>, Stop> {
-        let mut byte = [0u8];
-        match self.inner.read(&mut byte) {
-            Ok(n) => {
-                self.interruptions = 0;
-                if n == 0 { Ok(None) } else { Ok(Some(byte[0])) }
-            }
-            Err(e) => Err(count(e, &mut self.failures, &mut self.interruptions)),
+        if self.ahead.is_empty() {
+            self.read_ahead()?;
         }
+        self.interruptions = 0;
+        Ok(self.ahead.next())
     }
 
     fn bytes(&mut self, room: &mut [u8]) -> Result<usize, Stop> {
-        match self.inner.read(room) {
-            Ok(n) => {
-                self.interruptions = 0;
-                Ok(n)
-            }
-            Err(e) => Err(count(e, &mut self.failures, &mut self.interruptions)),
+        if self.ahead.is_empty() {
+            return match self.inner.read(room) {
+                Ok(n) => {
+                    self.interruptions = 0;
+                    Ok(n)
+                }
+                Err(e) => Err(count(e, &mut self.failures, &mut self.interruptions)),
+            };
         }
+        self.interruptions = 0;
+        Ok(self.ahead.give(room))
     }
 }
 

@@ -19,15 +19,18 @@ use std::alloc::{AllocError, Global};
 use std::collections::BTreeMap;
 use std::marker::Model;
 use std::ops::Bound;
+use std::sync::Arc;
 
-/// Entries by their paths, none beneath another and none where slots don't allow it. Contracts see a finite map.
+/// Entries by their paths, none beneath another and none where slots don't allow it. Copies share them until one is
+/// changed. Contracts see a finite map.
 #[derive(Debug, Drop)]
 pub struct Tree {
-    entries: BTreeMap<TreePath, Entry>,
+    entries: Arc<BTreeMap<TreePath, Entry>>,
 }
 
 impl Model for Tree {
     ghost use Rattle.std.specs.FinMap as map;
+    ghost use Rattle.std.specs.Arc.{arc_value};
     ghost use Rattle.link_tree.specs.Trees.{path_cmp};
     ghost use Rattle.link_tree.specs.Values.{coded_path, coded_entry};
     ghost use Rattle.link_tree.specs.declared.entry.Entry.{Entry};
@@ -36,35 +39,35 @@ impl Model for Tree {
 
     ghost coded = { map.code coded_path coded_entry };
 
-    ghost view = { λ tree. map.from_entries tree.entries.entries };
+    ghost view = { λ tree. map.from_entries (arc_value tree.entries).entries };
 
     ghost use Rattle.link_tree.specs.Shape.{IsTree};
 
-    ghost invariant = { λ tree. IsTree (map.from_entries tree.entries.entries) };
+    ghost invariant = { λ tree. IsTree (map.from_entries (arc_value tree.entries).entries) };
 }
 
 impl Tree {
     /// A tree with no entry.
-    pub fn empty(alloc: Global) -> Tree
-        ensures { result ≡ map.empty }
+    pub fn empty(alloc: Global) -> Result<Tree, AllocError>
+        ensures { IfOk result (λ tree. tree ≡ map.empty) }
     {
-        Tree {
-            entries: BTreeMap::new(alloc),
-        }
+        Ok(Tree {
+            entries: Arc::new(alloc, BTreeMap::new(alloc))?,
+        })
     }
 
     /// What stands at the path.
     pub fn get(&self, path: &TreePath) -> Option<&Entry>
         ensures { option_copied result ≡ map.get self.now path.now }
     {
-        self.entries.get(path)
+        self.entries().get(path)
     }
 
     /// How many entries there are.
     pub fn len(&self) -> usize
         ensures { result ≡ map.len self.now }
     {
-        self.entries.len()
+        self.entries().len()
     }
 
     /// Whether there is none.
@@ -79,10 +82,10 @@ impl Tree {
         ensures entries { IsPermutation result (map.entries self.now) }
         ensures runs { ShowsInOrder (deref_pair {K = List ℕ} {X = Entry}) }
     {
-        Iter::new(self.entries.iter())
+        Iter::new(self.entries().iter())
     }
 
-    /// An equal tree.
+    /// An equal tree, which shares the entries.
     pub fn copy(&self) -> Result<Tree, AllocError>
         ensures { IfOk result (λ tree. tree ≡ self.now) }
     {
@@ -95,7 +98,7 @@ impl Tree {
     pub fn shape(&self)
         ensures { IsTree self.now }
     {
-        let _count = self.entries.len();
+        let _entries = &self.entries;
     }
 
     /// Puts an entry at a slot in place of what stands there, or with `None` takes that away.
@@ -110,12 +113,10 @@ impl Tree {
                 let _path = path.text();
                 let _valid = entry.bytes();
                 self.shape();
-                self.insert(path, entry)
-            }
-            None => {
-                self.remove(slot);
+                self.insert(path, entry)?;
                 Ok(())
             }
+            None => self.remove(slot),
         }
     }
 
@@ -134,22 +135,35 @@ impl Tree {
 }
 
 impl Tree {
-    /// Puts an entry at the path.
-    pub(crate) fn insert(&mut self, path: TreePath, entry: Entry) -> Result<(), AllocError>
+    /// The entries by their paths.
+    fn entries(&self) -> &BTreeMap<TreePath, Entry>
+        ensures { map.from_entries result.now.entries ≡ self.now }
+    {
+        &self.entries
+    }
+
+    /// Puts an entry at the path, and answers what stood there.
+    pub(crate) fn insert(
+        &mut self,
+        path: TreePath,
+        entry: Entry,
+    ) -> Result<Option<Entry>, AllocError>
         requires fits { fits_at path entry ≡ true }
         requires apart { is_crowded self.old path ≡ false }
         ensures ok { OnOk result (self.new ≡ map.insert self.old path entry) }
+        ensures before { IfOk result (λ before. before ≡ map.get self.old path) }
         ensures err { OnErr result (self.new ≡ self.old) }
     {
-        self.entries.insert(path, entry)?;
-        Ok(())
+        Ok(Arc::make_mut(&mut self.entries)?.insert(path, entry)?)
     }
 
     /// Takes the entry at the path away.
-    fn remove(&mut self, path: &TreePath)
-        ensures { self.new ≡ map.remove self.old path.now }
+    fn remove(&mut self, path: &TreePath) -> Result<(), AllocError>
+        ensures ok { OnOk result (self.new ≡ map.remove self.old path.now) }
+        ensures err { OnErr result (self.new ≡ self.old) }
     {
-        self.entries.remove(path);
+        Arc::make_mut(&mut self.entries)?.remove(path);
+        Ok(())
     }
 
     /// Whether an entry lies beneath the path, or the path beneath an entry. The shape leaves each slot free.
@@ -188,7 +202,7 @@ impl Tree {
             return Ok(false);
         };
         match self
-            .entries
+            .entries()
             .range((Bound::Included(first), Bound::Unbounded))
             .next()
         {
@@ -201,7 +215,7 @@ impl Tree {
     fn push_lines(&self, out: &mut Vec<u8>) -> Result<(), AllocError>
         ensures { OnOk result (out.new.items ≡ out.old.items ++ flat_map entry_line (map.entries self.now)) }
     {
-        for (path, entry) in self.entries.iter() {
+        for (path, entry) in self.entries().iter() {
             push_line(out, path, entry)?;
         }
         Ok(())
@@ -238,12 +252,20 @@ fn push_line(out: &mut Vec<u8>, path: &TreePath, entry: &Entry) -> Result<(), Al
     Ok(out.push(b'\n')?)
 }
 
+/// Appends the one text of a tree.
+pub fn push_inventory(out: &mut Vec<u8>, tree: &Tree) -> Result<(), AllocError>
+    ensures { OnOk result (out.new.items ≡ out.old.items ++ inventory_text tree.now) }
+{
+    out.extend_from_slice(b"unitadm-inventory 1\n")?;
+    tree.push_lines(out)?;
+    Ok(out.extend_from_slice(b"end\n")?)
+}
+
 /// The one text of a tree.
 pub fn inventory_text(alloc: Global, tree: &Tree) -> Result<Vec<u8>, AllocError>
     ensures { IfOk result (λ text. text.items ≡ inventory_text tree.now) }
 {
-    let mut out = Vec::from_slice(alloc, b"unitadm-inventory 1\n")?;
-    tree.push_lines(&mut out)?;
-    out.extend_from_slice(b"end\n")?;
+    let mut out = Vec::new(alloc);
+    push_inventory(&mut out, tree)?;
     Ok(out)
 }

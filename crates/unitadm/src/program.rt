@@ -6,7 +6,6 @@ use crate::run_fault::RunFault;
 use crate::running::run;
 use arguments::{ArgumentError, arguments_of};
 use link_tree::{FromRead, ToWrite};
-use std::io::BufReader;
 use std::{env, io};
 use thiserror::Error;
 
@@ -50,13 +49,10 @@ fn read_arguments(rt: &HostRuntime) -> Result<(), ArgumentError> {
 
 /// Runs what standard input holds, and writes to standard output.
 fn run_standard(rt: &HostRuntime) -> Result<(), RunFault> {
-    let Ok(reader) = BufReader::new(rt.alloc(), rt.reader()) else {
-        return Err(RunFault::OutOfMemory);
-    };
-    // No buffer: the output comes whole, and a fault is to tell how much of it went out.
+    // No buffer around the writer: the output comes whole, and a fault is to tell how much of it went out.
     run(
         rt.alloc(),
-        &mut FromRead::new(reader),
+        &mut FromRead::new(rt.reader()),
         &mut ToWrite::new(io::writer(rt)),
     )
 }

@@ -17,7 +17,7 @@ use crate::run_fault::{InputError, InputFault, RunFault};
 use crate::script::read_script;
 use history::{CallError, History, Request};
 use link_tree::{
-    InventoryError, Sink, Source, Tree, WriteFault, inventory_text, read_inventory, write_text,
+    InventoryError, Sink, Source, Tree, WriteFault, push_inventory, read_inventory, write_text,
 };
 use std::alloc::{AllocError, Global};
 
@@ -64,7 +64,7 @@ fn text_of_history(alloc: Global, history: &History<Action>) -> Result<Vec<u8>, 
     let mut out = Vec::new(alloc);
     push_rows(&mut out, history.rows())?;
     out.extend_from_slice(b"== tree\n")?;
-    out.extend_from_slice(&inventory_text(alloc, history.tree())?)?;
+    push_inventory(&mut out, history.tree())?;
     Ok(out)
 }
 

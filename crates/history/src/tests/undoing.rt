@@ -100,9 +100,19 @@ fn text_of(alloc: Global, rows: &[Row<Step>]) -> Result<Vec<u8>, AllocError> {
     Ok(out)
 }
 
+/// A history of an empty tree.
+fn begun(alloc: Global) -> Result<History<Step>, AllocError> {
+    History::new(alloc, Tree::empty(alloc)?)
+}
+
+/// As `begun`, with room for one row.
+fn begun_with_room(alloc: Global) -> Result<History<Step>, AllocError> {
+    History::with_limit(alloc, Tree::empty(alloc)?, 1)
+}
+
 /// The replies to the calls of a script.
 fn said(alloc: Global, script: &[u8]) -> Result<Vec<u8>, Fail> {
-    let mut history = ample!(History::new(alloc, Tree::empty(alloc)), AllocError)?;
+    let mut history = ample!(begun(alloc), AllocError)?;
     for word in script.split(|b| *b == b' ') {
         make(alloc, &mut history, word)?;
     }
@@ -134,10 +144,7 @@ fn refused_calls_and_questions_block_nothing(rt: HostRuntime) -> Result<(), Fail
 fn a_full_history_hands_the_operation_back(rt: HostRuntime) -> Result<(), Fail> {
     let alloc = rt.alloc();
     let operator = Operator::parse(b"alice")?;
-    let mut history = ample!(
-        History::with_limit(alloc, Tree::empty(alloc), 1),
-        AllocError
-    )?;
+    let mut history = ample!(begun_with_room(alloc), AllocError)?;
     assert_eq!(rt;
         call(alloc, &mut history, operator, step(alloc, b"+a")?).ok(),
         Some(1)

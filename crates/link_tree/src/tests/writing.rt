@@ -50,7 +50,7 @@ fn entries_are_written_in_order(rt: HostRuntime) -> Result<(), Fail> {
     assert_written(
         &rt,
         alloc,
-        &Tree::empty(alloc),
+        &ample!(Tree::empty(alloc), AllocError)?,
         b"unitadm-inventory 1\nend\n",
     )?;
     Ok(())

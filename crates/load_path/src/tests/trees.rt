@@ -53,7 +53,7 @@ pub(crate) fn put_all(alloc: Global, tree: &mut Tree, rows: &[Row]) -> Result<()
 }
 
 pub(crate) fn tree(alloc: Global, rows: &[Row]) -> Result<Tree, Fail> {
-    let mut tree = Tree::empty(alloc);
+    let mut tree = ample!(Tree::empty(alloc), AllocError)?;
     put_all(alloc, &mut tree, rows)?;
     Ok(tree)
 }

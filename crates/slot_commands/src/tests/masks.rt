@@ -128,7 +128,7 @@ fn unmasks_are_told_apart(rt: HostRuntime) -> Result<(), Fail> {
 /// The mask of `x` on the empty tree.
 fn masked(alloc: Global) -> Result<Outcome, Fail> {
     let mask = mask(alloc, Scope::Etc, b"x.service")?;
-    let tree = Tree::empty(alloc);
+    let tree = ample!(Tree::empty(alloc), AllocError)?;
     Ok(ample!(mask.run(alloc, &tree), AllocError)?)
 }
 
@@ -145,7 +145,8 @@ fn assert_other_slot(rt: &impl Abort, tree: &Tree, reading: &Reading) {
 #[test]
 fn a_mask_reads_its_slot_which_is_other_then(rt: HostRuntime) -> Result<(), Fail> {
     let outcome = masked(rt.alloc())?;
-    assert!(rt; agrees(&Tree::empty(rt.alloc()), &outcome.reading).is_ok());
+    let before = ample!(Tree::empty(rt.alloc()), AllocError)?;
+    assert!(rt; agrees(&before, &outcome.reading).is_ok());
     let after = tree(
         rt.alloc(),
         b"unitadm-inventory 1\nL\t/etc/systemd/system/x.service\t/dev/null\nend\n",

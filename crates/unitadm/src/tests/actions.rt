@@ -22,7 +22,7 @@ pub(crate) fn units(alloc: Global, name: &[u8]) -> Result<Units, NameError> {
 
 /// How many changes the action's copy makes on an empty tree.
 fn changes_of(alloc: Global, action: &Action) -> Result<usize, AllocError> {
-    let tree = Tree::empty(alloc);
+    let tree = ample!(Tree::empty(alloc), AllocError)?;
     let copy = ample!(action.copy(), AllocError)?;
     let outcome = ample!(copy.run(alloc, &tree), AllocError)?;
     match outcome.answer {

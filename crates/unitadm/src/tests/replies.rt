@@ -33,7 +33,7 @@ fn text_of_rows(alloc: Global, history: &History<Action>) -> Result<Vec<u8>, All
 fn tree(alloc: Global) -> Result<Tree, Fail> {
     let name = ample!(UnitName::parse(alloc, b"e.service"), NameError::OutOfMemory)?;
     let slot = ample!(Scope::Etc.place().slot(alloc, &name), AllocError)?;
-    let mut tree = Tree::empty(alloc);
+    let mut tree = ample!(Tree::empty(alloc), AllocError)?;
     ample!(
         {
             let entry = file(alloc, b"")?;

@@ -15,8 +15,8 @@ pub returns-in-Some-next : goal.returns-in-Some-next
 unfolding first_is
 returns-in-Some-next c =
     let m = c.args.self.now in
-    let es = c.self.inside.entries.entries in
-    let keys = ap (λ t. maps.keys t) (sym c.self.view_is) ∙ ap (map (λ e. e.0)) (entries_again es c.range.ensures.ordered) in
+    let es = c.entries.result.now.entries in
+    let keys = ap (λ t. maps.keys t) (sym c.entries.ensures) ∙ ap (map (λ e. e.0)) (entries_again es c.range.ensures.ordered) in
     let found = first_found c.args.path.now c.in-Some.first m es c.range.result c.requires keys c.range.ensures.ordered (sym c.in_ok-first.ensures.first ∙ c.in-Some.is) (c.range.ensures.between tt) in
     c.is_beneath.ensures ∙ (λ i. is_beneath (c.text.ensures.text i) (c.text-in-Some-next.ensures.text i)) ∙ ap (first_is c.args.path.now) (sym c.in-Some-next.ensures.steps) ∙ found
 
@@ -24,7 +24,7 @@ pub returns-in-None : goal.returns-in-None
 unfolding first_is
 returns-in-None c =
     let m = c.args.self.now in
-    let es = c.self.inside.entries.entries in
-    let keys = ap (λ t. maps.keys t) (sym c.self.view_is) ∙ ap (map (λ e. e.0)) (entries_again es c.range.ensures.ordered) in
+    let es = c.entries.result.now.entries in
+    let keys = ap (λ t. maps.keys t) (sym c.entries.ensures) ∙ ap (map (λ e. e.0)) (entries_again es c.range.ensures.ordered) in
     let found = first_found c.args.path.now c.in-Some.first m es c.range.result c.requires keys c.range.ensures.ordered (sym c.in_ok-first.ensures.first ∙ c.in-Some.is) (c.range.ensures.between tt) in
     ap (first_is c.args.path.now) (sym c.in-None.ensures.steps.0) ∙ found

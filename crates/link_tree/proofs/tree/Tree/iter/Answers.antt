@@ -6,5 +6,5 @@ use Rattle.link_tree.proofs.tree.Tree.iter.Goals as goal
 
 pub returns-clause-entries : goal.returns-clause-entries
 returns-clause-entries c =
-    let same = c.new.ensures ∙ c.iter.ensures.rest ∙ sym (entries_again c.self.inside.entries.entries c.iter.ensures.ordered) ∙ ap (λ m. map.entries m) c.self.view_is in
+    let same = c.new.ensures ∙ c.iter.ensures.rest ∙ sym (entries_again c.entries.result.now.entries c.iter.ensures.ordered) ∙ ap (λ m. map.entries m) c.entries.ensures in
     rw same (IsPermutation-refl (map.entries c.args.self.now))

@@ -1,0 +1,11 @@
+-- An entry comes to stand where nothing is in its way.
+use Rattle.std.proofs.Common.{◌≡◌, ℕ, List, None, false, Ok, refl}
+use Rattle.std.specs.FinMap as map
+use Rattle.link_tree.specs.Trees.{Entries}
+use Rattle.link_tree.specs.Inventory.{placed}
+use Rattle.link_tree.specs.Shape.{is_crowded, is_bad_shape}
+use Rattle.link_tree.specs.declared.entry.Entry.{Entry}
+
+pub placed_free : (m : Entries) (path : List ℕ) (entry : Entry) → map.get m path ≡ None → is_crowded m path ≡ false → is_bad_shape path ≡ false → placed m (path, entry) ≡ Ok (map.insert m path entry)
+unfolding placed
+placed_free m path entry free apart shape = rw free (rw apart (rw shape refl))
