@@ -25,6 +25,11 @@ pub enum Key {
 
 /// Fills a list's unused room; it is never read.
 impl Default for Key {
+    ghost use Rattle.std.specs.Prelude.{◌≡◌};
+    ghost use Rattle.footprint.specs.declared.key.Key.TheVariants.{Links};
+
+    ghost is_default = { λ key. key ≡ Links };
+
     fn default() -> Key {
         Key::Links
     }

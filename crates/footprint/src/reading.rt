@@ -38,6 +38,12 @@ pub struct Observation {
 
 /// Fills a reading's unused room; it is never read.
 impl Default for Observation {
+    ghost use Rattle.std.specs.Prelude.{◌≡◌, None};
+    ghost use Rattle.footprint.specs.declared.key.Key.TheVariants.{Links};
+    ghost use Rattle.footprint.specs.declared.reading.Seen.TheVariants as sees;
+
+    ghost is_default = { λ observation. observation ≡ record { key = Links; seen = sees.Entry None } };
+
     fn default() -> Observation {
         Observation {
             key: Key::Links,

@@ -7,7 +7,8 @@ use crate::ahead::Ahead;
 use crate::stream::{Sink, Source, Stop};
 use std::io::{Error, ErrorKind, Read, Write};
 
-/// A reader as a source. It reads ahead, so the reader wants no buffer of its own.
+/// A reader as a source. It reads up to 8,192 bytes ahead, so the reader wants no buffer of its own; what was read ahead is lost with
+/// the source.
 #[derive(Drop)]
 pub struct FromRead<R> {
     inner: R,

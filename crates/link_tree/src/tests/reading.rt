@@ -1,5 +1,6 @@
 use crate::{
-    Entry, FromRead, InventoryError, InventoryFault, PathError, Tree, TreePath, read_inventory,
+    Entry, FromRead, InventoryError, InventoryFault, Line, PathError, Tree, TreePath,
+    read_inventory, read_line,
 };
 use std::alloc::Global;
 use std::test::Fail;
@@ -19,19 +20,24 @@ fn read(alloc: Global, input: &[u8]) -> Result<Tree, InventoryError> {
     )
 }
 
+/// The tree of an inventory, and the line that follows.
+fn read_on(alloc: Global, input: &[u8]) -> Result<(Tree, Line), InventoryError> {
+    let mut source = FromRead::new(input);
+    let tree = read_inventory(alloc, &mut source)?;
+    match read_line(alloc, &mut source, 80) {
+        Ok(line) => Ok((tree, line)),
+        Err(_) => Err(InventoryError::OutOfMemory),
+    }
+}
+
 #[test]
 fn what_follows_an_inventory_is_left(rt: HostRuntime) -> Result<(), Fail> {
-    let alloc = rt.alloc();
-    let mut bytes = TWO_LINKS;
-    let tree = ample!(
-        {
-            bytes = TWO_LINKS;
-            read_inventory(alloc, &mut FromRead::new(&mut bytes))
-        },
-        InventoryError::OutOfMemory
-    )?;
+    let (tree, line) = ample!(read_on(rt.alloc(), TWO_LINKS), InventoryError::OutOfMemory)?;
     assert_eq!(rt; tree.len(), 2);
-    assert_eq!(rt; bytes, b"== calls\n".as_slice());
+    match line {
+        Line::Whole(text) => assert_eq!(rt; text.as_slice(), b"== calls".as_slice()),
+        _ => Err("no line follows")?,
+    }
     Ok(())
 }
 

@@ -56,6 +56,15 @@ fn entries_are_written_in_order(rt: HostRuntime) -> Result<(), Fail> {
     Ok(())
 }
 
+/// The tree with the change made, where it is of an empty slot.
+fn filled(tree: &Tree, change: &Change) -> Result<Option<Tree>, AllocError> {
+    let made = change.copy()?;
+    if Slot::of(&made.path).is_none() || tree.get(&made.path).is_some() || made.before.is_some() {
+        return Ok(None);
+    }
+    Ok(Some(tree.with_changes(&[made])?))
+}
+
 #[test]
 fn trees_change_at_slots(rt: HostRuntime) -> Result<(), Fail> {
     let alloc = rt.alloc();
@@ -67,12 +76,8 @@ fn trees_change_at_slots(rt: HostRuntime) -> Result<(), Fail> {
         before: None,
         after: Some(ample!(entry.copy(), AllocError)?),
     };
-    let made = ample!(change.copy(), AllocError)?;
     let tree = entries(alloc)?;
-    assert!(rt; Slot::of(&made.path).is_some());
-    assert!(rt; tree.get(&made.path).is_none() && made.before.is_none());
-    let changes = [made];
-    let changed = ample!(tree.with_changes(&changes), AllocError)?;
+    let changed = ample!(filled(&tree, &change), AllocError)?.ok_or("the slot is empty")?;
     assert_eq!(rt; tree.len(), 3);
     assert_eq!(rt; changed.len(), 4);
     assert!(rt; changed.get(&path).is_some() && tree.get(&path).is_none());
