@@ -1,5 +1,6 @@
 """Runs of a program, measured."""
 import fcntl, os, select, struct, subprocess, sys, termios, time
+from typing import NamedTuple
 
 RUNS = 5
 ENOUGH = 10
@@ -26,8 +27,17 @@ def peak_of_reading(words, given):
     return peak
 
 
+class Run(NamedTuple):
+    """The time of a run in seconds, that of processors alone, its peak of memory in bytes, and what it wrote."""
+
+    taken: float
+    worked: float
+    peak: int
+    written: bytes
+
+
 def run(words, given):
-    """The time of a run in seconds, its peak of memory in bytes, and what it wrote.
+    """A run of the program on the input.
 
     The peak is asked for when the first bytes are there to be read: all output is made before that, and the program waits
     with the rest, unless it is short. What the system tells of a program that has ended counts also what this one had
@@ -40,16 +50,28 @@ def run(words, given):
         )
         select.select([child.stdout], [], [])
         peak = peak_of(child)
-        written, _ = child.communicate()
+        written = child.stdout.read()
+        _, status, usage = os.wait4(child.pid, 0)
         taken = time.perf_counter() - start
+    child.returncode = os.waitstatus_to_exitcode(status)
     if child.returncode != 0:
         sys.exit(f"{words}: status {child.returncode}")
-    return taken, peak, written
+    return Run(taken, usage.ru_utime + usage.ru_stime, peak, written)
+
+
+def runs_of(words, given):
+    """Five runs, or as many as were done once ten seconds had gone."""
+    runs = []
+    while len(runs) < RUNS and sum(one.taken for one in runs) < ENOUGH:
+        runs.append(run(words, given))
+    return runs
 
 
 def best(words, given):
-    """The best of five runs, or of as many as were done once ten seconds had gone."""
-    runs = []
-    while len(runs) < RUNS and sum(taken for taken, _, _ in runs) < ENOUGH:
-        runs.append(run(words, given))
-    return min(runs, key=lambda measured: measured[0])
+    """The shortest of these runs."""
+    return min(runs_of(words, given), key=lambda one: one.taken)
+
+
+def least_work(words, given):
+    """That of these runs which the processors had the least work with."""
+    return min(runs_of(words, given), key=lambda one: one.worked)
