@@ -14,7 +14,6 @@ use crate::entry::{Change, Entry, copy_of};
 use crate::iter::Iter;
 use crate::path::TreePath;
 use crate::shape::is_beneath;
-use crate::slot::slot_of;
 use std::alloc::{AllocError, Global};
 use std::collections::BTreeMap;
 use std::marker::Model;
@@ -166,14 +165,11 @@ impl Tree {
         Ok(())
     }
 
-    /// Whether an entry lies beneath the path, or the path beneath an entry. The shape leaves each slot free.
+    /// Whether an entry lies beneath the path, or the path beneath an entry.
     pub(crate) fn is_crowded(&self, path: &TreePath) -> Result<bool, AllocError>
         ensures { IfOk result (λ crowded. crowded ≡ is_crowded self.now path.now) }
     {
         self.shape();
-        if slot_of(path.text()).is_some() {
-            return Ok(false);
-        }
         Ok(self.has_above(path)? || self.has_beneath(path)?)
     }
 

@@ -1,12 +1,6 @@
-use Rattle.std.proofs.Common.{◌∙◌, sym, ap, is_some}
-use Rattle.link_tree.specs.Slots.{slot_of}
-use Rattle.link_tree.proofs.Slots.{slot_free}
+use Rattle.std.proofs.Common.{◌∙◌, sym}
 use Rattle.link_tree.proofs.Beneaths.{crowded_or, found_first, found_second}
 use Rattle.link_tree.proofs.tree.Tree.is_crowded.Goals as goal
-
-pub returns-then-is_some : goal.returns-then-is_some
-returns-then-is_some c =
-    sym (slot_free c.args.self.now c.args.path.now c.shape.ensures (ap is_some (sym (c.slot_of.ensures ∙ ap slot_of c.text.ensures.text)) ∙ sym c.is_some.ensures ∙ c.if-is_some.true))
 
 pub returns-then-branch : goal.returns-then-branch
 returns-then-branch c = found_first c.in_ok-has_above.field-0 _ _ c.if-branch.true c.in_ok-has_above.ensures ∙ sym (crowded_or c.args.self.now c.args.path.now)
