@@ -39,7 +39,7 @@ class Run(NamedTuple):
 def run(words, given):
     """A run of the program on the input.
 
-    The peak is asked for when the first bytes are there to be read: all output is made before that, and the program waits
+    The peak is asked for when the first bytes are there to be read: all memory is taken before that, and the program waits
     with the rest, unless it is short. What the system tells of a program that has ended counts also what this one had
     when it began it.
     """

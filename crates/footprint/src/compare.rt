@@ -1,5 +1,4 @@
 //! The order of keys in a reading.
-ghost use Rattle.std.specs.Prelude.{◌≡◌};
 
 use crate::key::Key;
 use std::cmp::Ordering;

@@ -85,14 +85,14 @@ cut p t all =
     let more : length p + 1 ≡ suc (length p) = omega arith in
     rw (tab-at p t all, take-append_seam p (9 ∷ t), more, drop-after p t) refl
 
-target-text : (t : List ℕ) → is_target t ≡ true → (list_all is_text_byte t ≡ true) × (length t ≤ 4095)
+pub target-text : (t : List ℕ) → is_target t ≡ true → (list_all is_text_byte t ≡ true) × (length t ≤ 4095)
 unfolding is_target
 target-text t is =
     let x = and_parts (nat_lt 0 (length t)) (nat_le (length t) 4095 && list_all is_text_byte t) is in
     let y = and_parts (nat_le (length t) 4095) (list_all is_text_byte t) x.1 in
     (y.1, leb-true (length t) 4095 y.0)
 
-path-text : (p : List ℕ) → is_path p ≡ true → (list_all is_text_byte p ≡ true) × (length p ≤ 4095)
+pub path-text : (p : List ℕ) → is_path p ≡ true → (list_all is_text_byte p ≡ true) × (length p ≤ 4095)
 unfolding is_path
 path-text p is =
     let x = and_parts (nat_le (length p) 4095) _ is in
@@ -175,11 +175,11 @@ end-read : (more : ℕ) (rest : List ℕ) → next_of more (codes "end\n" ++ res
 end-read zero rest = ap (entry_at false) (whole 16384 (codes "end") rest refl (omega arith)) ∙ rw end-line refl
 end-read (suc more) rest = ap (entry_at true) (whole 16384 (codes "end") rest refl (omega arith)) ∙ rw end-line refl
 
-second : (a b : Bool) → T (a && b) → T b
+pub second : (a b : Bool) → T (a && b) → T b
 second true b h = h
 second false b h = absurd h
 
-first : (a b : Bool) → T (a && b) → T a
+pub first : (a b : Bool) → T (a && b) → T a
 first true b h = tt
 first false b h = absurd h
 
@@ -193,11 +193,11 @@ abbrev pub Before : List (List ℕ × Entry) → List (List ℕ × Entry) → Ty
 Before [] es = Unit {0}
 Before (d ∷ ds) es = T (below_all path_cmp d.0 es) × Before ds es
 
-before-more : (done : List (List ℕ × Entry)) (e : List ℕ × Entry) (es : List (List ℕ × Entry)) → Before done (e ∷ es) → T (below_all path_cmp e.0 es) → Before (done ++ e ∷ []) es
+pub before-more : (done : List (List ℕ × Entry)) (e : List ℕ × Entry) (es : List (List ℕ × Entry)) → Before done (e ∷ es) → T (below_all path_cmp e.0 es) → Before (done ++ e ∷ []) es
 before-more [] e es h k = (k, tt)
 before-more (d ∷ ds) e es h k = (second _ _ h.0, before-more ds e es h.1 k)
 
-none-done : (done : List (List ℕ × Entry)) (e : List ℕ × Entry) (es : List (List ℕ × Entry)) → Before done (e ∷ es) → find path_cmp e.0 done ≡ None
+pub none-done : (done : List (List ℕ × Entry)) (e : List ℕ × Entry) (es : List (List ℕ × Entry)) → Before done (e ∷ es) → find path_cmp e.0 done ≡ None
 none-done [] e es h = refl
 none-done (d ∷ ds) e es h =
     let apart : eq_by_cmp path_cmp e.0 d.0 ≡ false = (eq_by_cmp_equiv nat_list_cmp_total).symm e.0 d.0 ∙ less_apart (path_cmp d.0 e.0) (first _ _ h.0) in
@@ -220,7 +220,7 @@ find-front q (d ∷ ds) es some = elim (cases_Bool (eq_by_cmp path_cmp q d.0)) [
   | inr away ↦ rw away (find-front q ds es (rw away at some))
 ]
 
-found-at : (done : List (List ℕ × Entry)) (e : List ℕ × Entry) (es : List (List ℕ × Entry)) → find path_cmp e.0 done ≡ None → map.get (from_entries {R = path_cmp} (done ++ e ∷ es)) e.0 ≡ Some e.1
+pub found-at : (done : List (List ℕ × Entry)) (e : List ℕ × Entry) (es : List (List ℕ × Entry)) → find path_cmp e.0 done ≡ None → map.get (from_entries {R = path_cmp} (done ++ e ∷ es)) e.0 ≡ Some e.1
 found-at done e es none = get-from_entries nat_list_cmp_total (done ++ e ∷ es) e.0 ∙ find-later e.0 done (e ∷ es) none ∙ ap (λ (b : Bool). cond b (Some e.1) (find path_cmp e.0 es)) (same-found e.0)
 
 -- none of those done lies close to the next
@@ -232,7 +232,7 @@ not-crowded done e es none tree = any-keys (is_close e.0) (map.keys (from_entrie
     let stands = ap is_some (get-from_entries nat_list_cmp_total (done ++ e ∷ es) q) ∙ find-front q done (e ∷ es) was in
     tree.apart e.0 q (ap is_some (found-at done e es none)) stands)
 
-entry-fits : (p : List ℕ) (e : Entry) → fits_at p e ≡ true → (is_path p ≡ true) × (is_entry e ≡ true) × (is_bad_shape p ≡ false)
+pub entry-fits : (p : List ℕ) (e : Entry) → fits_at p e ≡ true → (is_path p ≡ true) × (is_entry e ≡ true) × (is_bad_shape p ≡ false)
 unfolding fits_at
 entry-fits p e h =
     let x = and_parts (is_path p && is_entry e) (not (is_bad_shape p)) h in
@@ -269,7 +269,7 @@ again more number done ((p, e) ∷ es) rest before sorted tree few =
     ∙ next ∙ ap (λ (l : List (List ℕ × Entry)). Ok (from_entries l, rest)) whole_list
 
 -- a tree is made of its entries
-made_of : (m : Entries) → from_entries (map.entries m) ≡ m
+pub made_of : (m : Entries) → from_entries (map.entries m) ≡ m
 made_of m = same_map nat_list_cmp_total exact_bytes _ _ (λ q. get-from_entries nat_list_cmp_total (map.entries m) q ∙ sym (get-entries m q))
 
 header-read : (bytes : List ℕ) → inventory_of (codes "unitadm-inventory 1\n" ++ bytes) ≡ entries_at 65536 1 map.empty bytes

@@ -1,6 +1,7 @@
 -- The bytes of a file, one after another.
-use Rattle.std.proofs.Common.{◌≡◌, ◌≢◌, ◌==◌, nat_lt, true, false, Ok, Err, ℕ, ◌<◌, ◌≤◌, List, [], ◌∷◌, ◌++◌, length, take, drop, Option, None, Some, slice_set, refl, sym, ap, subst, ◌∙◌, arith, append_assoc, length-append}
-use Rattle.std.proofs.Math.Seq.{take-append_seam, drop-append_seam}
+use Rattle.std.proofs.Common.{◌≡◌, ◌≢◌, ◌==◌, nat_lt, true, false, Ok, Err, ℕ, ◌+◌, ◌<◌, ◌≤◌, List, [], ◌∷◌, ◌++◌, length, take, drop, Option, None, Some, slice_set, refl, sym, ap, subst, ◌∙◌, arith, append_assoc, length-append}
+use Rattle.std.proofs.Math.Seq.{take-append_seam, drop-append_seam, take-append-add}
+use Rattle.std.proofs.lemmas.List.{take-append-le}
 use Rattle.std.proofs.lemmas.Bool.Decides.{nat_tests}
 use Rattle.link_tree.specs.Files.{is_contents}
 use Rattle.link_tree.specs.Inventory.{contents_at, ended}
@@ -99,3 +100,13 @@ some_none b e = cc
 
 pub one_given : (old new : Option (List ℕ)) (b : ℕ) → Consumes old new (b ∷ []) → GivesSome old new (b ∷ [])
 one_given old new b given = (given, λ none. absurd (some_none b none))
+
+-- some room behind the front is written, and the first n of its bytes count
+module _ (front written rest : List ℕ) (size n : ℕ) (long : length front ≡ size) (few : n ≤ length written) where
+  pub front_within : size + n ≤ length (front ++ (written ++ rest))
+  front_within = omega (arith, length-append front (written ++ rest), length-append written rest)
+
+  pub front_more : take (size + n) (front ++ (written ++ rest)) ≡ front ++ take n written
+  front_more =
+      ap (λ m. take (m + n) (front ++ (written ++ rest))) (sym long) ∙ take-append-add front (written ++ rest) n
+      ∙ ap (λ l. front ++ l) (take-append-le n written rest few)

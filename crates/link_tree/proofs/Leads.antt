@@ -36,6 +36,11 @@ paths_of es = list_map (λ c. c.path) (changes_of es)
 apart : (q p : List ℕ) → T (is_lt (path_cmp q p)) → is_at q p ≡ false
 apart q p h = ap is_eq (less (path_cmp q p) h)
 
+-- what a change that is found leaves
+abbrev pub after_found : Option Change → Option Entry → Option Entry
+after_found None o = o
+after_found (Some c) o = c.after
+
 module _ (t u : Entries) where
   -- what stands at a path in both trees, as a change
   abbrev change_of : List ℕ → Change
@@ -84,11 +89,6 @@ module _ (t u : Entries) where
     rows_from es d.2 (second _ _ order),
   )
 
-  -- what a change that is found leaves
-  abbrev after_found : Option Change → Option Entry → Option Entry
-  after_found None o = o
-  after_found (Some c) o = c.after
-
   after_rows : (es : List Row) (q : List ℕ) (o : Option Entry) → Differ es → T (is_sorted path_cmp es) → after_at (changes_of es) q o ≡ after_found (find path_cmp q es) o
   after_rows [] q o d order = refl
   after_rows (e ∷ es) q o d order =
@@ -99,11 +99,15 @@ module _ (t u : Entries) where
         | inr away ↦ rw away (after_rows es q o d.2 (second _ _ order))
       ]
 
-  there : (q : List ℕ) → after_found (change_at t u q) (map.get t q) ≡ map.get u q
-  there q = elim (cases_Bool (same (map.get t q) (map.get u q))) [
+  changed_there : (q : List ℕ) → after_found (change_at t u q) (map.get t q) ≡ map.get u q
+  changed_there q = elim (cases_Bool (same (map.get t q) (map.get u q))) [
     | inl alike ↦ rw alike (same_is (map.get t q) (map.get u q) alike)
     | inr other ↦ rw other refl
   ]
+
+  -- what has changed says what stands there now
+  pub there : (q : List ℕ) → after_found (map.get (differences t u) q) (map.get t q) ≡ map.get u q
+  there q = ap (λ found. after_found found (map.get t q)) (get-differences t u q) ∙ changed_there q
 
   not_alike : (path : List ℕ) → same (map.get t path) (map.get u path) ≡ false → map.get t path ≢ map.get u path
   not_alike path other equal = false≢true (sym other ∙ ap (same (map.get t path)) (sym equal) ∙ same-itself (map.get t path))
@@ -126,7 +130,7 @@ module _ (t u : Entries) where
   unfolding changes_between
   leads = record {
     from = rows_from rows rows_differ in_order;
-    to = same_tree _ _ (λ q. get-after_changes (changes_of rows) t q ∙ after_rows rows q (map.get t q) rows_differ in_order ∙ ap (λ found. after_found found (map.get t q)) (found_at q) ∙ there q);
+    to = same_tree _ _ (λ q. get-after_changes (changes_of rows) t q ∙ after_rows rows q (map.get t q) rows_differ in_order ∙ ap (λ found. after_found found (map.get t q)) (found_at q) ∙ changed_there q);
     real = rows_real rows rows_differ;
     in_order = rows_in_order rows rows_differ in_order;
   }

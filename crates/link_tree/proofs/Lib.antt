@@ -18,6 +18,8 @@ pub mod Slots
 pub mod Lengths
 pub mod Aheads
 pub mod FileBytes
+pub mod Sends
+pub mod Counted
 pub mod Entries
 pub mod Again
 pub mod UnitSlots

@@ -11,5 +11,6 @@ pub mod Lines
 pub mod EntryLines
 pub mod Inventory
 pub mod Reads
+pub mod Sends
 pub mod TreeReads
 pub mod Laws

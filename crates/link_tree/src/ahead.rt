@@ -8,7 +8,7 @@ use std::io::Read;
 use std::marker::Model;
 
 /// How many bytes are asked for at a time.
-const MOST: usize = 8192;
+pub(crate) const MOST: usize = 32768;
 
 /// The bytes from `start` to `end` are still to be given. Contracts see these.
 #[derive(Drop)]

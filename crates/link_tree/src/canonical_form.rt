@@ -4,7 +4,7 @@ ghost use Rattle.std.specs.Option.{option_map};
 ghost use Rattle.std.specs.List.{slice_split, position};
 ghost use Rattle.smallvec.specs.SmallVec.{small_vec_len};
 ghost use Rattle.link_tree.specs.Paths.{is_slash};
-ghost use Rattle.link_tree.specs.Canonical.{cut_at_slash, parent, with_part, walked, begins_with_slash, start_of, merged, canonical, canonical_text, is_null_target, is_null_link};
+ghost use Rattle.link_tree.specs.Canonical.{cut_at_slash, parent, with_part, walked, begins_with_slash, start_of, merged, canonical, is_null_target, is_null_link};
 
 use crate::entry::{Entry, Target};
 use crate::fault::MAX_PATH;

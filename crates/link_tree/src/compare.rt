@@ -1,5 +1,4 @@
 //! Paths are compared, ordered and hashed by the bytes of their text.
-ghost use Rattle.std.specs.Prelude.{◌≡◌};
 
 use crate::path::TreePath;
 use std::cmp::Ordering;

@@ -1,12 +1,12 @@
 //! The lines of an inventory, one for each entry.
 #![tactic(auto, using(crate::proofs::Known::known))]
 
-ghost use Rattle.std.specs.Prelude.{◌≡◌, ◌<◌, ◌+◌, ℕ, min, true, List, length, codes, Option, IfOk, IfSome, Some};
+ghost use Rattle.std.specs.Prelude.{◌≡◌, ◌<◌, ◌+◌, min, true, length, Option, IfOk, IfSome, Some};
 ghost use Rattle.std.specs.Option.{option_map};
 ghost use Rattle.std.specs.List.{list_all, position};
 ghost use Rattle.std.specs.Char.{is_ascii_digit};
 ghost use Rattle.std.specs.Str.Parse.{digits_value};
-ghost use Rattle.link_tree.specs.EntryLines.{is_tab, cut_at_tab, two_fields, fields_of, is_length, length_of, path_of, target_of, file_line, link_line, by_letter, line_of, IsSized};
+ghost use Rattle.link_tree.specs.EntryLines.{is_tab, cut_at_tab, two_fields, fields_of, is_length, length_of, path_of, target_of, file_line, link_line, line_of, IsSized};
 ghost use Rattle.link_tree.specs.Reads.{Gives, path_error_seen, target_error_seen};
 
 use crate::entry::Target;

@@ -7,9 +7,11 @@ mod compare;
 mod entry;
 mod entry_line;
 mod fault;
+mod held;
 mod inventory;
 mod iter;
 mod laws;
+mod outgoing;
 mod part;
 mod path;
 mod reading;
@@ -34,8 +36,8 @@ pub use reading::{Line, ReadError, read_line};
 pub use slot::{Dependency, Place, Scope, Slot};
 pub use standard::{FromRead, ToWrite};
 pub use stream::{PATIENCE, Sink, Source, Stop};
-pub use tree::{Tree, inventory_text, push_decimal, push_inventory};
-pub use writing::{WriteError, WriteFault, write_inventory, write_text};
+pub use tree::{Tree, push_decimal};
+pub use writing::{WriteError, write_before_inventory, write_inventory};
 
 #[cfg(test)]
 mod tests;

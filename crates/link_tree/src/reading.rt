@@ -1,10 +1,9 @@
 //! What comes in.
 #![tactic(auto, using(crate::proofs::Known::known))]
 
-ghost use Rattle.std.specs.Prelude.{◌≡◌, ◌+◌, ◌<◌, ◌≤◌, ◌++◌, ℕ, List, Some, length, take, IfOk, IfSome, OnOk, OnErr, IsErrOf};
+ghost use Rattle.std.specs.Prelude.{◌≡◌, ◌+◌, ◌<◌, ◌≤◌, ℕ, List, Some, None, length, take, if◌then◌else◌, IfOk, IfSome, OnOk, OnErr, IsErrOf};
 ghost use Rattle.std.specs.Option.{option_map};
 ghost use Rattle.std.specs.Vec.{vec_capacity, vec_len};
-ghost use Rattle.std.specs.Io.KnownBytes.{Keeps};
 ghost use Rattle.link_tree.specs.Lines.{ReadsLine, IsBytes};
 ghost use Rattle.link_tree.specs.Streams.{HasCause, GivesNext, GivesSome};
 ghost use Rattle.link_tree.specs.declared.reading.ReadError.TheVariants.{OutOfMemory};
@@ -108,20 +107,35 @@ fn next_bytes<S: Source>(source: &mut S, room: &mut [u8]) -> Result<usize, ReadE
     Err(ReadError::Fault)
 }
 
-/// Puts bytes behind others for which there is room.
-fn push_all(bytes: &mut Vec<u8>, more: &[u8])
-    requires { vec_len bytes.old + length more.now ≤ vec_capacity bytes.old }
-    ensures items { bytes.new.items ≡ bytes.old.items ++ more.now }
-    ensures len { vec_len bytes.new ≡ vec_len bytes.old + length more.now }
-    ensures room { vec_capacity bytes.new ≡ vec_capacity bytes.old }
+/// So many zeros, in no more memory than they need.
+fn zeros(alloc: Global, size: usize) -> Result<Vec<u8>, AllocError>
+    ensures len { IfOk result (λ zeros. vec_len zeros ≡ size) }
+    ensures room { IfOk result (λ zeros. vec_capacity zeros ≡ size) }
 {
-    for byte in more {
-        bytes.push_reserved(*byte);
+    let mut zeros = Vec::with_capacity(alloc, size)?;
+    for _index in 0..size {
+        zeros.push_reserved(0);
     }
+    Ok(zeros)
 }
 
-/// How many bytes are asked for at a time.
-const CHUNK: usize = 4096;
+/// Puts the next bytes into all of `room`, and answers whether there were so many.
+fn fill<S: Source>(source: &mut S, room: &mut [u8]) -> Result<bool, ReadError>
+    ensures bytes { IfOk result (λ whole. (bytes : List ℕ) → S.left source.old ≡ Some bytes → IsBytes (length room.new) bytes (S.left source.new) (if whole then Some room.new else None)) }
+    ensures cause { OnErr result (HasCause (S.failures source.old, S.interruptions source.old) (S.failures source.new, S.interruptions source.new)) }
+    ensures calm { OnOk result (S.failures source.new ≡ S.failures source.old) }
+    ensures kind { IsErrOf result ReadError.OutOfMemory → ⊥ }
+{
+    let mut filled = 0;
+    'pieces: while filled < room.len() {
+        let count = next_bytes(source, &mut room[filled..])?;
+        if count == 0 {
+            return Ok(false);
+        }
+        filled += count;
+    }
+    Ok(true)
+}
 
 /// The next bytes, just so many, or `None` where the input ends before. No more memory is taken than they need.
 pub(crate) fn read_bytes<S: Source>(
@@ -135,15 +149,10 @@ pub(crate) fn read_bytes<S: Source>(
     ensures cause { IsErrOf result ReadError.Fault → HasCause (S.failures source.old, S.interruptions source.old) (S.failures source.new, S.interruptions source.new) }
     ensures calm { OnOk result (S.failures source.new ≡ S.failures source.old) }
 {
-    let mut bytes = Vec::with_capacity(alloc, size)?;
-    let mut chunk = [0; CHUNK];
-    'chunks: while bytes.len() < size {
-        let most = (size - bytes.len()).min(CHUNK);
-        let count = next_bytes(source, &mut chunk[..most])?;
-        if count == 0 {
-            return Ok(None);
-        }
-        push_all(&mut bytes, &chunk[..count]);
+    let mut bytes = zeros(alloc, size)?;
+    if fill(source, &mut bytes)? {
+        Ok(Some(bytes))
+    } else {
+        Ok(None)
     }
-    Ok(Some(bytes))
 }

@@ -1,13 +1,13 @@
 //! Readers and writers of std as sources and sinks.
-ghost use Rattle.std.specs.Prelude.{◌≡◌, ℕ, [], Err, OnOk, OnErr};
+ghost use Rattle.std.specs.Prelude.{◌≡◌, ◌<◌, ◌≤◌, ℕ, [], Err, IfOk, OnOk, OnErr, length, take};
 ghost use Rattle.std.specs.Io.KnownBytes.{prepend_known, Consumes, IsAtEnd, Keeps};
-ghost use Rattle.link_tree.specs.Streams.{failures_after, interruptions_after};
+ghost use Rattle.link_tree.specs.Streams.{GivesSome, failures_after, interruptions_after};
 
-use crate::ahead::Ahead;
+use crate::ahead::{Ahead, MOST};
 use crate::stream::{Sink, Source, Stop};
 use std::io::{Error, ErrorKind, Read, Write};
 
-/// A reader as a source. It reads up to 8,192 bytes ahead, so the reader wants no buffer of its own; what was read ahead is lost with
+/// A reader as a source. It reads up to 32,768 bytes ahead, so the reader wants no buffer of its own; what was read ahead is lost with
 /// the source.
 #[derive(Drop)]
 pub struct FromRead<R> {
@@ -49,6 +49,25 @@ impl<R: Read> FromRead<R> {
             Err(e) => Err(count(e, &mut self.failures, &mut self.interruptions)),
         }
     }
+
+    /// Reads some bytes into the front of `room`, past what is read ahead, and answers how many.
+    fn read_into(&mut self, room: &mut [u8]) -> Result<usize, Stop>
+        requires { 0 < length room.old }
+        ensures count { IfOk result (λ n. n ≤ length room.new) }
+        ensures given { IfOk result (λ n. GivesSome (R.remaining self.old.inner) (R.remaining self.new.inner) (take n room.new)) }
+        ensures kept { OnErr result (Keeps (R.remaining self.old.inner) (R.remaining self.new.inner)) }
+        ensures ahead { self.new.ahead ≡ self.old.ahead }
+        ensures failures { self.new.failures ≡ failures_after self.old.failures result }
+        ensures interruptions { self.new.interruptions ≡ interruptions_after self.old.interruptions result }
+    {
+        match self.inner.read(room) {
+            Ok(n) => {
+                self.interruptions = 0;
+                Ok(n)
+            }
+            Err(e) => Err(count(e, &mut self.failures, &mut self.interruptions)),
+        }
+    }
 }
 
 /// Why a call stopped, with the counters: a counter stops at its largest value.
@@ -84,13 +103,10 @@ impl<R: Read> Source for FromRead<R> {
 
     fn bytes(&mut self, room: &mut [u8]) -> Result<usize, Stop> {
         if self.ahead.is_empty() {
-            return match self.inner.read(room) {
-                Ok(n) => {
-                    self.interruptions = 0;
-                    Ok(n)
-                }
-                Err(e) => Err(count(e, &mut self.failures, &mut self.interruptions)),
-            };
+            if room.len() >= MOST {
+                return self.read_into(room);
+            }
+            self.read_ahead()?;
         }
         self.interruptions = 0;
         Ok(self.ahead.give(room))

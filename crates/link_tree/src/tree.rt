@@ -1,6 +1,6 @@
 //! Trees of entries.
-ghost use Rattle.std.specs.Prelude.{◌≡◌, ◌++◌, All, IfOk, OnOk, OnErr, IsTrue, true, false, ◌↔◌, map as list_map};
-ghost use Rattle.std.specs.List.{flat_map, list_any};
+ghost use Rattle.std.specs.Prelude.{◌≡◌, ◌++◌, All, IfOk, OnOk, OnErr, IsTrue, true, false, ◌↔◌};
+ghost use Rattle.std.specs.List.{list_any};
 ghost use Rattle.std.specs.Prelude.{ℕ, List, IsPermutation};
 ghost use Rattle.std.specs.Map.Iter.{ShowsInOrder, deref_pair};
 ghost use Rattle.std.specs.Option.{option_copied};
@@ -8,7 +8,7 @@ ghost use Rattle.std.specs.Fmt.{decimal};
 ghost use Rattle.std.specs.FinMap as map;
 ghost use Rattle.link_tree.specs.Slots.{is_slot};
 ghost use Rattle.link_tree.specs.Shape.{fits_at, is_beneath, is_crowded, IsTree};
-ghost use Rattle.link_tree.specs.Trees.{AreFrom, set_entry, after_changes, entry_line, inventory_text};
+ghost use Rattle.link_tree.specs.Trees.{AreFrom, set_entry, after_changes};
 
 use crate::entry::{Change, Entry, copy_of};
 use crate::iter::Iter;
@@ -131,11 +131,28 @@ impl Tree {
         }
         Ok(tree)
     }
+
+    /// Makes these changes: each replaces what stands at a slot. One alone is made where the entries lie, more on a copy.
+    pub fn make_changes(&mut self, changes: &[Change]) -> Result<(), AllocError>
+        requires slots { All (λ change. is_slot change.path ≡ true) changes.now }
+        requires from { AreFrom self.old changes.now }
+        ensures ok { OnOk result (self.new ≡ after_changes changes.now self.old) }
+        ensures err { OnErr result (self.new ≡ self.old) }
+    {
+        match changes {
+            [] => Ok(()),
+            [change] => self.set(&change.path, copy_of(&change.after)?),
+            _ => {
+                *self = self.with_changes(changes)?;
+                Ok(())
+            }
+        }
+    }
 }
 
 impl Tree {
     /// The entries by their paths.
-    fn entries(&self) -> &BTreeMap<TreePath, Entry>
+    pub(crate) fn entries(&self) -> &BTreeMap<TreePath, Entry>
         ensures { map.from_entries result.now.entries ≡ self.now }
     {
         &self.entries
@@ -206,16 +223,6 @@ impl Tree {
             None => Ok(false),
         }
     }
-
-    /// The lines of the entries, in the order of their paths.
-    fn push_lines(&self, out: &mut Vec<u8>) -> Result<(), AllocError>
-        ensures { OnOk result (out.new.items ≡ out.old.items ++ flat_map entry_line (map.entries self.now)) }
-    {
-        for (path, entry) in self.entries().iter() {
-            push_line(out, path, entry)?;
-        }
-        Ok(())
-    }
 }
 
 /// Appends a number as it is written: in decimal digits, without leading zeros.
@@ -224,44 +231,4 @@ pub fn push_decimal(out: &mut Vec<u8>, number: usize) -> Result<(), AllocError>
 {
     let text = number.to_string(*out.allocator())?;
     out.extend_from_slice(text.as_bytes())
-}
-
-fn push_line(out: &mut Vec<u8>, path: &TreePath, entry: &Entry) -> Result<(), AllocError>
-    ensures { OnOk result (out.new.items ≡ out.old.items ++ entry_line (path.now, entry.now)) }
-{
-    match entry {
-        Entry::File(contents) => {
-            out.extend_from_slice(b"F\t")?;
-            push_decimal(out, contents.bytes().len())?;
-            out.push(b'\t')?;
-            out.extend_from_slice(path.text())?;
-            out.push(b'\n')?;
-            out.extend_from_slice(contents.bytes())?;
-        }
-        Entry::Link(target) => {
-            out.extend_from_slice(b"L\t")?;
-            out.extend_from_slice(path.text())?;
-            out.push(b'\t')?;
-            out.extend_from_slice(target.text())?;
-        }
-    }
-    Ok(out.push(b'\n')?)
-}
-
-/// Appends the one text of a tree.
-pub fn push_inventory(out: &mut Vec<u8>, tree: &Tree) -> Result<(), AllocError>
-    ensures { OnOk result (out.new.items ≡ out.old.items ++ inventory_text tree.now) }
-{
-    out.extend_from_slice(b"unitadm-inventory 1\n")?;
-    tree.push_lines(out)?;
-    Ok(out.extend_from_slice(b"end\n")?)
-}
-
-/// The one text of a tree.
-pub fn inventory_text(alloc: Global, tree: &Tree) -> Result<Vec<u8>, AllocError>
-    ensures { IfOk result (λ text. text.items ≡ inventory_text tree.now) }
-{
-    let mut out = Vec::new(alloc);
-    push_inventory(&mut out, tree)?;
-    Ok(out)
 }

@@ -1,5 +1,4 @@
 //! Names are compared, ordered and hashed by the bytes of their text.
-ghost use Rattle.std.specs.Prelude.{◌≡◌};
 
 use crate::name::UnitName;
 use std::cmp::Ordering;

@@ -1,5 +1,4 @@
 //! What operators ask of a tree.
-ghost use Rattle.std.specs.Prelude.{◌≡◌, IfOk, All, true};
 
 use footprint::{Operation, Outcome};
 use link_tree::Tree;

@@ -1,7 +1,6 @@
 //! The text of rows.
 ghost use Rattle.std.specs.Prelude.{◌≡◌, ◌++◌, ◌≤◌, OnOk, codes, length};
 ghost use Rattle.std.specs.List.{flat_map};
-ghost use Rattle.std.specs.Fmt.{decimal};
 ghost use Rattle.std.specs.Option.{option_copied};
 ghost use Rattle.link_tree.specs.Trees.{turned};
 ghost use Rattle.history.specs.declared.history.TheConstants.{MAX_ROWS};

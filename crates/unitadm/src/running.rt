@@ -1,10 +1,14 @@
 //! From input to output.
-ghost use Rattle.std.specs.Prelude.{◌≡◌, ◌<◌, ◌≤◌, ℕ, List, [], length, Option, Some, true, OnOk, IfOk, IfErr, IsErrOf};
+ghost use Rattle.std.specs.Prelude.{◌≡◌, ◌<◌, ◌≤◌, ◌++◌, ◌⊎◌, ℕ, List, length, Some, true, OnOk, IfOk, IfErr, IsErrOf};
+ghost use Rattle.std.specs.Io.KnownBytes.{Appends};
+ghost use Rattle.link_tree.specs.Reads.{SentBefore};
+ghost use Rattle.link_tree.specs.Streams.{HasCause};
+ghost use Rattle.link_tree.specs.Trees.{inventory_text};
 ghost use Rattle.link_tree.specs.Inventory.{inventory_of};
 ghost use Rattle.history.specs.Rows.{rows_after};
 ghost use Rattle.history.specs.declared.history.TheConstants.{MAX_ROWS};
 ghost use Rattle.unitadm.specs.Actions.{asks, meaning};
-ghost use Rattle.unitadm.specs.Machine.{asked, rows_of};
+ghost use Rattle.unitadm.specs.Machine.{asked, replay, rows_of};
 ghost use Rattle.unitadm.specs.Script.{script_of};
 ghost use Rattle.unitadm.specs.Texts.{text_of};
 ghost use Rattle.unitadm.specs.Runs.{TreeOfInput, outcome_of, text_of_calls, in_inventory, in_script, GivesInput, InputCause, WritesAll, FaultOf, Silent, FaultCause};
@@ -17,7 +21,7 @@ use crate::run_fault::{InputError, InputFault, RunFault};
 use crate::script::read_script;
 use history::{CallError, History, Request};
 use link_tree::{
-    InventoryError, Sink, Source, Tree, WriteFault, push_inventory, read_inventory, write_text,
+    InventoryError, Sink, Source, Tree, WriteError, read_inventory, write_before_inventory,
 };
 use std::alloc::{AllocError, Global};
 
@@ -57,33 +61,18 @@ fn history_of(alloc: Global, tree: Tree, calls: Vec<Call>) -> Result<History<Act
     Ok(history)
 }
 
-fn text_of_history(alloc: Global, history: &History<Action>) -> Result<Vec<u8>, AllocError>
-    requires { history.now.limit ≤ MAX_ROWS }
-    ensures { IfOk result (λ text. text.items ≡ text_of history.now.first history.now.rows) }
-{
-    let mut out = Vec::new(alloc);
-    push_rows(&mut out, history.rows())?;
-    out.extend_from_slice(b"== tree\n")?;
-    push_inventory(&mut out, history.tree())?;
-    Ok(out)
-}
-
-fn text_of_rows(alloc: Global, tree: Tree, calls: Vec<Call>) -> Result<Vec<u8>, CallError>
-    ensures text { IfOk result (λ text. text.items ≡ text_of tree (rows_of tree calls.items)) }
-    ensures room { OnOk result (length calls.items ≤ MAX_ROWS) }
-    ensures full { IsErrOf result CallError.Full → MAX_ROWS < length calls.items }
-{
-    let history = history_of(alloc, tree, calls)?;
-    Ok(text_of_history(alloc, &history)?)
-}
-
 #[tactic(auto, unfolding(crate::specs::Runs::text_of_calls))]
-fn text_of_calls(alloc: Global, tree: Tree, calls: Vec<Call>) -> Result<Vec<u8>, InputError>
-    ensures text { GivesInput (λ text. text.items) result (text_of_calls tree calls.items) }
+fn history_of_calls(
+    alloc: Global,
+    tree: Tree,
+    calls: Vec<Call>,
+) -> Result<History<Action>, InputError>
+    ensures text { GivesInput (λ history. text_of history.first history.rows) result (text_of_calls tree calls.items) }
+    ensures limit { IfOk result (λ history. history.limit ≤ MAX_ROWS) }
     ensures cause { IfErr result (λ e. (old new : ℕ × ℕ) → InputCause e old new) }
 {
-    match text_of_rows(alloc, tree, calls) {
-        Ok(text) => Ok(text),
+    match history_of(alloc, tree, calls) {
+        Ok(history) => Ok(history),
         Err(CallError::Full) => Err(InputError::Fault(InputFault::Full)),
         Err(CallError::OutOfMemory) => Err(InputError::OutOfMemory),
     }
@@ -116,18 +105,48 @@ fn read_calls<S: Source>(alloc: Global, source: &mut S) -> Result<Vec<Call>, Inp
     }
 }
 
-/// The whole text for the input.
-fn text_of_input<S: Source>(alloc: Global, source: &mut S) -> Result<Vec<u8>, InputError>
-    ensures text { (input : List ℕ) → S.left source.old ≡ Some input → GivesInput (λ text. text.items) result (outcome_of input) }
+/// What has become of the input.
+fn history_of_input<S: Source>(alloc: Global, source: &mut S) -> Result<History<Action>, InputError>
+    ensures text { (input : List ℕ) → S.left source.old ≡ Some input → GivesInput (λ history. text_of history.first history.rows) result (outcome_of input) }
+    ensures limit { IfOk result (λ history. history.limit ≤ MAX_ROWS) }
     ensures cause { IfErr result (λ e. InputCause e (S.failures source.old, S.interruptions source.old) (S.failures source.new, S.interruptions source.new)) }
 {
     let tree = read_tree(alloc, source)?;
     let calls = read_calls(alloc, source)?;
-    text_of_calls(alloc, tree, calls)
+    history_of_calls(alloc, tree, calls)
 }
 
-/// Reads an inventory and a script of calls, and writes a reply to each call and the tree that they leave. The
-/// output is made whole before its first byte goes out.
+/// What is written before the inventory.
+fn text_of_replies(alloc: Global, history: &History<Action>) -> Result<Vec<u8>, AllocError>
+    requires { history.now.limit ≤ MAX_ROWS }
+    ensures { IfOk result (λ text. text.items ++ inventory_text (replay history.now.first history.now.rows) ≡ text_of history.now.first history.now.rows) }
+{
+    let mut out = Vec::new(alloc);
+    push_rows(&mut out, history.rows())?;
+    out.extend_from_slice(b"== tree\n")?;
+    Ok(out)
+}
+
+/// Writes the replies and the tree that the calls leave. Only the replies and a buffer take memory.
+fn write_history<K: Sink>(
+    alloc: Global,
+    history: &History<Action>,
+    sink: &mut K,
+) -> Result<(), WriteError>
+    requires { history.now.limit ≤ MAX_ROWS }
+    ensures ok { OnOk result (Appends (K.written sink.old) (K.written sink.new) (text_of history.now.first history.now.rows)) }
+    ensures flushed { OnOk result (K.flushed sink.new ≡ true) }
+    ensures fault { IfErr result (λ e. SentBefore e (K.written sink.old) (K.written sink.new) (text_of history.now.first history.now.rows)) }
+    ensures cause { IfErr result (λ e. e ≡ WriteError.OutOfMemory ⊎ HasCause (K.failures sink.old, K.interruptions sink.old) (K.failures sink.new, K.interruptions sink.new)) }
+{
+    let Ok(replies) = text_of_replies(alloc, history) else {
+        return Err(WriteError::OutOfMemory);
+    };
+    write_before_inventory(alloc, &replies, history.tree(), sink)
+}
+
+/// Reads an inventory and a script of calls, and writes a reply to each call and the tree that they leave. All memory
+/// is taken before the first byte goes out.
 pub fn run<S: Source, K: Sink>(alloc: Global, source: &mut S, sink: &mut K) -> Result<(), RunFault>
     ensures ok { OnOk result ((input : List ℕ) → S.left source.old ≡ Some input → WritesAll (K.written sink.old) (K.written sink.new) (outcome_of input)) }
     ensures flushed { OnOk result (K.flushed sink.new ≡ true) }
@@ -135,10 +154,11 @@ pub fn run<S: Source, K: Sink>(alloc: Global, source: &mut S, sink: &mut K) -> R
     ensures silent { IfErr result (λ e. Silent e (K.written sink.old) (K.written sink.new)) }
     ensures cause { IfErr result (λ e. FaultCause e (S.failures source.old, S.interruptions source.old) (S.failures source.new, S.interruptions source.new) (K.failures sink.old, K.interruptions sink.old) (K.failures sink.new, K.interruptions sink.new)) }
 {
-    match text_of_input(alloc, source) {
-        Ok(text) => match write_text(&text, sink) {
+    match history_of_input(alloc, source) {
+        Ok(history) => match write_history(alloc, &history, sink) {
             Ok(()) => Ok(()),
-            Err(WriteFault(sent)) => Err(RunFault::WriteFault(sent)),
+            Err(WriteError::Fault(sent)) => Err(RunFault::WriteFault(sent)),
+            Err(WriteError::OutOfMemory) => Err(RunFault::OutOfMemory),
         },
         Err(e) => Err(e.run_fault()),
     }

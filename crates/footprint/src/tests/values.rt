@@ -1,8 +1,8 @@
 //! Names, entries, trees and keys from texts, and texts of readings.
 use crate::{Key, Keys, Reading, Seen};
 use link_tree::{
-    Change, Entry, FileError, FromRead, InventoryError, PathError, Scope, TargetError, Tree,
-    TreePath, inventory_text, read_inventory,
+    Change, Entry, FileError, FromRead, InventoryError, PathError, Scope, TargetError, ToWrite,
+    Tree, TreePath, read_inventory, write_inventory,
 };
 use std::alloc::{AllocError, Global};
 use std::test::Fail;
@@ -106,8 +106,10 @@ fn push_seen(alloc: Global, text: &mut Vec<u8>, seen: &Seen) -> Result<(), Alloc
         }
         Seen::Entries(entries) => {
             text.push(b'\n')?;
-            let inventory = inventory_text(alloc, entries)?;
-            Ok(text.extend_from_slice(&inventory)?)
+            match write_inventory(alloc, entries, &mut ToWrite::new(text)) {
+                Ok(()) => Ok(()),
+                Err(_) => Err(AllocError),
+            }
         }
     }
 }

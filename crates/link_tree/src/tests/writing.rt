@@ -1,6 +1,11 @@
+ghost use Rattle.std.specs.Prelude.{◌≡◌, All, true};
+ghost use Rattle.std.specs.FinMap as map;
+ghost use Rattle.link_tree.specs.Slots.{is_slot};
+ghost use Rattle.link_tree.specs.Trees.{AreFrom};
+
 use crate::{
     Change, Entry, FromRead, InventoryError, PathError, Slot, TargetError, ToWrite, Tree, TreePath,
-    WriteError, read_inventory, write_inventory,
+    WriteError, read_inventory, write_before_inventory, write_inventory,
 };
 use std::alloc::{AllocError, Global};
 use std::process::Abort;
@@ -56,6 +61,38 @@ fn entries_are_written_in_order(rt: HostRuntime) -> Result<(), Fail> {
     Ok(())
 }
 
+/// An inventory of one file, which is longer than what is ever held back.
+fn long_file(alloc: Global) -> Result<Vec<u8>, AllocError> {
+    let mut text = Vec::from_slice(alloc, b"unitadm-inventory 1\nF\t70000\t/a/b\n")?;
+    text.extend_from_slice(&[b'a'; 70000])?;
+    text.extend_from_slice(b"\nend\n")?;
+    Ok(text)
+}
+
+fn read(alloc: Global, text: &[u8]) -> Result<Tree, InventoryError> {
+    let mut bytes = text;
+    read_inventory(alloc, &mut FromRead::new(&mut bytes))
+}
+
+/// What is written into a list, which takes all but for want of memory.
+fn written(alloc: Global, before: &[u8], tree: &Tree) -> Result<Vec<u8>, AllocError> {
+    let mut out = Vec::new(alloc);
+    match write_before_inventory(alloc, before, tree, &mut ToWrite::new(&mut out)) {
+        Ok(()) => Ok(out),
+        Err(_) => Err(AllocError),
+    }
+}
+
+#[test]
+fn a_long_file_is_written_behind_a_text(rt: HostRuntime) -> Result<(), Fail> {
+    let alloc = rt.alloc();
+    let text = ample!(long_file(alloc), AllocError)?;
+    let tree = ample!(read(alloc, &text), InventoryError::OutOfMemory)?;
+    let written = ample!(written(alloc, b"== tree\n", &tree), AllocError)?;
+    assert!(rt; written.strip_prefix(b"== tree\n") == Some(text.as_slice()));
+    Ok(())
+}
+
 /// The tree with the change made, where it is of an empty slot.
 fn filled(tree: &Tree, change: &Change) -> Result<Option<Tree>, AllocError> {
     let made = change.copy()?;
@@ -90,5 +127,70 @@ fn trees_change_at_slots(rt: HostRuntime) -> Result<(), Fail> {
         }
     }
     assert_eq!(rt; count, 4);
+    Ok(())
+}
+
+/// Whether the changes come to the same in place as on a copy.
+fn are_made_alike(alloc: Global, tree: &Tree, changes: &[Change]) -> Result<bool, AllocError>
+    requires slots { All (λ change. is_slot change.path ≡ true) changes.now }
+    requires from { AreFrom tree.now changes.now }
+{
+    let mut made = tree.copy()?;
+    made.make_changes(changes)?;
+    let changed = tree.with_changes(changes)?;
+    Ok(written(alloc, b"", &made)? == written(alloc, b"", &changed)?)
+}
+
+/// Whether the change fills an empty slot.
+fn fills(tree: &Tree, change: &Change) -> bool
+    ensures slot { result ≡ true → is_slot change.now.path ≡ true }
+    ensures from { result ≡ true → map.get tree.now change.now.path ≡ change.now.before }
+{
+    Slot::of(&change.path).is_some() && tree.get(&change.path).is_none() && change.before.is_none()
+}
+
+/// Whether no change, one and both come to the same in place as on a copy, where these fill two empty slots.
+fn two_are_made_alike(
+    alloc: Global,
+    tree: &Tree,
+    one: &Change,
+    other: &Change,
+) -> Result<bool, AllocError> {
+    if !fills(tree, one) || !fills(tree, other) || one.path == other.path {
+        return Ok(false);
+    }
+    Ok(
+        are_made_alike(alloc, tree, &[])?
+            && are_made_alike(alloc, tree, &[one.copy()?])?
+            && are_made_alike(alloc, tree, &[one.copy()?, other.copy()?])?,
+    )
+}
+
+/// The change that links `/dev/null` where nothing stands.
+fn mask(alloc: Global, at: &[u8]) -> Result<Change, PathError> {
+    let Ok(entry) = Entry::link(alloc, b"/dev/null") else {
+        return Err(PathError::OutOfMemory);
+    };
+    Ok(Change {
+        path: TreePath::parse(alloc, at)?,
+        before: None,
+        after: Some(entry),
+    })
+}
+
+#[test]
+fn changes_are_made_in_place_as_on_a_copy(rt: HostRuntime) -> Result<(), Fail> {
+    let alloc = rt.alloc();
+    let tree = entries(alloc)?;
+    let one = ample!(
+        mask(alloc, b"/etc/systemd/system/a.service"),
+        PathError::OutOfMemory
+    )?;
+    let other = ample!(
+        mask(alloc, b"/etc/systemd/system/b.service"),
+        PathError::OutOfMemory
+    )?;
+    let alike = ample!(two_are_made_alike(alloc, &tree, &one, &other), AllocError)?;
+    assert!(rt; alike);
     Ok(())
 }

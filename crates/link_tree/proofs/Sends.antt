@@ -1,0 +1,124 @@
+-- Texts on their way to a sink.
+use Rattle.std.proofs.Common.{◌≡◌, ℕ, ◌+◌, ◌^◌, ◌<◌, ◌≤◌, List, [], ◌∷◌, ◌++◌, Option, Result, Ok, Err, sym, ap, subst, ◌∙◌, length, take, drop, get_or, arith, append_assoc, append-nil, length-drop}
+use Rattle.std.proofs.lemmas.List.{take_all, drop_all, drop_more, take-append-le, length-append}
+use Rattle.std.proofs.lemmas.List.Concat.{flat_map-cons}
+use Rattle.std.specs.List.{flat_map}
+use Rattle.std.proofs.Math.Seq.{take-append-add, take-nil, drop-nil}
+use Rattle.std.specs.Io.KnownBytes.{Appends}
+use Rattle.std.specs.Result.{IsErr, IsErrAnd}
+use Rattle.std.proofs.KnownBytes.{Appends-trans, Appends-nil}
+use Rattle.link_tree.specs.declared.outgoing.Outgoing.{Outgoing}
+use Rattle.link_tree.specs.declared.writing.WriteFault.{WriteFault}
+use Rattle.link_tree.specs.Sends.{IsOut, StopsIn, IsOutOrStops, IsWrittenOrStops, Puts, Counts}
+
+-- a sink that fails in some bytes fails so far behind what went out before them
+pub stops_behind : (before old new : Option (List ℕ)) (text bytes : List ℕ) (n m : ℕ) → Appends before old text → (n ≤ length bytes) × Appends old new (take n bytes) → m ≡ length text + n → StopsIn before new (text ++ bytes) m
+stops_behind before old new text bytes n m out fault is = subst (StopsIn before new (text ++ bytes)) (sym is) (
+  omega (arith, fault.0, length-append text bytes),
+  subst (Appends before new) (sym (take-append-add text bytes n)) (Appends-trans _ _ _ _ _ out fault.1),
+)
+
+-- where a sink fails in a text, it fails there in a longer one
+pub stops_longer : (before new : Option (List ℕ)) (text more : List ℕ) (n : ℕ) → StopsIn before new text n → StopsIn before new (text ++ more) n
+stops_longer before new text more n stop = (
+  omega (arith, stop.0, length-append text more),
+  subst (Appends before new) (sym (take-append-le n text more stop.0)) stop.1,
+)
+
+module _ (before now : Option (List ℕ)) (out : Outgoing) (text : List ℕ) (is_out : IsOut before now out text) (none : out.held ≡ []) where
+  all_sent : length text ≤ out.sent
+  all_sent =
+      let none_left : length (drop out.sent text) ≡ 0 = ap length (sym is_out.1 ∙ none) in
+      omega (arith, none_left, length-drop out.sent text)
+
+  -- with nothing held back, all of it went out
+  pub all_is_out : Appends before now text
+  all_is_out = subst (Appends before now) (take_all out.sent text all_sent) is_out.2
+
+  pub counted : out.sent ≡ length text
+  counted = omega (arith, all_sent, is_out.0)
+
+  pub counts_on : (new : Option (List ℕ)) (sent : ℕ) (r : Result (Unit {0}) WriteFault) (bytes : List ℕ) → Counts now new out.sent sent r bytes → length (text ++ bytes) < 2 ^ 64 → IsOutOrStops before new (record { held = out.held; sent = sent }) (text ++ bytes) r
+  counts_on new sent (Ok done) bytes counts small =
+      let gone : (sent ≡ length (text ++ bytes)) × Appends before new (text ++ bytes) = counts before text counted all_is_out small in
+      let all : length (text ++ bytes) ≤ sent = omega (arith, gone.0) in (
+        omega (arith, gone.0),
+        none ∙ sym (drop_all sent (text ++ bytes) all),
+        subst (Appends before new) (sym (take_all sent (text ++ bytes) all)) gone.1,
+      )
+  counts_on new sent (Err fault) bytes counts small = counts before text counted all_is_out small
+
+-- Some of the bytes were put, and these are left.
+abbrev pub IsPut : (old now : Option (List ℕ)) → (out_old out : Outgoing) → (all left : List ℕ) → Type 0
+IsPut old now out_old out all left = (front : List ℕ) × (front ++ left ≡ all) × Puts old now out_old out (Ok tt) front
+
+pub none_is_put : (old : Option (List ℕ)) (out : Outgoing) (all left : List ℕ) → left ≡ all → IsPut old old out out all left
+none_is_put old out all left same = ([], same, λ before text is_out small. subst (IsOut before old out) (sym (append-nil text)) is_out)
+
+module _ (old now new : Option (List ℕ)) (out_old out out_new : Outgoing) (all bytes left : List ℕ) (so_far : IsPut old now out_old out all (bytes ++ left)) where
+  joined : (text : List ℕ) → ((text ++ so_far.0) ++ bytes) ++ left ≡ text ++ all
+  joined text = append_assoc (text ++ so_far.0) bytes left ∙ append_assoc text so_far.0 (bytes ++ left) ∙ ap (λ xs. text ++ xs) so_far.1
+
+  fits : (text : List ℕ) → length (text ++ all) < 2 ^ 64 → length ((text ++ so_far.0) ++ bytes) < 2 ^ 64
+  fits text small =
+      let len : length (((text ++ so_far.0) ++ bytes) ++ left) ≡ length (text ++ all) = ap length (joined text) in
+      omega (arith, small, len, length-append ((text ++ so_far.0) ++ bytes) left)
+
+  fits_front : (text : List ℕ) → length ((text ++ so_far.0) ++ bytes) < 2 ^ 64 → length (text ++ so_far.0) < 2 ^ 64
+  fits_front text small = omega (arith, small, length-append (text ++ so_far.0) bytes)
+
+  pub more_is_put : Puts now new out out_new (Ok tt) bytes → IsPut old new out_old out_new all left
+  more_is_put puts = (
+    so_far.0 ++ bytes,
+    append_assoc so_far.0 bytes left ∙ so_far.1,
+    λ before text is_out small.
+        let same : (text ++ so_far.0) ++ bytes ≡ text ++ (so_far.0 ++ bytes) = append_assoc text so_far.0 bytes in
+        let less : length ((text ++ so_far.0) ++ bytes) < 2 ^ 64 = subst (λ xs. length xs < 2 ^ 64) (sym same) small in
+        subst (IsOut before new out_new) same (puts before (text ++ so_far.0) (so_far.2 before text is_out (fits_front text less)) less),
+  )
+
+  pub put_stops : (fault : WriteFault) → Puts now new out out_new (Err fault) bytes → Puts old new out_old out_new (Err fault) all
+  put_stops fault puts before text is_out small =
+      let less = fits text small in
+      subst (λ xs. StopsIn before new xs fault.0) (joined text)
+      (stops_longer before new ((text ++ so_far.0) ++ bytes) left fault.0 (puts before (text ++ so_far.0) (so_far.2 before text is_out (fits_front text less)) less))
+
+pub all_is_put : (old now : Option (List ℕ)) (out_old out : Outgoing) (all : List ℕ) → IsPut old now out_old out all [] → Puts old now out_old out (Ok tt) all
+all_is_put old now out_old out all so_far = subst (Puts old now out_old out (Ok tt)) (sym (append-nil so_far.0) ∙ so_far.1) so_far.2
+
+-- what is left of some pieces begins with the next of them
+pub next_piece : {X : Type 0} (f : X → List ℕ) (pieces : List X) (i : ℕ) (piece : X) → i < length pieces → flat_map f (drop i pieces) ≡ f (get_or pieces i piece) ++ flat_map f (drop (i + 1) pieces)
+next_piece f pieces i piece within = ap (flat_map f) (drop_more pieces i piece within) ∙ flat_map-cons f (get_or pieces i piece) (drop (i + 1) pieces)
+
+-- what `?` returns
+pub is_fault : (r : Result (Unit {0}) WriteFault) (fault : WriteFault) → IsErr r × IsErrAnd r (λ e. e ≡ fault) → Err fault ≡ r
+is_fault (Ok done) fault returned = absurd returned.1
+is_fault (Err e) fault returned = ap Err (sym returned.1)
+
+-- where nothing is held back and nothing went out, the empty text is on its way
+pub nothing_is_out : (old : Option (List ℕ)) (out : Outgoing) → out.held ≡ [] → out.sent ≡ 0 → IsOut old old out []
+nothing_is_out old out none zero = (omega (arith, zero), none ∙ sym (drop-nil out.sent), subst (Appends old old) (sym (take-nil out.sent)) (Appends-nil old))
+
+module _ (old now new : Option (List ℕ)) (out_old out out_new : Outgoing) (all bytes : List ℕ) where
+  -- the last of some bytes
+  pub last_is_put : IsPut old now out_old out all bytes → (r : Result (Unit {0}) WriteFault) → Puts now new out out_new r bytes → Puts old new out_old out_new r all
+  last_is_put so_far r puts = last r puts
+    where
+      whole : IsPut old now out_old out all (bytes ++ [])
+      whole = subst (IsPut old now out_old out all) (sym (append-nil bytes)) so_far
+
+      last : (r : Result (Unit {0}) WriteFault) → Puts now new out out_new r bytes → Puts old new out_old out_new r all
+      last (Ok tt) puts = all_is_put old new out_old out_new all (more_is_put old now new out_old out out_new all bytes [] whole puts)
+      last (Err fault) puts = put_stops old now new out_old out out_new all bytes [] whole fault puts
+
+  -- `?` returns where the sink fails
+  pub fails : (left : List ℕ) → IsPut old now out_old out all (bytes ++ left) → (fault : WriteFault) → Puts now new out out_new (Err fault) bytes → (r : Result (Unit {0}) WriteFault) → IsErr r × IsErrAnd r (λ e. e ≡ fault) → Puts old new out_old out_new r all
+  fails left so_far fault puts r returned =
+      subst (λ r. Puts old new out_old out_new r all) (is_fault r fault returned) (put_stops old now new out_old out out_new all bytes left so_far fault puts)
+
+pub next_item : {X : Type 0} (f : X → List ℕ) (items : List X) (item : X) (rest : List X) → items ≡ item ∷ rest → flat_map f items ≡ f item ++ flat_map f rest
+next_item f items item rest is = ap (flat_map f) is ∙ flat_map-cons f item rest
+
+-- what `?` returns where the sink fails in the whole text
+pub whole_fails : (old new : Option (List ℕ)) (text : List ℕ) (fault : WriteFault) (r : Result (Unit {0}) WriteFault) → IsErr r × IsErrAnd r (λ e. e ≡ fault) → StopsIn old new text fault.0 → IsWrittenOrStops old new text r
+whole_fails old new text fault r returned stop = subst (IsWrittenOrStops old new text) (is_fault r fault returned) stop
