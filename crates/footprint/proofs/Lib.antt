@@ -1,3 +1,4 @@
+pub mod HeldBack
 pub mod KeySets
 pub mod Parts
 pub mod Agreed

@@ -1,7 +1,8 @@
 -- What holds of a tree that is edited.
-use Rattle.std.specs.Prelude.{◌≡◌, ℕ, List, [], ◌++◌, map as list_map, Result, Ok, Err}
+use Rattle.std.specs.Prelude.{◌≡◌, true, All, ℕ, List, [], ◌++◌, map as list_map, Result, Ok, Err}
 use Rattle.std.specs.FinMap as map
 use Rattle.link_tree.specs.declared.entry.Change.{Change}
+use Rattle.link_tree.specs.Slots.{is_slot}
 use Rattle.link_tree.specs.Trees.{path_cmp, Entries}
 use Rattle.footprint.specs.declared.refusal.Refusal.{Refusal}
 use Rattle.link_tree.specs.Differences.{DifferAtSlots, differences, changes_between}
@@ -10,12 +11,14 @@ use Rattle.footprint.specs.declared.answer.Answer.TheVariants.{Done, Refused}
 use Rattle.footprint.specs.declared.key.Key.TheVariants.{Cell}
 use Rattle.footprint.specs.declared.outcome.Outcome.{Outcome}
 use Rattle.footprint.specs.Readings.{reading_of}
-use Rattle.footprint.specs.Steps.{Verdict, placed_in}
+use Rattle.footprint.specs.Steps.{Placed, Verdict, placed_in}
 
--- The changes are those from the first tree to the tree as it is now, which differs from it at slots alone.
-pub record IsEdit (first tree : Entries) (changes : map.FinMap path_cmp Change) : Type 0 where
-  pub noted : changes ≡ differences first tree
-  pub at_slots : DifferAtSlots first tree
+-- The changes are those from the first tree to the tree as it is now, which is the tree with what is held back in its place. It
+-- differs from the first tree at slots alone, for which alone an entry is held back.
+pub record IsEdit (first tree : Entries) (held_back : List Placed) (changes : map.FinMap path_cmp Change) : Type 0 where
+  pub noted : changes ≡ differences first (placed_in held_back tree)
+  pub at_slots : DifferAtSlots first (placed_in held_back tree)
+  pub slots : All (λ placed. is_slot placed.0 ≡ true) held_back
 
 -- the first tree and the tree as it is now, after what is to stand there, or the refusal
 abbrev pub stepped : Verdict → Entries × Entries → Result (Entries × Entries) Refusal

@@ -1,5 +1,7 @@
 //! Trees that are edited.
 ghost use Rattle.std.specs.Prelude.{◌≡◌, true, All, IfOk};
+ghost use Rattle.std.specs.Option.{option_copied};
+ghost use Rattle.std.specs.FinMap as map;
 ghost use Rattle.link_tree.specs.Slots.{is_slot};
 ghost use Rattle.link_tree.specs.Trees.{set_entry};
 ghost use Rattle.link_tree.specs.Differences.{changes_between};
@@ -19,11 +21,13 @@ use load_path::Cells;
 use std::alloc::{AllocError, Global};
 use std::marker::Model;
 
-/// A tree as it was, and as it is now. Contracts see the two.
+/// A tree as it was, and as it is now. What is put into it is held back until the whole tree is looked at. Contracts see
+/// the two.
 #[derive(Drop)]
 pub struct Edit<'a> {
     first: &'a Tree,
     tree: Tree,
+    held_back: Vec<(TreePath, Option<Entry>)>,
     changes: NetChanges,
 }
 
@@ -32,15 +36,16 @@ impl<'a> Model for Edit<'a> {
     ghost use Rattle.std.specs.Coded.{coded×};
     ghost use Rattle.link_tree.specs.Trees.{Entries};
     ghost use Rattle.link_tree.specs.Values.{coded_path, coded_entry};
+    ghost use Rattle.footprint.specs.Steps.{placed_in};
     ghost use Rattle.footprint.specs.Edits.{IsEdit};
 
     ghost Value = { Entries × Entries };
 
     ghost coded = { coded× (map.code coded_path coded_entry) (map.code coded_path coded_entry) };
 
-    ghost view = { λ edit. (edit.first.now, edit.tree) };
+    ghost view = { λ edit. (edit.first.now, placed_in edit.held_back.items edit.tree) };
 
-    ghost invariant = { λ edit. IsEdit edit.first.now edit.tree edit.changes };
+    ghost invariant = { λ edit. IsEdit edit.first.now edit.tree edit.held_back.items edit.changes };
 }
 
 impl<'a> Edit<'a> {
@@ -51,15 +56,39 @@ impl<'a> Edit<'a> {
         Ok(Edit {
             first: tree,
             tree: tree.copy()?,
+            held_back: Vec::new(alloc),
             changes: NetChanges::none(alloc),
         })
     }
 
-    /// The tree as it is now.
-    pub fn tree(&self) -> &Tree
-        ensures { result.now ≡ self.now.1 }
+    /// What stands at the path now.
+    pub fn get(&self, path: &TreePath) -> Option<&Entry>
+        ensures { option_copied result ≡ map.get self.now.1 path.now }
     {
-        &self.tree
+        match self.changes.get(path) {
+            Some(change) => change.after.as_ref(),
+            None => self.first.get(path),
+        }
+    }
+
+    /// The tree as it is now, beside the edit, where nothing is held back then.
+    pub fn settled(self, alloc: Global) -> Result<(Tree, Edit<'a>), AllocError>
+        ensures tree { IfOk result (λ r. r.0 ≡ self.entry.1) }
+        ensures edit { IfOk result (λ r. r.1 ≡ self.entry) }
+    {
+        let first = self.first;
+        let mut tree = self.tree;
+        for (slot, entry) in self.held_back {
+            tree.set(&slot, entry)?;
+        }
+        let copy = tree.copy()?;
+        let edit = Edit {
+            first,
+            tree,
+            held_back: Vec::new(alloc),
+            changes: self.changes,
+        };
+        Ok((copy, edit))
     }
 
     /// Puts an entry at a slot in place of what stands there, or with `None` takes that away.
@@ -68,13 +97,14 @@ impl<'a> Edit<'a> {
         ensures { IfOk result (λ edit. edit ≡ (self.entry.0, set_entry self.entry.1 slot.now entry)) }
     {
         let first = self.first;
-        let mut tree = self.tree;
+        let mut held_back = self.held_back;
         let mut changes = self.changes;
         changes.note(slot, first.get(slot), &entry)?;
-        tree.set(slot, entry)?;
+        held_back.push((slot.copy()?, entry))?;
         Ok(Edit {
             first,
-            tree,
+            tree: self.tree,
+            held_back,
             changes,
         })
     }

@@ -1,5 +1,5 @@
 //! The calls so far, and the tree that they leave.
-ghost use Rattle.std.specs.Prelude.{◌≡◌, ◌≤◌, ◌<◌, ◌+◌, ◌++◌, ◌∷◌, ◌↔◌, [], None, Some, length, drop, true, All, IfOk, IfErr, OnOk, OnErr, IsErrOf, vec_len, vec_capacity};
+ghost use Rattle.std.specs.Prelude.{◌≡◌, ◌≤◌, ◌<◌, ◌+◌, ◌↔◌, [], None, Some, length, true, All, IfOk, IfErr, OnOk, OnErr, vec_len, vec_capacity};
 ghost use Rattle.std.specs.List.{list_any};
 ghost use Rattle.link_tree.specs.Slots.{is_slot};
 ghost use Rattle.link_tree.specs.Trees.{after_changes};
@@ -152,15 +152,14 @@ impl<O: Operation> History<O> {
                 why: CallError::Full,
             });
         }
-        match prepare(alloc, &mut self.rows, &self.tree, &operation) {
+        match prepare(alloc, &mut self.rows, &mut self.tree, &operation) {
             Err(AllocError) => Err(Unrun {
                 operation,
                 why: CallError::OutOfMemory,
             }),
-            Ok((outcome, tree)) => {
+            Ok(outcome) => {
                 self.rows
                     .push_reserved(Row::answered(operator, operation, outcome));
-                self.tree = tree;
                 Ok(self.rows.len() as u32)
             }
         }
@@ -230,33 +229,34 @@ impl<O: Operation> History<O> {
     {
         let place = n as usize - 1;
         let back = self.rows[place].changes.turned()?;
-        let restored = self.tree.with_changes(back.as_slice())?;
         let row = Row::of_undo(alloc, operator, n, RowReply::Undid(n));
-        self.rows.push(row)?;
+        self.rows.reserve(1)?;
+        self.tree.make_changes(back.as_slice())?;
+        self.rows.push_reserved(row);
         let by = self.rows.len() as u32;
         self.rows[place].undone_by = Some(by);
-        self.tree = restored;
         Ok(by)
     }
 }
 
-/// Room for a row, what the operation comes to on the tree, and the tree after it.
+/// Makes room for a row, and changes the tree as the operation comes to on it. The row isn't there yet.
 fn prepare<O: Operation>(
     alloc: Global,
     rows: &mut Vec<Row<O>>,
-    tree: &Tree,
+    tree: &mut Tree,
     operation: &O,
-) -> Result<(Outcome, Tree), AllocError>
+) -> Result<Outcome, AllocError>
     ensures items { rows.new.items ≡ rows.old.items }
     ensures room { OnOk result (vec_len rows.new < vec_capacity rows.new) }
-    ensures outcome { IfOk result (λ r. r.0 ≡ outcome_of O.meaning operation.now tree.now) }
-    ensures after { IfOk result (λ r. r.1 ≡ after_changes (outcome_of O.meaning operation.now tree.now).changes tree.now) }
-    ensures slots { IfOk result (λ r. All (λ change. is_slot change.path ≡ true) r.0.changes) }
+    ensures outcome { IfOk result (λ outcome. outcome ≡ outcome_of O.meaning operation.now tree.old) }
+    ensures after { OnOk result (tree.new ≡ after_changes (outcome_of O.meaning operation.now tree.old).changes tree.old) }
+    ensures slots { IfOk result (λ outcome. All (λ change. is_slot change.path ≡ true) outcome.changes) }
+    ensures err { OnErr result (tree.new ≡ tree.old) }
 {
     rows.reserve(1)?;
     let outcome = operation.run(alloc, tree)?;
-    let after = tree.with_changes(outcome.changes.as_slice())?;
-    Ok((outcome, after))
+    tree.make_changes(outcome.changes.as_slice())?;
+    Ok(outcome)
 }
 
 /// Why an undo of row n is refused, if it is.

@@ -1,11 +1,12 @@
 -- Arguments that are taken one after another, each in the tree that the earlier ones left.
 use Rattle.std.proofs.Common.{◌≡◌, ℕ, ◌+◌, ◌<◌, ◌≤◌, List, [], ◌∷◌, ◌++◌, length, drop, get_or, Result, Ok, Err, refl, sym, ap, ◌∙◌}
 use Rattle.std.proofs.lemmas.List.{append_assoc, append-nil, drop_more, drop_all}
-use Rattle.link_tree.specs.Trees.{Entries, set_entry}
+use Rattle.link_tree.specs.Trees.{Entries}
 use Rattle.load_path.specs.Search.{Search}
 use Rattle.footprint.specs.declared.refusal.Refusal.{Refusal}
 use Rattle.footprint.specs.Steps.{Placed, Verdict, placed_in, unless_refused, each_in_turn}
 use Rattle.footprint.specs.Edits.{stepped, GoesOn}
+use Rattle.footprint.proofs.HeldBack.{placed_in-append}
 
 -- the tree that a verdict leaves, or the refusal
 abbrev pub left_by : Verdict → Entries → Result Entries Refusal
@@ -32,10 +33,6 @@ looks_on on (Err refusal) = []
 abbrev pub cells_in_turn : {A : Type 0} → (A → Search Verdict) → List A → Entries → List (List ℕ)
 cells_in_turn step [] t = []
 cells_in_turn step (a ∷ rest) t = (step a).cells t ++ looks_on (cells_in_turn step rest) (leaves (step a) t)
-
-pub placed_in-append : (first second : List Placed) (t : Entries) → placed_in (first ++ second) t ≡ placed_in second (placed_in first t)
-placed_in-append [] second t = refl
-placed_in-append (p ∷ first) second t = placed_in-append first second (set_entry t p.0 p.1)
 
 module _ {A : Type 0} (step : A → Search Verdict) where
   turn : (rest : List A) (placed : List Placed) (t : Entries) (verdict : Verdict)

@@ -96,13 +96,13 @@ impl AddTo {
         ensures { IfOk result (GoesOn (add_file (scope_place self.now.scope) self.now.dependency by.now real file.now) edit.entry cells.old cells.new) }
     {
         cells.push(file.copy()?)?;
-        let Some(name) = listed_name(alloc, by, &real, edit.tree().get(file))? else {
+        let Some(name) = listed_name(alloc, by, &real, edit.get(file))? else {
             return Ok(Err(Refusal::NeedsInstance(real)));
         };
         let place = self.scope.place();
         let slot = place.dependency_slot(alloc, self.dependency, by, &name)?;
         cells.push(slot.copy()?)?;
-        let ruled = link_at(alloc, file, &slot, edit.tree().get(&slot))?;
+        let ruled = link_at(alloc, file, &slot, edit.get(&slot))?;
         edit.ruled(&slot, ruled)
     }
 
@@ -118,7 +118,8 @@ impl AddTo {
     ) -> Result<Result<Edit<'a>, Refusal>, AllocError>
         ensures { IfOk result (GoesOn (add_unit (scope_place self.now.scope) self.now.dependency by.now unit.now) edit.entry cells.old cells.new) }
     {
-        match find_unit(alloc, edit.tree(), unit, cells)? {
+        let (tree, edit) = edit.settled(alloc)?;
+        match find_unit(alloc, &tree, unit, cells)? {
             Ok((real, file)) => self.add_file(alloc, by, real, &file, edit, cells),
             Err(refusal) => Ok(Err(refusal)),
         }

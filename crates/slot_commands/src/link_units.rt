@@ -1,9 +1,10 @@
 //! link.
 ghost use Rattle.std.specs.Prelude.{◌≡◌, [], IfOk};
-ghost use Rattle.link_tree.specs.Slots.{name_at, slot_of};
+ghost use Rattle.link_tree.specs.Slots.{name_at, slot_of, unit_slot};
 ghost use Rattle.load_path.specs.RealNames.{named};
-ghost use Rattle.footprint.specs.Steps.{each_in_turn};
+ghost use Rattle.footprint.specs.Steps.{each_in_turn, ruled};
 ghost use Rattle.footprint.specs.Edits.{GoesOn};
+ghost use Rattle.slot_commands.specs.Links.{link_at};
 ghost use Rattle.slot_commands.specs.LinkUnits.{is_of_unit, link_file, link_unit};
 
 use crate::link::link_at;
@@ -42,6 +43,23 @@ fn is_of_unit(path: &TreePath) -> bool
     }
 }
 
+/// Links a file under a name.
+fn link_named<'a>(
+    alloc: Global,
+    place: Place,
+    path: &TreePath,
+    name: &UnitName,
+    edit: Edit<'a>,
+    cells: &mut Cells,
+) -> Result<Result<Edit<'a>, Refusal>, AllocError>
+    ensures { IfOk result (GoesOn (ruled (link_at path.now) (unit_slot place name.now)) edit.entry cells.old cells.new) }
+{
+    let slot = place.slot(alloc, name)?;
+    cells.push(slot.copy()?)?;
+    let ruled = link_at(alloc, path, &slot, edit.get(&slot))?;
+    edit.ruled(&slot, ruled)
+}
+
 fn link_file<'a>(
     alloc: Global,
     place: Place,
@@ -57,10 +75,7 @@ fn link_file<'a>(
     if is_of_unit(path) {
         return Ok(Ok(edit));
     }
-    let slot = place.slot(alloc, &name)?;
-    cells.push(slot.copy()?)?;
-    let ruled = link_at(alloc, path, &slot, edit.tree().get(&slot))?;
-    edit.ruled(&slot, ruled)
+    link_named(alloc, place, path, &name, edit, cells)
 }
 
 #[tactic(auto, unfolding(crate::specs::LinkUnits::link_unit))]
@@ -73,7 +88,8 @@ fn link_unit<'a>(
 ) -> Result<Result<Edit<'a>, Refusal>, AllocError>
     ensures { IfOk result (GoesOn (link_unit place path.now) edit.entry cells.old cells.new) }
 {
-    match follow_into(alloc, edit.tree(), path, cells)? {
+    let (tree, edit) = edit.settled(alloc)?;
+    match follow_into(alloc, &tree, path, cells)? {
         End::Missing => Ok(Err(Refusal::NotFound(Subject::Path(path.copy()?)))),
         End::Null => Ok(Err(Refusal::Masked(Subject::Path(path.copy()?)))),
         End::Dangling(link) => Ok(Err(Refusal::Dangling(link))),

@@ -115,7 +115,7 @@ impl Rule {
     {
         let slot = scope.place().slot(alloc, unit)?;
         cells.push(slot.copy()?)?;
-        let ruled = self.at(alloc, &slot, edit.tree().get(&slot))?;
+        let ruled = self.at(alloc, &slot, edit.get(&slot))?;
         edit.ruled(&slot, ruled)
     }
 

@@ -2,21 +2,20 @@ use Rattle.std.proofs.Common.{◌≡◌, [], ◌∷◌, ◌++◌, All, true, len
 use Rattle.link_tree.specs.Slots.{is_slot}
 use Rattle.link_tree.specs.declared.entry.Change.{Change}
 use Rattle.link_tree.proofs.Changed.{turned_slots}
-use Rattle.history.specs.declared.row.Row.{Row}
 use Rattle.history.specs.declared.row.RowReply.TheVariants.{Undid}
 use Rattle.history.specs.Logs.{Log}
 use Rattle.history.specs.Rows.{row_of_undo}
 use Rattle.history.proofs.Kept.{undo_seen, marked_read}
 use Rattle.history.proofs.history.History.take_back.Goals as goal
 
-pub with_changes-requires-clause-slots : goal.with_changes-requires-clause-slots
-with_changes-requires-clause-slots g c =
+pub make_changes-requires-clause-slots : goal.make_changes-requires-clause-slots
+make_changes-requires-clause-slots g c =
     let may = undo_seen g.met.O.Operation.laws c.args.operator _ _ _ _ _ _ _ c.self.view_is c.requires.room c.requires.free c.self.invariant c.index.ensures in
     let slots : All (λ (change : Change). is_slot change.path ≡ true) c.as_slice.result.now = rw (c.as_slice.ensures, c.in_ok-back.ensures) (turned_slots _ may.2.slots) in
     slots
 
-pub with_changes-requires-clause-from : goal.with_changes-requires-clause-from
-with_changes-requires-clause-from g c =
+pub make_changes-requires-clause-from : goal.make_changes-requires-clause-from
+make_changes-requires-clause-from g c =
     let may = undo_seen g.met.O.Operation.laws c.args.operator _ _ _ _ _ _ _ c.self.view_is c.requires.room c.requires.free c.self.invariant c.index.ensures in
     rw (c.as_slice.ensures, c.in_ok-back.ensures) may.2.from
 
@@ -24,20 +23,20 @@ pub index_mut-requires : goal.index_mut-requires
 index_mut-requires g c =
     let rows = c.self.inside.rows.items in
     let may = undo_seen g.met.O.Operation.laws c.args.operator _ _ _ _ _ _ _ c.self.view_is c.requires.room c.requires.free c.self.invariant c.index.ensures in
-    omega (arith, may.0, may.1, ap length c.in_ok-push.ensures.items, length-append rows (c.of_undo-row.result ∷ []), c.push.new.self.ok.0)
+    omega (arith, may.0, may.1, ap length c.push_reserved.ensures.items, ap length c.in_ok-reserve.ensures.items, length-append c.reserve.new.self.items (c.of_undo-row.result ∷ []), c.push_reserved.new.self.ok.0)
 
 pub invariant_of-self-2 : goal.invariant_of-self-2
 invariant_of-self-2 g c =
     let rows = c.self.inside.rows.items in
     let may = undo_seen g.met.O.Operation.laws c.args.operator _ _ _ _ _ _ _ c.self.view_is c.requires.room c.requires.free c.self.invariant c.index.ensures in
-    let pushed = c.in_ok-push.ensures.items ∙ ap (λ (row : Row g.row.O.Denot). rows ++ row ∷ []) c.of_undo-row.ensures in
-    let marked = marked_read rows c.push.new.self.items c.args.n c.len-by.result c.index_mut.result.now (row_of_undo c.args.operator c.args.n (Undid c.args.n)) pushed may.0 may.1 c.index_mut.ensures.value (c.len-by.ensures ∙ c.push.new.self.ok.0) in
-    rw (c.in_ok-restored.ensures, c.as_slice.ensures, c.in_ok-back.ensures) (rw marked may.2.kept)
+    let pushed = c.push_reserved.ensures.items ∙ (λ i. c.in_ok-reserve.ensures.items i ++ c.of_undo-row.ensures i ∷ []) in
+    let marked = marked_read rows c.push_reserved.new.self.items c.args.n c.len-by.result c.index_mut.result.now (row_of_undo c.args.operator c.args.n (Undid c.args.n)) pushed may.0 may.1 c.index_mut.ensures.value (c.len-by.ensures ∙ c.push_reserved.new.self.ok.0) in
+    rw (c.in_ok-make_changes.ensures.ok, c.as_slice.ensures, c.in_ok-back.ensures) (rw marked may.2.kept)
 
 pub returns-clause-rows : goal.returns-clause-rows
 returns-clause-rows g c =
     let rows = c.self.inside.rows.items in
     let may = undo_seen g.met.O.Operation.laws c.args.operator _ _ _ _ _ _ _ c.self.view_is c.requires.room c.requires.free c.self.invariant c.index.ensures in
-    let pushed = c.in_ok-push.ensures.items ∙ ap (λ (row : Row g.row.O.Denot). rows ++ row ∷ []) c.of_undo-row.ensures in
-    let marked = marked_read rows c.push.new.self.items c.args.n c.len-by.result c.index_mut.result.now (row_of_undo c.args.operator c.args.n (Undid c.args.n)) pushed may.0 may.1 c.index_mut.ensures.value (c.len-by.ensures ∙ c.push.new.self.ok.0) in
+    let pushed = c.push_reserved.ensures.items ∙ (λ i. c.in_ok-reserve.ensures.items i ++ c.of_undo-row.ensures i ∷ []) in
+    let marked = marked_read rows c.push_reserved.new.self.items c.args.n c.len-by.result c.index_mut.result.now (row_of_undo c.args.operator c.args.n (Undid c.args.n)) pushed may.0 may.1 c.index_mut.ensures.value (c.len-by.ensures ∙ c.push_reserved.new.self.ok.0) in
     rw (← ap (λ (v : Log g.row.O.Denot). v.rows) c.self.view_is) marked
