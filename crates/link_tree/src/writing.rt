@@ -83,10 +83,10 @@ pub enum WriteError {
     OutOfMemory,
 }
 
-/// More entries than memory holds.
+/// More entries than memory holds, of which the lines' bytes can still be counted.
 const MOST_ENTRIES: usize = 0x100_0000_0000;
 
-/// More bytes than memory holds.
+/// More bytes than memory holds, to which those of so many entries can still be added.
 const MOST_BYTES: usize = 0x4000_0000_0000_0000;
 
 fn put_line<K: Sink>(
