@@ -67,11 +67,6 @@ def runs_of(words, given):
     return runs
 
 
-def best(words, given):
-    """The shortest of these runs."""
-    return min(runs_of(words, given), key=lambda one: one.taken)
-
-
 def least_work(words, given):
     """That of these runs which the processors had the least work with."""
     return min(runs_of(words, given), key=lambda one: one.worked)
