@@ -1,5 +1,5 @@
 -- Texts on their way to a sink.
-use Rattle.std.proofs.Common.{◌≡◌, ℕ, ◌+◌, ◌^◌, ◌<◌, ◌≤◌, List, [], ◌∷◌, ◌++◌, Option, Result, Ok, Err, sym, ap, subst, ◌∙◌, length, take, drop, get_or, arith, append_assoc, append-nil, length-drop}
+use Rattle.std.proofs.Common.{◌≡◌, ℕ, ◌+◌, ◌^◌, ◌<◌, ◌≤◌, List, [], ◌∷◌, ◌++◌, Option, Result, Ok, Err, sym, ap, subst, ◌∙◌, length, drop, get_or, arith, append_assoc, append-nil, length-drop}
 use Rattle.std.proofs.lemmas.List.{take_all, drop_all, drop_more, take-append-le, length-append}
 use Rattle.std.proofs.lemmas.List.Concat.{flat_map-cons}
 use Rattle.std.specs.List.{flat_map}
@@ -9,10 +9,11 @@ use Rattle.std.specs.Result.{IsErr, IsErrAnd}
 use Rattle.std.proofs.KnownBytes.{Appends-trans, Appends-nil}
 use Rattle.link_tree.specs.declared.outgoing.Outgoing.{Outgoing}
 use Rattle.link_tree.specs.declared.writing.WriteFault.{WriteFault}
-use Rattle.link_tree.specs.Sends.{IsOut, StopsIn, IsOutOrStops, IsWrittenOrStops, Puts, Counts}
+use Rattle.link_tree.specs.Streams.{StopsIn}
+use Rattle.link_tree.specs.Sends.{IsOut, OrStops, Puts, Counts}
 
 -- a sink that fails in some bytes fails so far behind what went out before them
-pub stops_behind : (before old new : Option (List ℕ)) (text bytes : List ℕ) (n m : ℕ) → Appends before old text → (n ≤ length bytes) × Appends old new (take n bytes) → m ≡ length text + n → StopsIn before new (text ++ bytes) m
+pub stops_behind : (before old new : Option (List ℕ)) (text bytes : List ℕ) (n m : ℕ) → Appends before old text → StopsIn old new bytes n → m ≡ length text + n → StopsIn before new (text ++ bytes) m
 stops_behind before old new text bytes n m out fault is = subst (StopsIn before new (text ++ bytes)) (sym is) (
   omega (arith, fault.0, length-append text bytes),
   subst (Appends before new) (sym (take-append-add text bytes n)) (Appends-trans _ _ _ _ _ out fault.1),
@@ -38,7 +39,7 @@ module _ (before now : Option (List ℕ)) (out : Outgoing) (text : List ℕ) (is
   pub counted : out.sent ≡ length text
   counted = omega (arith, all_sent, is_out.0)
 
-  pub counts_on : (new : Option (List ℕ)) (sent : ℕ) (r : Result (Unit {0}) WriteFault) (bytes : List ℕ) → Counts now new out.sent sent r bytes → length (text ++ bytes) < 2 ^ 64 → IsOutOrStops before new (record { held = out.held; sent = sent }) (text ++ bytes) r
+  pub counts_on : (new : Option (List ℕ)) (sent : ℕ) (r : Result (Unit {0}) WriteFault) (bytes : List ℕ) → Counts now new out.sent sent r bytes → length (text ++ bytes) < 2 ^ 64 → OrStops (IsOut before new (record { held = out.held; sent = sent }) (text ++ bytes)) before new (text ++ bytes) r
   counts_on new sent (Ok done) bytes counts small =
       let gone : (sent ≡ length (text ++ bytes)) × Appends before new (text ++ bytes) = counts before text counted all_is_out small in
       let all : length (text ++ bytes) ≤ sent = omega (arith, gone.0) in (
@@ -120,5 +121,5 @@ pub next_item : {X : Type 0} (f : X → List ℕ) (items : List X) (item : X) (r
 next_item f items item rest is = ap (flat_map f) is ∙ flat_map-cons f item rest
 
 -- what `?` returns where the sink fails in the whole text
-pub whole_fails : (old new : Option (List ℕ)) (text : List ℕ) (fault : WriteFault) (r : Result (Unit {0}) WriteFault) → IsErr r × IsErrAnd r (λ e. e ≡ fault) → StopsIn old new text fault.0 → IsWrittenOrStops old new text r
-whole_fails old new text fault r returned stop = subst (IsWrittenOrStops old new text) (is_fault r fault returned) stop
+pub whole_fails : (old new : Option (List ℕ)) (text : List ℕ) (fault : WriteFault) (r : Result (Unit {0}) WriteFault) → IsErr r × IsErrAnd r (λ e. e ≡ fault) → StopsIn old new text fault.0 → OrStops (Appends old new text) old new text r
+whole_fails old new text fault r returned stop = subst (OrStops (Appends old new text) old new text) (is_fault r fault returned) stop

@@ -1,6 +1,7 @@
 -- What a function that reads or writes an inventory returned, against what the bytes say.
-use Rattle.std.specs.Prelude.{◌≡◌, Bool, ℕ, ◌≤◌, List, length, take, Option, Some, Result, Ok, Err}
-use Rattle.std.specs.Io.KnownBytes.{Appends, Keeps}
+use Rattle.std.specs.Prelude.{◌≡◌, Bool, ℕ, List, Option, Some, Result, Ok, Err}
+use Rattle.std.specs.Io.KnownBytes.{Keeps}
+use Rattle.link_tree.specs.Streams.{StopsIn}
 use Rattle.link_tree.specs.Lines.{front_line}
 use Rattle.link_tree.specs.Inventory.{entry_at}
 use Rattle.link_tree.specs.declared.inventory.TheConstants.{MAX_LINE}
@@ -66,4 +67,4 @@ ReadsEntry room old new r = (bytes : List ℕ) → old ≡ Some bytes → EntryO
 -- nothing but a front of the text went out
 abbrev pub SentBefore : WriteError → Option (List ℕ) → Option (List ℕ) → List ℕ → Type 0
 SentBefore writes.OutOfMemory old new text = Keeps old new
-SentBefore (writes.Fault n) old new text = (n ≤ length text) × Appends old new (take n text)
+SentBefore (writes.Fault n) old new text = StopsIn old new text n

@@ -50,3 +50,7 @@ HasCause old new = (new.0 ≡ one_more old.0) ⊎ (PATIENCE ≤ new.1)
 abbrev pub WritesSome : Option (List ℕ) → Option (List ℕ) → Option ℕ → List ℕ → Type 0
 WritesSome old new (Some n) bytes = (0 < n) × (n ≤ length bytes) × Appends old new (take n bytes)
 WritesSome old new None bytes = Keeps old new
+
+-- So many bytes of a text went out, and no more.
+abbrev pub StopsIn : Option (List ℕ) → Option (List ℕ) → List ℕ → ℕ → Type 0
+StopsIn before now text n = (n ≤ length text) × Appends before now (take n text)

@@ -4,7 +4,8 @@
 ghost use Rattle.std.specs.Prelude.{◌≡◌, ◌<◌, ◌^◌, ℕ, List, [], true, length, Option, IfOk, OnOk, OnErr};
 ghost use Rattle.std.specs.List.{flat_map};
 ghost use Rattle.link_tree.specs.Streams.{HasCause};
-ghost use Rattle.link_tree.specs.Sends.{Counts, IsOut, IsWrittenOrStops, Puts, Sends};
+ghost use Rattle.link_tree.specs.Sends.{Counts, IsOut, OrStops, Puts, Sends};
+ghost use Rattle.std.specs.Io.KnownBytes.{Appends};
 ghost use Rattle.link_tree.specs.declared.held.TheConstants.{ROOM};
 
 use crate::held::{Held, ROOM};
@@ -87,7 +88,7 @@ impl Outgoing {
 
     /// Sends what is held back, and flushes.
     pub fn close<K: Sink>(mut self, sink: &mut K) -> Result<(), WriteFault>
-        ensures sends { (before : Option (List ℕ)) (text : List ℕ) → IsOut before (K.written sink.old) self text → length text < 2 ^ 64 → IsWrittenOrStops before (K.written sink.new) text result }
+        ensures sends { (before : Option (List ℕ)) (text : List ℕ) → IsOut before (K.written sink.old) self text → length text < 2 ^ 64 → OrStops (Appends before (K.written sink.new) text) before (K.written sink.new) text result }
         ensures flushed { OnOk result (K.flushed sink.new ≡ true) }
         ensures cause { OnErr result (HasCause (K.failures sink.old, K.interruptions sink.old) (K.failures sink.new, K.interruptions sink.new)) }
     {

@@ -7,8 +7,8 @@ ghost use Rattle.std.specs.Io.KnownBytes.{Appends, Keeps};
 ghost use Rattle.std.specs.Prelude.{◌⊎◌};
 ghost use Rattle.std.specs.FinMap as map;
 ghost use Rattle.std.specs.List.{flat_map};
-ghost use Rattle.link_tree.specs.Sends.{IsWrittenOrStops, Puts};
-ghost use Rattle.link_tree.specs.Streams.{HasCause, WritesSome};
+ghost use Rattle.link_tree.specs.Sends.{OrStops, Puts};
+ghost use Rattle.link_tree.specs.Streams.{HasCause, StopsIn, WritesSome};
 ghost use Rattle.link_tree.specs.Trees.{entry_line, inventory_text};
 ghost use Rattle.link_tree.specs.Reads.{SentBefore};
 
@@ -60,7 +60,7 @@ pub(crate) fn flush<K: Sink>(sink: &mut K) -> bool
 /// Writes all of the bytes.
 pub(crate) fn write_all<K: Sink>(bytes: &[u8], sink: &mut K) -> Result<(), WriteFault>
     ensures ok { OnOk result (Appends (K.written sink.old) (K.written sink.new) bytes.now) }
-    ensures fault { IfErr result (λ e. (e.0 ≤ length bytes.now) × Appends (K.written sink.old) (K.written sink.new) (take e.0 bytes.now)) }
+    ensures fault { IfErr result (λ e. StopsIn (K.written sink.old) (K.written sink.new) bytes.now e.0) }
     ensures cause { OnErr result (HasCause (K.failures sink.old, K.interruptions sink.old) (K.failures sink.new, K.interruptions sink.new)) }
     ensures calm { OnOk result (K.failures sink.new ≡ K.failures sink.old) }
 {
@@ -148,7 +148,7 @@ fn write_both<K: Sink>(
     requires held { out.held ≡ [] }
     requires sent { out.sent ≡ 0 }
     requires counted { length (text.now ++ inventory_text tree.now) < 2 ^ 64 }
-    ensures written { IsWrittenOrStops (K.written sink.old) (K.written sink.new) (text.now ++ inventory_text tree.now) result }
+    ensures written { OrStops (Appends (K.written sink.old) (K.written sink.new) (text.now ++ inventory_text tree.now)) (K.written sink.old) (K.written sink.new) (text.now ++ inventory_text tree.now) result }
     ensures flushed { OnOk result (K.flushed sink.new ≡ true) }
     ensures cause { OnErr result (HasCause (K.failures sink.old, K.interruptions sink.old) (K.failures sink.new, K.interruptions sink.new)) }
 {
@@ -158,7 +158,7 @@ fn write_both<K: Sink>(
 }
 
 /// Writes a text and the one text of the tree behind it, and flushes. All memory is taken before the first byte goes out,
-/// so want of it leaves nothing written.
+/// so want of it leaves nothing written. Over 2⁴⁰ entries, or 2⁶² bytes of text, count as more than memory holds.
 pub fn write_before_inventory<K: Sink>(
     alloc: Global,
     text: &[u8],
@@ -184,7 +184,7 @@ pub fn write_before_inventory<K: Sink>(
 }
 
 /// Writes the one text of the tree, and flushes. All memory is taken before the first byte goes out, so want of it
-/// leaves nothing written.
+/// leaves nothing written. Over 2⁴⁰ entries count as more than memory holds.
 pub fn write_inventory<K: Sink>(alloc: Global, tree: &Tree, sink: &mut K) -> Result<(), WriteError>
     ensures ok { OnOk result (Appends (K.written sink.old) (K.written sink.new) (inventory_text tree.now)) }
     ensures flushed { OnOk result (K.flushed sink.new ≡ true) }

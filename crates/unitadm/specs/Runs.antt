@@ -1,7 +1,7 @@
 -- What a run gives for an input.
 use Rattle.std.specs.Prelude.{◌≡◌, ◌≤◌, ℕ, nat_lt, if◌then◌else◌, List, length, take, Option, Some, Result, Ok, Err}
 use Rattle.std.specs.Io.KnownBytes.{Appends, Keeps}
-use Rattle.link_tree.specs.Streams.{HasCause}
+use Rattle.link_tree.specs.Streams.{HasCause, StopsIn}
 use Rattle.link_tree.specs.Trees.{Entries}
 use Rattle.link_tree.specs.Inventory.{◌>>=◌, inventory_of}
 use Rattle.link_tree.specs.declared.inventory.InventoryFault.{InventoryFault}
@@ -44,7 +44,7 @@ WritesAll old new given = (text : List ℕ) × (given ≡ Ok text) × Appends ol
 
 -- What each fault of a run says of its input, and what went out.
 abbrev pub FaultOf : RunFault → Option (List ℕ) → Option (List ℕ) → Result (List ℕ) InputFault → Type 0
-FaultOf (runs.WriteFault n) old new given = (text : List ℕ) × (given ≡ Ok text) × (n ≤ length text) × Appends old new (take n text)
+FaultOf (runs.WriteFault n) old new given = (text : List ℕ) × (given ≡ Ok text) × StopsIn old new text n
 FaultOf (runs.Inventory fault n) old new given = given ≡ Err (Inventory fault n)
 FaultOf runs.NoCalls old new given = given ≡ Err (Script NoCalls)
 FaultOf (runs.BadCall line reason) old new given = given ≡ Err (Script (Bad line reason))
