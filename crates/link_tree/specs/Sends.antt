@@ -9,10 +9,10 @@ use Rattle.link_tree.specs.declared.writing.WriteFault.{WriteFault}
 abbrev pub IsOut : Option (List ℕ) → Option (List ℕ) → Outgoing → List ℕ → Type 0
 IsOut before now out text = (out.sent ≤ length text) × (out.held ≡ drop out.sent text) × Appends before now (take out.sent text)
 
--- So it is, unless the sink failed: then a front of the text went out.
+-- P holds, unless the sink failed: then a front of the text went out, and no more.
 abbrev pub OrStops : Type 0 → Option (List ℕ) → Option (List ℕ) → List ℕ → Result (Unit {0}) WriteFault → Type 0
-OrStops So before now text (Ok done) = So
-OrStops So before now text (Err fault) = StopsIn before now text fault.0
+OrStops P before now text (Ok done) = P
+OrStops P before now text (Err fault) = StopsIn before now text fault.0
 
 -- Whatever text is on its way, with these bytes behind it is on its way then: as long as its bytes can be counted.
 abbrev pub Puts : (old new : Option (List ℕ)) → (out_old out_new : Outgoing) → Result (Unit {0}) WriteFault → List ℕ → Type 0
