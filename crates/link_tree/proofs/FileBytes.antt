@@ -10,19 +10,7 @@ use Rattle.link_tree.specs.declared.fault.TheConstants.{MAX_FILE}
 use Rattle.link_tree.specs.declared.inventory.InventoryFault.TheVariants.{Truncated, BadLine}
 use Rattle.std.specs.Io.KnownBytes.{Keeps, Consumes, IsAtEnd}
 use Rattle.link_tree.specs.Streams.{GivesNext, GivesSome}
-use Rattle.link_tree.proofs.Lines.{gave_end, gave_byte}
-
-gave_bytes : (old new : Option (List ℕ)) (chunk : List ℕ) → Consumes old new chunk → (bytes : List ℕ) → old ≡ Some bytes → (rest : List ℕ) × (new ≡ Some rest) × (bytes ≡ chunk ++ rest)
-gave_bytes None new chunk h bytes e = cc
-gave_bytes (Some xs) None chunk h bytes e = absurd h
-gave_bytes (Some xs) (Some ys) chunk h bytes e = (ys, refl, some_is bytes xs (sym e) ∙ h)
-  where
-    some_is : (a b : List ℕ) → Some a ≡ Some b → a ≡ b
-    some_is a b i = cc
-
-at_end : (left : Option (List ℕ)) → IsAtEnd left → (rest : List ℕ) → left ≡ Some rest → rest ≡ []
-at_end None h rest e = cc
-at_end (Some xs) h rest e = cc
+use Rattle.link_tree.proofs.Lines.{gave_end, gave_byte, gave_bytes, at_end}
 
 -- what was read, before what is left
 abbrev pub Reached : Option (List ℕ) → Option (List ℕ) → List ℕ → Type 0

@@ -18,6 +18,7 @@ pub mod Slots
 pub mod Lengths
 pub mod Aheads
 pub mod FileBytes
+pub mod FirstBytes
 pub mod Sends
 pub mod Counted
 pub mod Entries

@@ -1,5 +1,8 @@
 -- Lines of bytes that are read one after another.
-use Rattle.std.specs.Prelude.{◌≡◌, ℕ, ◌-◌, ◌<◌, ◌≤◌, ◌==◌, if◌then◌else◌, List, [], ◌∷◌, ◌++◌, length, take, drop, Option, None, Some, Result, Ok, Err}
+use Rattle.std.specs.Prelude.{◌≡◌, ℕ, ◌-◌, ◌<◌, ◌≤◌, ◌==◌, if◌then◌else◌, List, [], ◌∷◌, ◌++◌, length, take, drop, Bool, true, false, Option, None, Some, Result, Ok, Err}
+use Rattle.link_tree.specs.Streams.{HasNoLineEnd}
+use Rattle.link_tree.specs.declared.reading.Grown.{Grown}
+use Rattle.link_tree.specs.declared.reading.Grown.TheVariants as grown
 use Rattle.link_tree.specs.declared.reading.Line.{Line}
 use Rattle.link_tree.specs.declared.reading.Line.TheVariants as lines
 use Prim.Native.Char.{code}
@@ -36,6 +39,21 @@ IsFront (lines.Whole text) left (Whole line rest) = (text.items ≡ line) × (le
 IsFront (lines.Last text) left (Last line) = (text.items ≡ line) × (left ≡ Some [])
 IsFront lines.Long left Long = Unit {0}
 IsFront _ left _ = ⊥
+
+-- A piece of a line is some bytes of it, and a line end where the line ends with it.
+abbrev pub IsPiece : List ℕ → List ℕ → Bool → Type 0
+IsPiece piece line true = HasNoLineEnd line × (piece ≡ line ++ (code "\n" ∷ []))
+IsPiece piece line false = HasNoLineEnd line × (piece ≡ line)
+
+-- what a line with one more piece says about the front that it belongs to
+abbrev pub IsGrown : ℕ → List ℕ → List ℕ → Front → Grown → Type 0
+IsGrown limit line rest front grown.Further = front ≡ after_bytes line (front_line (limit - length line) rest)
+IsGrown limit line rest front grown.Whole = front ≡ Whole line rest
+IsGrown limit line rest front grown.TooLong = front ≡ Long
+
+-- A piece is added to a line, whatever follows it.
+abbrev pub AddsPiece : ℕ → List ℕ → List ℕ → List ℕ → Grown → Type 0
+AddsPiece limit old new piece made = (rest : List ℕ) → IsGrown limit new rest (after_bytes old (front_line (limit - length old) (piece ++ rest))) made
 
 -- Just so many bytes were read, or the input ended before.
 abbrev pub IsBytes : ℕ → List ℕ → Option (List ℕ) → Option (List ℕ) → Type 0

@@ -1,9 +1,10 @@
 -- What one call of a source or a sink does. Bytes that are not known are None, and then nothing is said of them.
-use Rattle.std.specs.Prelude.{◌≡◌, ℕ, ◌+◌, ◌-◌, ◌^◌, ◌<◌, ◌≤◌, ◌⊎◌, min, zero, suc, List, [], ◌∷◌, length, take, Option, Some, None, Result, Ok, Err}
+use Rattle.std.specs.Prelude.{◌≡◌, ◌≢◌, ℕ, ◌+◌, ◌-◌, ◌^◌, ◌<◌, ◌≤◌, ◌⊎◌, min, zero, suc, List, [], ◌∷◌, length, take, Option, Some, None, Result, Ok, Err, All}
 use Rattle.std.specs.Io.KnownBytes.{Keeps, Appends, Consumes, IsAtEnd}
 use Rattle.link_tree.specs.declared.stream.TheConstants.{PATIENCE}
 use Rattle.link_tree.specs.declared.stream.Stop.{Stop}
 use Rattle.link_tree.specs.declared.stream.Stop.TheVariants.{Interrupted, Failed}
+use Prim.Native.Char.{code}
 
 -- one more, as far as a counter of 64 bits goes
 abbrev pub one_more : ℕ → ℕ
@@ -17,6 +18,10 @@ GivesNext old new None = IsAtEnd old × Keeps old new
 -- Some bytes are the first of those left, and there are none where none is left.
 abbrev pub GivesSome : Option (List ℕ) → Option (List ℕ) → List ℕ → Type 0
 GivesSome old new bytes = Consumes old new bytes × (bytes ≡ [] → IsAtEnd old)
+
+-- no byte of these is a line end
+abbrev pub HasNoLineEnd : List ℕ → Type 0
+HasNoLineEnd bytes = All (λ b. b ≢ code "\n") bytes
 
 -- a failure is counted, and nothing else is
 abbrev pub failures_after : {T : Type 0} → ℕ → Result T Stop → ℕ

@@ -1,8 +1,10 @@
 //! Bytes that are read ahead, so that each of them costs little.
-ghost use Rattle.std.specs.Prelude.{◌≡◌, ◌<◌, ◌≤◌, ◌++◌, ◌∷◌, [], true, false, length, take, IfSome, OnOk, OnErr};
+ghost use Rattle.std.specs.Prelude.{◌≡◌, ◌<◌, ◌≤◌, ◌-◌, ◌++◌, ◌∷◌, [], true, false, length, take, IfSome, OnOk, OnErr};
 ghost use Rattle.std.specs.Option.{IfNone};
 ghost use Rattle.std.specs.Io.KnownBytes.{Consumes, IsAtEnd, Keeps};
+ghost use Rattle.link_tree.specs.Streams.{HasNoLineEnd};
 
+use memchr::memchr;
 use std::io;
 use std::io::Read;
 use std::marker::Model;
@@ -84,5 +86,30 @@ impl Ahead {
         room[..count].copy_from_slice(&self.bytes[self.start..self.start + count]);
         self.start += count;
         count
+    }
+
+    /// How many bytes come up to a line end and with it, of at most so many.
+    #[inline]
+    fn line_len(&self, most: usize) -> usize
+        ensures within { result ≤ most }
+        ensures some { 0 < most → 0 < length self.now → 0 < result }
+        ensures line { HasNoLineEnd (take (result - 1) self.now) }
+    {
+        let most = most.min(self.end - self.start);
+        match memchr(b'\n', &self.bytes[self.start..self.start + most]) {
+            Some(end) => end + 1,
+            None => most,
+        }
+    }
+
+    /// Puts the next bytes into the front of `room`, as far as a line end and with it, and answers how many.
+    pub fn give_line(&mut self, room: &mut [u8]) -> usize
+        ensures count { result ≤ length room.new }
+        ensures given { self.old ≡ take result room.new ++ self.new }
+        ensures some { 0 < length room.old → 0 < length self.old → 0 < result }
+        ensures line { HasNoLineEnd (take (result - 1) room.new) }
+    {
+        let len = self.line_len(room.len());
+        self.give(&mut room[..len])
     }
 }

@@ -13,6 +13,7 @@ use crate::entry::Target;
 use crate::fault::{MAX_FILE, PathError, TargetError};
 use crate::inventory::{InventoryFault, LineError};
 use crate::path::TreePath;
+use memchr::memchr;
 use std::alloc::Global;
 
 /// What a line of an inventory says.
@@ -118,7 +119,7 @@ fn find_tab(text: &[u8]) -> Option<usize>
     ensures place { result ≡ position is_tab text.now }
     ensures within { IfSome result (λ i. i < length text.now) }
 {
-    text.iter().position(|b| *b == b'\t')
+    memchr(b'\t', text)
 }
 
 fn cut_at_tab(text: &[u8]) -> Option<(&[u8], &[u8])>

@@ -111,6 +111,15 @@ impl<R: Read> Source for FromRead<R> {
         self.interruptions = 0;
         Ok(self.ahead.give(room))
     }
+
+    #[inline]
+    fn line_bytes(&mut self, room: &mut [u8]) -> Result<usize, Stop> {
+        if self.ahead.is_empty() {
+            self.read_ahead()?;
+        }
+        self.interruptions = 0;
+        Ok(self.ahead.give_line(room))
+    }
 }
 
 /// A writer as a sink.
