@@ -1,19 +1,21 @@
 -- One entry more of an inventory.
 use Rattle.std.proofs.Common.{◌≡◌, ℕ, ◌+◌, ◌-◌, ◌<◌, ◌≤◌, Bool, true, false, List, Option, None, Some, Result, Ok, Err, refl, sym, ap, ◌∙◌, arith, zero, suc, subst, nat_le}
 use Rattle.std.specs.Option.{is_some}
+use Rattle.std.specs.Prelude.{IsErr, IsErrAnd}
 use Rattle.std.proofs.lemmas.Bool.{leb-true}
 use Rattle.std.proofs.lemmas.Bool.Decides.{nat_tests}
 use Rattle.std.specs.FinMap as map
-use Rattle.link_tree.specs.Reads.{EntryOfFront, ReadsEntry, Fails, numbered, line_error_seen}
+use Rattle.link_tree.specs.Reads.{EntryOfFront, ReadsEntry, numbered}
 use Rattle.link_tree.specs.TreeReads.{TreeOf}
 use Rattle.link_tree.specs.declared.entry.Entry.{Entry}
-use Rattle.link_tree.specs.declared.inventory.LineError.{LineError}
-use Rattle.link_tree.specs.declared.inventory.LineError.TheVariants as lines
+use Rattle.link_tree.specs.declared.inventory.InventoryError.{InventoryError}
+use Rattle.link_tree.specs.declared.inventory.InventoryError.TheVariants as inventories
 use Rattle.link_tree.specs.declared.inventory.EntryError.{EntryError}
 use Rattle.link_tree.specs.declared.inventory.EntryError.TheVariants as entries
 use Rattle.link_tree.specs.Lines.{front_line}
 use Rattle.link_tree.specs.Trees.{Entries}
-use Rattle.link_tree.specs.Inventory.{entry_at, placed, entries_at}
+use Rattle.link_tree.specs.Inventory.{◌>>=◌, entry_at, placed, in_entry, entries_at}
+use Rattle.link_tree.specs.Waiting.{GivesOn, with_entry}
 use Rattle.link_tree.specs.declared.inventory.InventoryFault.{InventoryFault}
 
 abbrev pub Next : Type 0
@@ -49,9 +51,12 @@ entries_at-more (suc more) number m m' bytes rest entry room e p =
     let less : suc more - 1 ≡ more = omega arith in
     rw (less, e, p) refl
 
--- what is left gives what all of it gives
-abbrev pub Reached : Option (List ℕ) → Option (List ℕ) → ℕ → Entries → Type 0
-Reached first now number m = (bytes : List ℕ) → first ≡ Some bytes → (rest : List ℕ) × (now ≡ Some rest) × (entries_at (65537 - number) number m rest ≡ entries_at 65536 1 map.empty bytes)
+abbrev pub Read : Type 0
+Read = Result Entries (InventoryFault × ℕ)
+
+-- what was read and what is left give what all of it gives
+abbrev pub Reached : Option (List ℕ) → Option (List ℕ) → ℕ → Read → Type 0
+Reached first now number read = (bytes : List ℕ) → first ≡ Some bytes → (rest : List ℕ) × (now ≡ Some rest) × ((read >>= λ m. entries_at (65537 - number) number m rest) ≡ entries_at 65536 1 map.empty bytes)
 
 -- there is room for an entry of this number
 room_of : (number more : ℕ) → 65537 - number ≡ more → nat_le number 65536 ≡ has_room more
@@ -62,33 +67,62 @@ room_of number (suc more) h = grind (arith, nat_tests)
 pub has_come : (number : ℕ) (o : Option Next) (entry : Next) → o ≡ Some entry → (is_some o ≡ true → nat_le number 65536 ≡ true) → number ≤ 65536
 has_come number o entry some room = leb-true number 65536 (room (ap is_some some))
 
-module _ (first mid new : Option (List ℕ)) (number : ℕ) (m : Entries) (so_far : Reached first mid number m) (r : Result (Option Next) EntryError) (reads : ReadsEntry (nat_le number 65536) mid new r) (bytes : List ℕ) (e : first ≡ Some bytes) where
-  seen : (x : Result (Option Next) EntryError) → r ≡ x → (rest : List ℕ) × EntryOfFront new x (next_of (65537 - number) rest) × (entries_at (65537 - number) number m rest ≡ entries_at 65536 1 map.empty bytes)
+-- what `?` returns
+pub returned : {A : Type 0} (r : Result A InventoryError) (f : InventoryError) → IsErr r × IsErrAnd r (λ e. e ≡ f) → r ≡ Err f
+returned (Ok x) f both = absurd both.1
+returned (Err e) f both = ap (λ (x : InventoryError). Err x) both.1
+
+-- the step that reads one entry more
+step : (more number : ℕ) (read : Read) (bytes rest : List ℕ) (entry : Next) → 0 < more → next_of more bytes ≡ Ok (Some entry, rest) → (read >>= λ m. entries_at more number m bytes) ≡ (with_entry read number entry >>= λ m. entries_at (more - 1) (number + 1) m rest)
+step more number (Err f) bytes rest entry room e = refl
+step more number (Ok m) bytes rest entry room e = one (placed m entry) refl
+  where
+    one : (p : Result Entries InventoryFault) → placed m entry ≡ p → entries_at more number m bytes ≡ (in_entry number p >>= λ m. entries_at (more - 1) (number + 1) m rest)
+    one (Ok grown) p = entries_at-more more number m grown bytes rest entry room e p
+    one (Err fault) p = entries_at-refused more number m bytes rest entry fault room e p
+
+module _ (first mid new : Option (List ℕ)) (number : ℕ) (read : Read) (so_far : Reached first mid number read) (r : Result (Option Next) EntryError) (reads : ReadsEntry (nat_le number 65536) mid new r) (bytes : List ℕ) (e : first ≡ Some bytes) where
+  seen : (x : Result (Option Next) EntryError) → r ≡ x → (rest : List ℕ) × EntryOfFront new x (next_of (65537 - number) rest) × ((read >>= λ m. entries_at (65537 - number) number m rest) ≡ entries_at 65536 1 map.empty bytes)
   seen x is =
       let at = so_far bytes e in
       let here = subst (λ (room : Bool). EntryOfFront new r (entry_at room (front_line 16384 at.0))) (room_of number (65537 - number) refl) (reads at.0 at.1) in
       (at.0, subst (λ (y : Result (Option Next) EntryError). EntryOfFront new y (next_of (65537 - number) at.0)) is here, at.2)
 
-  pub reached_end : (o : Option Next) → r ≡ Ok o → o ≡ None → TreeOf new (Ok m) (entries_at 65536 1 map.empty bytes)
-  reached_end o is none =
+  -- where what waits can't be placed, neither can all
+  pub reached_stop : (f : InventoryError) (now : Read) → GivesOn (Err f) now read → TreeOf new (Err f) (entries_at 65536 1 map.empty bytes)
+  reached_stop (inventories.Fault fault k) now stop =
+      let at = so_far bytes e in
+      sym at.2 ∙ ap (λ (x : Read). x >>= λ m. entries_at (65537 - number) number m at.0) stop
+  reached_stop (inventories.ReadFault k) now stop = absurd stop
+  reached_stop inventories.OutOfMemory now stop = tt
+
+  pub reached_end : (o : Option Next) (m : Entries) → r ≡ Ok o → o ≡ None → Ok m ≡ read → TreeOf new (Ok m) (entries_at 65536 1 map.empty bytes)
+  reached_end o m is none all =
       let at = seen (Ok None) (is ∙ ap (λ (x : Option Next). Ok x) none) in
-      (at.1.0, at.1.1, sym at.2 ∙ entries_at-end (65537 - number) number m at.0 at.1.0 at.1.2)
+      (at.1.0, at.1.1, sym at.2 ∙ ap (λ (x : Read). x >>= λ m. entries_at (65537 - number) number m at.0) (sym all) ∙ entries_at-end (65537 - number) number m at.0 at.1.0 at.1.2)
 
-  pub reached_bad : (f : EntryError) → r ≡ Err f → TreeOf new (Err (numbered number f)) (entries_at 65536 1 map.empty bytes)
-  reached_bad (entries.Fault fault) is =
+  pub reached_bad : (f : EntryError) (m : Entries) → r ≡ Err f → Ok m ≡ read → TreeOf new (Err (numbered number f)) (entries_at 65536 1 map.empty bytes)
+  reached_bad (entries.Fault fault) m is all =
       let at = seen (Err (entries.Fault fault)) is in
-      sym at.2 ∙ entries_at-bad (65537 - number) number m at.0 fault at.1
-  reached_bad entries.ReadFault is = tt
-  reached_bad entries.OutOfMemory is = tt
+      sym at.2 ∙ ap (λ (x : Read). x >>= λ m. entries_at (65537 - number) number m at.0) (sym all) ∙ entries_at-bad (65537 - number) number m at.0 fault at.1
+  reached_bad entries.ReadFault m is all = tt
+  reached_bad entries.OutOfMemory m is all = tt
 
-  pub reached_refused : (o : Option Next) (entry : Next) (f : LineError) → r ≡ Ok o → o ≡ Some entry → number ≤ 65536 → Fails f (placed m entry) → TreeOf new (Err (numbered number (line_error_seen f))) (entries_at 65536 1 map.empty bytes)
-  reached_refused o entry (lines.Fault fault) is some room p =
-      let at = seen (Ok (Some entry)) (is ∙ ap (λ (x : Option Next). Ok x) some) in
-      sym at.2 ∙ entries_at-refused (65537 - number) number m at.0 at.1.0 entry fault (omega arith) at.1.2 p
-  reached_refused o entry lines.OutOfMemory is some room p = tt
-
-  pub reached_more : (o : Option Next) (entry : Next) (m' : Entries) → r ≡ Ok o → o ≡ Some entry → number ≤ 65536 → placed m entry ≡ Ok m' → (rest : List ℕ) × (new ≡ Some rest) × (entries_at (65537 - (number + 1)) (number + 1) m' rest ≡ entries_at 65536 1 map.empty bytes)
-  reached_more o entry m' is some room p =
+  -- with one entry more
+  one_more : (o : Option Next) (entry : Next) → r ≡ Ok o → o ≡ Some entry → number ≤ 65536 → (rest : List ℕ) × (new ≡ Some rest) × ((with_entry read number entry >>= λ m. entries_at (65537 - (number + 1)) (number + 1) m rest) ≡ entries_at 65536 1 map.empty bytes)
+  one_more o entry is some room =
       let at = seen (Ok (Some entry)) (is ∙ ap (λ (x : Option Next). Ok x) some) in
       let less : 65537 - (number + 1) ≡ 65537 - number - 1 = omega arith in
-      (at.1.0, at.1.1, ap (λ (k : ℕ). entries_at k (number + 1) m' at.1.0) less ∙ sym (entries_at-more (65537 - number) number m m' at.0 at.1.0 entry (omega arith) at.1.2 p) ∙ at.2)
+      (at.1.0, at.1.1, ap (λ (k : ℕ). with_entry read number entry >>= λ m. entries_at k (number + 1) m at.1.0) less ∙ sym (step (65537 - number) number read at.0 at.1.0 entry (omega arith) at.1.2) ∙ at.2)
+
+  pub reached_refused : (o : Option Next) (entry : Next) (f : InventoryError) (now : Read) → r ≡ Ok o → o ≡ Some entry → number ≤ 65536 → GivesOn (Err f) now (with_entry read number entry) → TreeOf new (Err f) (entries_at 65536 1 map.empty bytes)
+  reached_refused o entry (inventories.Fault fault k) now is some room stop =
+      let at = one_more o entry is some room in
+      sym at.2 ∙ ap (λ (x : Read). x >>= λ m. entries_at (65537 - (number + 1)) (number + 1) m at.0) stop
+  reached_refused o entry (inventories.ReadFault k) now is some room stop = absurd stop
+  reached_refused o entry inventories.OutOfMemory now is some room stop = tt
+
+  pub reached_more : (o : Option Next) (entry : Next) (now : Read) → r ≡ Ok o → o ≡ Some entry → number ≤ 65536 → now ≡ with_entry read number entry → (rest : List ℕ) × (new ≡ Some rest) × ((now >>= λ m. entries_at (65537 - (number + 1)) (number + 1) m rest) ≡ entries_at 65536 1 map.empty bytes)
+  reached_more o entry now is some room goes_on =
+      let at = one_more o entry is some room in
+      (at.0, at.1, ap (λ (x : Read). x >>= λ m. entries_at (65537 - (number + 1)) (number + 1) m at.0) goes_on ∙ at.2)

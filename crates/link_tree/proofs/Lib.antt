@@ -15,6 +15,7 @@ pub mod Placing
 pub mod Aboves
 pub mod Beneaths
 pub mod Slots
+pub mod Settling
 pub mod Lengths
 pub mod Aheads
 pub mod FileBytes

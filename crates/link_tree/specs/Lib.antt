@@ -13,4 +13,5 @@ pub mod Inventory
 pub mod Reads
 pub mod Sends
 pub mod TreeReads
+pub mod Waiting
 pub mod Laws

@@ -1,14 +1,14 @@
 //! Inventories are read: the texts of trees.
 #![tactic(auto, using(crate::proofs::Known::known))]
 
-ghost use Rattle.std.specs.Prelude.{◌≡◌, ◌≤◌, ℕ, true, List, Option, OnOk, IfOk, IfErr, IsTrue, Some, is_some, Err};
+ghost use Rattle.std.specs.Prelude.{◌≡◌, ◌+◌, ◌≤◌, ℕ, true, List, [], All, Option, OnOk, IfOk, IfErr, IsTrue, Some, is_some, Ok, Err};
 ghost use Rattle.link_tree.specs.declared.fault.TheConstants.{MAX_FILE};
-ghost use Rattle.link_tree.specs.Slots.{is_slot};
 ghost use Rattle.std.specs.FinMap as map;
 ghost use Rattle.link_tree.specs.Streams.{HasCause};
 ghost use Rattle.link_tree.specs.Lines.{Front, IsFront, front_line};
 ghost use Rattle.link_tree.specs.EntryLines.{IsSized};
 ghost use Rattle.link_tree.specs.Inventory.{line_of_front, contents_at, placed, entries_at, inventory_of, after_prefix, header};
+ghost use Rattle.link_tree.specs.Waiting.{AreRising, AreWaiting, GivesOn, IsAtSlot, place_all, with_entry};
 ghost use Rattle.link_tree.specs.Reads.{Gives, ReadsEntry, EntryOfFront, read_error_seen, line_error_seen, numbered};
 ghost use Rattle.link_tree.specs.TreeReads.{ReadsTree, HeaderOf, PrefixOf};
 
@@ -20,7 +20,9 @@ use crate::shape::is_bad_shape;
 use crate::slot::slot_of;
 use crate::stream::Source;
 use crate::tree::Tree;
+use crate::waiting::{Arrival, room_beside, settle};
 use std::alloc::{AllocError, Global};
+use std::mem;
 use thiserror::Error;
 
 /// The longest line of an inventory, in bytes before its end.
@@ -129,17 +131,76 @@ fn read_entries<S: Source>(alloc: Global, source: &mut S) -> Result<Tree, Invent
     ensures calm { OnOk result (S.failures source.new ≡ S.failures source.old) }
 {
     let mut tree = Tree::empty(alloc)?;
+    let mut waiting = Vec::new(alloc);
     let mut number = 1;
     'entries: loop {
-        let (path, entry) = match read_entry(alloc, source, number <= MAX_ENTRIES) {
-            Ok(Some(found)) => found,
-            Ok(None) => return Ok(tree),
-            Err(e) => return Err(in_entry(number, e)),
-        };
-        if let Err(e) = place(&mut tree, path, entry) {
-            return Err(in_entry(number, line_error(e)));
+        match read_entry(alloc, source, number <= MAX_ENTRIES) {
+            Ok(Some((path, entry))) => {
+                take_in(alloc, &mut tree, &mut waiting, path, entry, number)?;
+            }
+            Ok(None) => {
+                settle_all(alloc, &mut tree, &mut waiting)?;
+                return Ok(tree);
+            }
+            Err(e) => {
+                settle_all(alloc, &mut tree, &mut waiting)?;
+                return Err(in_entry(number, e));
+            }
         }
         number += 1;
+    }
+}
+
+/// An entry at a slot waits. Any other is placed, once what waits is in the tree.
+fn take_in(
+    alloc: Global,
+    tree: &mut Tree,
+    waiting: &mut Vec<Arrival>,
+    path: TreePath,
+    entry: Entry,
+    number: u32,
+) -> Result<(), InventoryError>
+    requires { AreWaiting number waiting.old.items }
+    ensures read { GivesOn result (place_all tree.new waiting.new.items) (with_entry (place_all tree.old waiting.old.items) number (path, entry)) }
+    ensures waiting { OnOk result (AreWaiting (number + 1) waiting.new.items) }
+{
+    if slot_of(path.text()).is_some() {
+        if waiting.len() >= room_beside(tree.len()) {
+            settle_all(alloc, tree, waiting)?;
+        }
+        let _valid = entry.bytes();
+        let arrival = Arrival {
+            path,
+            entry,
+            number,
+        };
+        match waiting.push(arrival) {
+            Ok(()) => return Ok(()),
+            Err(_) => return Err(InventoryError::OutOfMemory),
+        }
+    }
+    settle_all(alloc, tree, waiting)?;
+    match place(tree, path, entry) {
+        Ok(()) => Ok(()),
+        Err(e) => Err(in_entry(number, line_error(e))),
+    }
+}
+
+/// What waits comes into the tree.
+fn settle_all(
+    alloc: Global,
+    tree: &mut Tree,
+    waiting: &mut Vec<Arrival>,
+) -> Result<(), InventoryError>
+    requires slots { All IsAtSlot waiting.old.items }
+    requires rising { AreRising waiting.old.items }
+    ensures tree { GivesOn result (Ok tree.new) (place_all tree.old waiting.old.items) }
+    ensures empty { OnOk result (waiting.new.items ≡ []) }
+{
+    let arrivals = mem::replace(waiting, Vec::new(alloc));
+    match settle(tree, arrivals)? {
+        None => Ok(()),
+        Some(number) => Err(InventoryError::Fault(InventoryFault::Duplicate, number)),
     }
 }
 
@@ -147,9 +208,6 @@ fn read_entries<S: Source>(alloc: Global, source: &mut S) -> Result<Tree, Invent
 fn place(tree: &mut Tree, path: TreePath, entry: Entry) -> Result<(), LineError>
     ensures { Gives (λ _. tree.new) result (placed tree.old (path, entry)) }
 {
-    if slot_of(path.text()).is_some() {
-        return place_at_slot(tree, path, entry);
-    }
     if tree.get(&path).is_some() {
         return Err(LineError::Fault(InventoryFault::Duplicate));
     }
@@ -164,22 +222,6 @@ fn place(tree: &mut Tree, path: TreePath, entry: Entry) -> Result<(), LineError>
     let _valid = entry.bytes();
     match tree.insert(path, entry) {
         Ok(_) => Ok(()),
-        Err(AllocError) => Err(LineError::OutOfMemory),
-    }
-}
-
-/// Slots are free wherever the tree has the shape of one, so the entry that stood there tells a duplicate.
-#[tactic(auto, unfolding(crate::specs::Inventory::placed))]
-fn place_at_slot(tree: &mut Tree, path: TreePath, entry: Entry) -> Result<(), LineError>
-    requires { is_slot path ≡ true }
-    ensures { Gives (λ _. tree.new) result (placed tree.old (path, entry)) }
-{
-    let _path = path.text();
-    let _valid = entry.bytes();
-    tree.shape();
-    match tree.insert(path, entry) {
-        Ok(None) => Ok(()),
-        Ok(Some(_)) => Err(LineError::Fault(InventoryFault::Duplicate)),
         Err(AllocError) => Err(LineError::OutOfMemory),
     }
 }

@@ -20,6 +20,7 @@ mod slot;
 mod standard;
 mod stream;
 mod tree;
+mod waiting;
 mod writing;
 
 pub use canonical_form::{canonical, is_null_link};

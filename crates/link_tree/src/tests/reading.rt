@@ -4,7 +4,7 @@ use crate::{
     Entry, FromRead, InventoryError, InventoryFault, Line, PathError, ReadError, Source, Stop,
     Tree, TreePath, read_inventory, read_line,
 };
-use std::alloc::Global;
+use std::alloc::{AllocError, Global};
 use std::process::Abort;
 use std::test::Fail;
 use unit_name::ample;
@@ -311,6 +311,87 @@ fn the_first_fault_of_a_file_is_named(rt: HostRuntime) {
             Ok(_) => panic!(rt; "accepted: {input:?}"),
         }
     }
+}
+
+/// An inventory of 24 links at slots, in no order, and what follows them.
+fn many(alloc: Global, rest: &[u8]) -> Result<Vec<u8>, AllocError> {
+    let mut text = Vec::from_slice(alloc, b"unitadm-inventory 1\n".as_slice())?;
+    for i in 0..24u32 {
+        let line = format!(in alloc; "L\t/etc/systemd/system/{}.path\t/x\n", i * 7 % 29)?;
+        text.extend_from_slice(line.as_bytes())?;
+    }
+    text.extend_from_slice(rest)?;
+    Ok(text)
+}
+
+fn read_many(alloc: Global, rest: &[u8]) -> Result<Tree, InventoryError> {
+    let text = ample!(many(alloc, rest), AllocError)?;
+    read(alloc, text.as_slice())
+}
+
+/// Links come into the tree sixteen at a time: `7.path` stands there when what follows is read, and `25.path` waits.
+#[test]
+fn the_first_fault_behind_many_links_is_named(rt: HostRuntime) {
+    let inputs: [(&[u8], InventoryFault, u32); 10] = [
+        (b"", InventoryFault::Truncated, 25),
+        (b"L\n", InventoryFault::BadLine, 25),
+        (
+            b"L\t/etc/systemd/system/7.path\t/x\nend\n",
+            InventoryFault::Duplicate,
+            25,
+        ),
+        (
+            b"L\t/etc/systemd/system/25.path\t/x\nL\n",
+            InventoryFault::Duplicate,
+            25,
+        ),
+        (
+            b"L\t/etc/systemd/system/7.path\t/x\nL\t/etc/systemd/system/25.path\t/x\nL\t/etc/systemd/system/0.path\t/x\nL\n",
+            InventoryFault::Duplicate,
+            25,
+        ),
+        (
+            b"L\t/etc/systemd/system/z.path\t/x\nL\t/etc/systemd/system/z.path\t/x\nL\t/etc/systemd/system/25.path\t/x\n",
+            InventoryFault::Duplicate,
+            26,
+        ),
+        (
+            b"L\t/etc/systemd/system/25.path\t/x\nL\t/etc\t/x\nend\n",
+            InventoryFault::Duplicate,
+            25,
+        ),
+        (
+            b"L\t/etc/systemd/system/z.path\t/x\nL\t/etc\t/x\nend\n",
+            InventoryFault::UnderEntry,
+            26,
+        ),
+        (
+            b"L\t/etc/systemd/system/25.path/a\t/x\nend\n",
+            InventoryFault::UnderEntry,
+            25,
+        ),
+        (
+            b"L\t/a\t/x\nL\t/a\t/x\nL\t/etc/systemd/system/25.path\t/x\nend\n",
+            InventoryFault::Duplicate,
+            26,
+        ),
+    ];
+    for (rest, fault, number) in inputs {
+        match read_many(rt.alloc(), rest) {
+            Err(error) => assert_eq!(rt; error, InventoryError::Fault(fault, number)),
+            Ok(_) => panic!(rt; "accepted: {rest:?}"),
+        }
+    }
+}
+
+#[test]
+fn all_of_many_links_come_into_the_tree(rt: HostRuntime) -> Result<(), Fail> {
+    let tree = read_many(
+        rt.alloc(),
+        b"L\t/a\t/x\nL\t/etc/systemd/system/z.path\t/x\nend\n",
+    )?;
+    assert_eq!(rt; tree.len(), 26);
+    Ok(())
 }
 
 /// What a file holds may look like anything.
