@@ -2,15 +2,14 @@
 use Rattle.std.proofs.Common.{◌≡◌, ℕ, ◌+◌, ◌<◌, Bool, true, false, not, ◌&&◌, cond, List, [], ◌∷◌, ◌++◌, Option, None, Some, Result, Ok, Err, All, refl, sym, ap, ◌∙◌, subst, inl, inr, arith}
 use Rattle.std.specs.Prelude.{is_some, min}
 use Rattle.std.specs.List.{filter}
-use Rattle.std.specs.List.Sorted.{ties, IsStable}
-use Rattle.std.specs.Ordering.{eq_by_cmp, is_eq, is_lt, ordering_reverse}
-use Rattle.std.specs.declared.cmp.Ordering.{Ordering}
-use Rattle.std.specs.declared.cmp.Ordering.TheVariants.{Less, Equal, Greater}
-use Rattle.std.specs.Cmp.{eq_by_cmp_equiv}
+use Rattle.std.specs.List.Sorted.{ties, IsStableByKey}
+use Rattle.std.specs.Ordering.{eq_by_cmp, is_lt, nat_cmp}
+use Rattle.std.specs.Cmp.{eq_by_cmp_equiv, tied_itself}
 use Rattle.std.specs.Cmp.Lexicographic.{nat_list_cmp_total}
+use Rattle.std.proofs.lemmas.Cmp.{nat_cmp_total}
 use Rattle.std.specs.FinMap as map
 use Rattle.std.specs.FinMap.{get-insert, same_map}
-use Rattle.std.proofs.lemmas.Bool.{cases_Bool, false≢true}
+use Rattle.std.proofs.lemmas.Bool.{cases_Bool, false≢true, false_from_ne_true}
 use Rattle.std.proofs.lemmas.List.Elements.{All-head, All-tail, All-cons, All-nil, All-append, All-weaker, filter-append}
 use Rattle.std.proofs.lemmas.Map.Lookups.{exact_bytes}
 use Rattle.link_tree.specs.Shape.{IsTree, is_crowded, is_bad_shape}
@@ -20,7 +19,7 @@ use Rattle.link_tree.specs.declared.entry.Entry.{Entry}
 use Rattle.link_tree.specs.declared.inventory.InventoryFault.{InventoryFault}
 use Rattle.link_tree.specs.declared.inventory.InventoryFault.TheVariants.{Duplicate}
 use Rattle.link_tree.specs.declared.waiting.Arrival.{Arrival}
-use Rattle.link_tree.specs.Waiting.{place_all, with_entry, IsAtSlot, AreRising, AreWaiting, IsSettled, earlier, arrival_cmp}
+use Rattle.link_tree.specs.Waiting.{place_all, with_entry, IsAtSlot, AreRising, AreWaiting, IsSettled, earlier, sort_key}
 use Rattle.link_tree.proofs.Placing.{placed_free, placed_taken}
 use Rattle.link_tree.proofs.Shapes.{grown_tree, same_key}
 use Rattle.link_tree.proofs.Slots.{slot_free, slot_shape}
@@ -165,19 +164,29 @@ settled_alike least m (a ∷ xs) ys turns =
     ∙ settled_alike (noted (is_some (map.get m a.path)) least a.number) (map.insert m a.path a.entry) xs (found.front ++ found.back)
     (turns_left a xs found.front found.back found.none (λ x. ap (filter (same x)) (sym found.is) ∙ turns x))
 
--- a stable sort keeps turns
-tied : (r : Ordering) → (not (is_lt r) && not (is_lt (ordering_reverse r))) ≡ is_eq r
-tied Less = refl
-tied Equal = refl
-tied Greater = refl
+-- those that pass a test are among those that pass a weaker one
+filter_twice : {X : Type 0} (p q : X → Bool) → ((x : X) → p x ≡ true → q x ≡ true) → (xs : List X) → filter p (filter q xs) ≡ filter p xs
+filter_twice p q weaker [] = refl
+filter_twice p q weaker (x ∷ xs) = elim (cases_Bool (q x)) [
+  | inl here ↦ ap (λ t. filter p (cond t (x ∷ filter q xs) (filter q xs))) here ∙ ap (λ ys. cond (p x) (x ∷ ys) ys) (filter_twice p q weaker xs)
+  | inr other ↦ (let out : p x ≡ false = false_from_ne_true (p x) (λ passes. false≢true (sym other ∙ weaker x passes)) in
+      ap (λ t. filter p (cond t (x ∷ filter q xs) (filter q xs))) other ∙ filter_twice p q weaker xs ∙ sym (ap (λ t. cond t (x ∷ filter p xs) (filter p xs)) out))
+]
 
-ties_same : (a b : Arrival) → ties (λ x y. is_lt (arrival_cmp x y)) a b ≡ same a b
-ties_same a b = ap (λ r. not (is_lt (path_cmp a.path b.path)) && not (is_lt r)) (nat_list_cmp_total.antisymm b.path a.path) ∙ tied (path_cmp a.path b.path)
+-- a stable sort by what is the same at one path keeps turns
+module _ (key : List ℕ → ℕ) where
+  abbrev tied : Arrival → Arrival → Bool
+  tied = ties (λ x y. is_lt (nat_cmp (key x.path) (key y.path)))
 
-pub turns_kept : (xs ys : List Arrival) → IsStable arrival_cmp xs ys → KeepTurns xs ys
-turns_kept xs ys stable x =
-    let tests : ties (λ x y. is_lt (arrival_cmp x y)) x ≡ same x = λ i y. ties_same x y i in
-    ap (λ p. filter p ys) (sym tests) ∙ stable x ∙ ap (λ p. filter p xs) tests
+  tied_self : (k : ℕ) → (not (is_lt (nat_cmp k k)) && not (is_lt (nat_cmp k k))) ≡ true
+  tied_self k = ap (λ r. not (is_lt r) && not (is_lt r)) (tied_itself nat_cmp_total k)
+
+  same_tied : (a b : Arrival) → same a b ≡ true → tied a b ≡ true
+  same_tied a b at_one = ap (λ p. not (is_lt (nat_cmp (key a.path) (key p))) && not (is_lt (nat_cmp (key p) (key a.path)))) (sym (same_key a.path b.path at_one)) ∙ tied_self (key a.path)
+
+  pub turns_kept : (xs ys : List Arrival) → IsStableByKey (λ a. key a.path) nat_cmp xs ys → KeepTurns xs ys
+  turns_kept xs ys stable x =
+      sym (filter_twice (same x) (tied x) (same_tied x) ys) ∙ ap (filter (same x)) (stable x) ∙ filter_twice (same x) (tied x) (same_tied x) xs
 
 -- numbers that come later are greater
 min-first : (k n : ℕ) → k < n → min k n ≡ k
@@ -228,9 +237,9 @@ settled_places m (a ∷ xs) tree slots rising =
     (settled_places (map.insert m a.path a.entry) xs (grown_tree m a.path a.entry tree slot.1 free) (All-tail IsAtSlot a xs slots) rising.1)
 
 -- and so in any order that a stable sort gives
-pub settled_as_read : (m : Entries) (xs ys : List Arrival) (taken : Option ℕ) (new : Entries) → IsTree m → All IsAtSlot xs → AreRising xs → IsStable arrival_cmp xs ys → (taken, new) ≡ settled None m ys → IsSettled taken new (place_all m xs)
+pub settled_as_read : (m : Entries) (xs ys : List Arrival) (taken : Option ℕ) (new : Entries) → IsTree m → All IsAtSlot xs → AreRising xs → IsStableByKey (λ a. sort_key a.path) nat_cmp xs ys → (taken, new) ≡ settled None m ys → IsSettled taken new (place_all m xs)
 settled_as_read m xs ys taken new tree slots rising stable is =
-    subst (λ (r : Option ℕ × Entries). IsSettled r.0 r.1 (place_all m xs)) (sym (is ∙ settled_alike None m xs ys (turns_kept xs ys stable))) (settled_places m xs tree slots rising)
+    subst (λ (r : Option ℕ × Entries). IsSettled r.0 r.1 (place_all m xs)) (sym (is ∙ settled_alike None m xs ys (turns_kept sort_key xs ys stable))) (settled_places m xs tree slots rising)
 
 -- one entry more waits
 pub one_waits : (m : Entries) (xs : List Arrival) (a : Arrival) → place_all m (xs ++ a ∷ []) ≡ with_entry (place_all m xs) a.number (a.path, a.entry)

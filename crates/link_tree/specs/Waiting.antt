@@ -1,10 +1,9 @@
 -- Entries at slots wait while an inventory is read.
-use Rattle.std.specs.Prelude.{◌≡◌, ℕ, ◌<◌, true, List, [], ◌∷◌, All, Option, Some, None, Result, Ok, Err, min}
-use Rattle.std.specs.Ordering.{on}
-use Rattle.std.specs.declared.cmp.Ordering.{Ordering}
-use Rattle.link_tree.specs.Slots.{is_slot}
+use Rattle.std.specs.Prelude.{◌≡◌, ℕ, ◌+◌, ◌*◌, ◌%◌, ◌^◌, ◌<◌, true, List, [], ◌∷◌, length, take, All, Option, Some, None, Result, Ok, Err, min}
+use Rattle.link_tree.specs.Canonical.{parent}
+use Rattle.link_tree.specs.Slots.{is_slot, name_at}
 use Rattle.link_tree.specs.Shape.{fits_at}
-use Rattle.link_tree.specs.Trees.{Entries, path_cmp}
+use Rattle.link_tree.specs.Trees.{Entries}
 use Rattle.link_tree.specs.Inventory.{◌>>=◌, placed, in_entry}
 use Rattle.link_tree.specs.declared.entry.Entry.{Entry}
 use Rattle.link_tree.specs.declared.inventory.InventoryFault.{InventoryFault}
@@ -12,13 +11,19 @@ use Rattle.link_tree.specs.declared.inventory.InventoryFault.TheVariants.{Duplic
 use Rattle.link_tree.specs.declared.inventory.InventoryError.{InventoryError}
 use Rattle.link_tree.specs.declared.inventory.InventoryError.TheVariants as inventories
 use Rattle.link_tree.specs.declared.waiting.Arrival.{Arrival}
+use Rattle.link_tree.specs.declared.waiting.TheConstants.{SORTED_BYTES}
 
-abbrev pub path_of : Arrival → List ℕ
-path_of arrival = arrival.path
+-- a key of 128 bits with a byte behind it
+abbrev pub shifted : ℕ → ℕ → ℕ
+shifted key byte = (key * 256 % 2 ^ 128 + byte) % 2 ^ 128
 
--- arrivals are ordered by their paths alone
-abbrev pub arrival_cmp : Arrival → Arrival → Ordering
-arrival_cmp = on path_of path_cmp
+abbrev pub with_bytes : ℕ → List ℕ → ℕ
+with_bytes key [] = key
+with_bytes key (b ∷ bs) = with_bytes (shifted key b) bs
+
+-- what entries that wait are sorted by: the length of the directory, and the first bytes of the name
+abbrev pub sort_key : List ℕ → ℕ
+sort_key path = with_bytes (length (parent path)) (take SORTED_BYTES (name_at path))
 
 -- entries come into a tree one after another
 abbrev pub place_all : Entries → List Arrival → Result Entries (InventoryFault × ℕ)

@@ -1,14 +1,14 @@
-//! Entries at slots wait while an inventory is read, and come into the tree many at a time, in the order of their
-//! paths: neighbours lie near one another in memory.
+//! Entries at slots wait while an inventory is read, and come into the tree many at a time, sorted: neighbours lie near
+//! one another in memory.
 ghost use Rattle.std.specs.Prelude.{◌≡◌, ◌/◌, All, IfOk, max, min};
-ghost use Rattle.link_tree.specs.Waiting.{AreRising, IsAtSlot, IsSettled, earlier, place_all};
+ghost use Rattle.link_tree.specs.Waiting.{AreRising, IsAtSlot, IsSettled, earlier, place_all, shifted, sort_key, with_bytes};
 ghost use Rattle.link_tree.specs.declared.waiting.TheConstants.{LEAST_ROOM, MOST_ROOM};
 
 use crate::entry::Entry;
 use crate::path::TreePath;
+use crate::slot::cut_at_last_slash;
 use crate::tree::Tree;
 use std::alloc::AllocError;
-use std::cmp::Ordering;
 
 /// How many entries wait beside a small tree.
 const LEAST_ROOM: usize = 16;
@@ -16,7 +16,7 @@ const LEAST_ROOM: usize = 16;
 /// How many entries wait beside a large tree.
 const MOST_ROOM: usize = 4096;
 
-/// An entry that was read, with its number. Arrivals are ordered by their paths alone.
+/// An entry that was read, with its number.
 #[derive(Debug, Drop)]
 pub(crate) struct Arrival {
     pub path: TreePath,
@@ -24,62 +24,35 @@ pub(crate) struct Arrival {
     pub number: u32,
 }
 
-impl PartialEq for Arrival {
-    ghost use Rattle.std.specs.Prelude.{nat_eq};
-    ghost use Rattle.std.specs.Ordering.{on};
-    ghost use Rattle.std.specs.Cmp.{on_equiv, partial_equiv_from_equiv};
-    ghost use Rattle.std.specs.Cmp.Lexicographic.{pointwise, nat_list_eq_equiv};
-    ghost use Rattle.link_tree.specs.Waiting.{path_of};
+/// How many bytes of a name arrivals are sorted by.
+const SORTED_BYTES: usize = 15;
 
-    ghost eq = { on path_of (pointwise nat_eq) };
-
-    ghost laws = { partial_equiv_from_equiv (on_equiv path_of nat_list_eq_equiv) };
-
-    fn eq(&self, other: &Arrival) -> bool {
-        self.path == other.path
-    }
+/// What arrivals are sorted by: the length of the directory, and the first bytes of the name. It is the same at one path,
+/// mostly rises with the path, and to compare it no text has to be fetched.
+fn sort_key(arrival: &Arrival) -> u128
+    ensures { result ≡ sort_key arrival.now.path }
+{
+    let (directory, name) = cut_at_last_slash(arrival.path.text());
+    let first = &name[..name.len().min(SORTED_BYTES)];
+    with_bytes(directory.len() as u128, first)
 }
 
-impl Eq for Arrival {
-    ghost use Rattle.std.specs.Cmp.{on_equiv};
-    ghost use Rattle.std.specs.Cmp.Lexicographic.{nat_list_eq_equiv};
-    ghost use Rattle.link_tree.specs.Waiting.{path_of};
-
-    ghost laws = { on_equiv path_of nat_list_eq_equiv };
+/// The key with these bytes behind it.
+fn with_bytes(mut key: u128, bytes: &[u8]) -> u128
+    ensures { result ≡ with_bytes key bytes.now }
+{
+    for byte in bytes {
+        key = shifted(key, *byte);
+    }
+    key
 }
 
-impl PartialOrd for Arrival {
-    ghost use Rattle.std.specs.Prelude.{Some};
-    ghost use Rattle.std.specs.Cmp.{on_po};
-    ghost use Rattle.std.specs.Cmp.Lexicographic.{texts_po};
-    ghost use Rattle.link_tree.specs.Waiting.{path_of, arrival_cmp};
-
-    ghost partial_cmp = { λ x y. Some (arrival_cmp x y) };
-
-    ghost laws = { on_po path_of texts_po };
-
-    fn partial_cmp(&self, other: &Arrival) -> Option<Ordering> {
-        Some(self.cmp(other))
-    }
-}
-
-impl Ord for Arrival {
-    ghost use Rattle.std.specs.Prelude.{refl};
-    ghost use Rattle.std.specs.Cmp.{on_total};
-    ghost use Rattle.std.specs.Cmp.Lexicographic.{nat_list_cmp_total, texts_ties};
-    ghost use Rattle.link_tree.specs.Waiting.{path_of, arrival_cmp};
-
-    ghost cmp = { arrival_cmp };
-
-    ghost total = { on_total path_of nat_list_cmp_total };
-
-    ghost matches_partial_cmp = { λ x y. refl };
-
-    ghost matches_eq = { λ x y. texts_ties (path_of x) (path_of y) };
-
-    fn cmp(&self, other: &Arrival) -> Ordering {
-        self.path.cmp(&other.path)
-    }
+/// The key with a byte behind it.
+#[inline]
+fn shifted(key: u128, byte: u8) -> u128
+    ensures { result ≡ shifted key byte }
+{
+    key.wrapping_mul(256).wrapping_add(u128::from(byte))
 }
 
 /// How many entries wait beside a tree of so many: few enough that they take a small part of its memory.
@@ -96,7 +69,7 @@ pub(crate) fn settle(tree: &mut Tree, mut waiting: Vec<Arrival>) -> Result<Optio
     ensures { IfOk result (λ taken. IsSettled taken tree.new (place_all tree.old waiting.items)) }
 {
     tree.shape();
-    waiting.sort()?;
+    waiting.sort_by_cached_key(sort_key)?;
     let mut taken = None;
     for Arrival {
         path,

@@ -1,4 +1,4 @@
-use Rattle.std.proofs.Common.{◌≡◌, ℕ, Bool, true, false, List, ◌∷◌, Option, Some, None, All, refl, sym, ap, subst, ◌∙◌}
+use Rattle.std.proofs.Common.{rules, ◌≡◌, ℕ, Bool, true, false, List, ◌∷◌, Option, Some, None, All, refl, sym, ap, subst, ◌∙◌}
 use Rattle.link_tree.specs.declared.waiting.Arrival.{Arrival}
 use Rattle.link_tree.specs.declared.entry.Entry.{Entry}
 use Rattle.link_tree.specs.Trees.{Entries}
@@ -8,15 +8,16 @@ use Rattle.std.specs.Vec.Iter.{into_iter_items}
 use Rattle.std.proofs.lemmas.List.{nil_from_length}
 use Rattle.std.proofs.lemmas.List.Elements.{All-head, All-rest}
 use Rattle.std.proofs.lemmas.List.Sorted.{All-permutation}
-use Rattle.link_tree.specs.Waiting.{IsAtSlot}
+use Rattle.link_tree.specs.Waiting.{IsAtSlot, sort_key}
 use Rattle.link_tree.proofs.Settling.{settled, noted, settled_as_read}
+use Rattle.std.proofs.lemmas.Fn.{always_returns_same}
 use Rattle.link_tree.proofs.Slots.{slot_free}
 use Rattle.link_tree.proofs.waiting.settle.Goals as goal
 
 pub loop-path-init : goal.loop-path-init
 loop-path-init c = record {
   leads = refl;
-  at_slots = subst (All IsAtSlot) (sym c.into_iter-path-iterator.ensures.into_iter_gives.0) (All-permutation IsAtSlot _ _ c.in_ok-sort.ensures.permutation c.requires.slots);
+  at_slots = subst (All IsAtSlot) (sym c.into_iter-path-iterator.ensures.into_iter_gives.0) (All-permutation IsAtSlot _ _ c.in_ok-sort_by_cached_key.ensures.permutation c.requires.slots);
 }
 
 pub insert-requires-clause-fits : goal.insert-requires-clause-fits
@@ -57,5 +58,5 @@ pub returns : goal.returns
 returns c =
     let left = c.loop-path.path-iterator in
     let none = nil_from_length (into_iter_items left) (sym left.rest.ok.0 ∙ c.in-None.ensures.steps.0) in
-    settled_as_read c.args.tree.now c.args.waiting.items c.sort.new.self.items c.loop-path.taken c.loop-path.tree c.shape.ensures c.requires.slots c.requires.rising c.in_ok-sort.ensures.stable
+    settled_as_read c.args.tree.now c.args.waiting.items c.sort_by_cached_key.new.self.items c.loop-path.taken c.loop-path.tree c.shape.ensures c.requires.slots c.requires.rising (c.in_ok-sort_by_cached_key.ensures.stable (λ a. sort_key a.path) (always_returns_same _ (λ a r. r ≡ sort_key a.0.now.path) _ (λ a r f k. search rules)))
     (ap (settled c.loop-path.taken c.loop-path.tree) (sym none) ∙ c.loop-path.invariant.leads ∙ ap (settled None c.args.tree.now) c.into_iter-path-iterator.ensures.into_iter_gives.0)
