@@ -1,4 +1,4 @@
--- Entries at slots wait while an inventory is read.
+-- Entries at slots wait while an inventory is read. No contract of a public call speaks of this: an inventory is read as Inventory says.
 use Rattle.std.specs.Prelude.{◌≡◌, ℕ, ◌+◌, ◌*◌, ◌%◌, ◌^◌, ◌<◌, true, List, [], ◌∷◌, length, take, All, Option, Some, None, Result, Ok, Err, min}
 use Rattle.link_tree.specs.Canonical.{parent}
 use Rattle.link_tree.specs.Slots.{is_slot, name_at}
