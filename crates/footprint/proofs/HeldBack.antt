@@ -3,14 +3,14 @@ use Rattle.std.proofs.Common.{◌≡◌, ℕ, true, List, [], ◌∷◌, ◌++�
 use Rattle.std.specs.FinMap as map
 use Rattle.std.proofs.lemmas.List.Elements.{All-append, All-cons, All-nil}
 use Rattle.link_tree.specs.declared.entry.Entry.{Entry}
-use Rattle.link_tree.specs.declared.entry.Change.{Change}
-use Rattle.link_tree.specs.Slots.{is_slot}
+use Rattle.link_tree.specs.declared.change.Change.{Change}
+use Rattle.unit_paths.specs.Slots.{is_slot}
 use Rattle.link_tree.specs.Trees.{path_cmp, Entries, set_entry}
 use Rattle.link_tree.specs.Differences.{differences, with_change}
 use Rattle.link_tree.proofs.Differences.{differences-same, differences-set}
 use Rattle.link_tree.proofs.Leads.{after_found, there, set_at_slot}
-use Rattle.footprint.specs.Edits.{IsEdit}
-use Rattle.footprint.specs.Steps.{Placed, placed_in}
+use Rattle.footprint.specs.EditLaws.{IsEdit}
+use Rattle.footprint.specs.Placing.{Placed, placed_in}
 
 pub placed_in-append : (first second : List Placed) (t : Entries) → placed_in (first ++ second) t ≡ placed_in second (placed_in first t)
 placed_in-append [] second t = refl

@@ -15,7 +15,8 @@ use Rattle.std.proofs.lemmas.Bool.{true≢false}
 use Rattle.std.proofs.lemmas.List.Elements.{All-contains, All-weaker, All-contains_itself}
 use Rattle.std.proofs.lemmas.Map.Views.{list_any-from_Contains, Contains-from_any}
 use Rattle.footprint.specs.declared.key.Key.{Key}
-use Rattle.footprint.specs.Order.{key_cmp, key_cmp_total, exact_keys, KeySet, entry, set_of}
+use Rattle.footprint.specs.Order.{key_cmp, KeySet, entry, set_of}
+use Rattle.footprint.specs.OrderLaws.{key_cmp_total, exact_keys}
 use Rattle.footprint.specs.Readings.{in_order}
 
 is_equal : (r : Ordering) → is_eq r ≡ true → r ≡ Equal

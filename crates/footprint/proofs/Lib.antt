@@ -5,3 +5,4 @@ pub mod Agreed
 pub mod Outcomes
 pub mod Untouched
 pub mod Commute
+pub mod Carried

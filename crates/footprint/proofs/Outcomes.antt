@@ -1,7 +1,7 @@
 -- The keys of a reading are those by which it was made, so operations come to the same where trees agree on either.
 use Rattle.std.proofs.Common.{◌≡◌, false, List, [], ◌∷◌, map as list_map, All, refl, ap, ◌∙◌, subst}
 use Rattle.std.proofs.lemmas.List.Elements.{All-head, All-tail}
-use Rattle.link_tree.specs.declared.entry.Change.{Change}
+use Rattle.link_tree.specs.declared.change.Change.{Change}
 use Rattle.link_tree.specs.Trees.{Entries}
 use Rattle.footprint.specs.declared.key.Key.{Key}
 use Rattle.footprint.specs.declared.outcome.Outcome.{Outcome}

@@ -10,16 +10,16 @@ use Rattle.std.proofs.lemmas.List.Sorted.{All-permutation, Contains-permutation,
 use Rattle.std.proofs.lemmas.Slice.Eq.{bytes_eq-Decides}
 use Rattle.link_tree.specs.declared.entry.Entry.{Entry}
 use Rattle.link_tree.specs.declared.entry.Entry.TheVariants.{File, Link}
-use Rattle.link_tree.specs.declared.slot.Scope.{Scope}
-use Rattle.link_tree.specs.declared.slot.Slot.{Slot}
-use Rattle.link_tree.specs.Canonical.{is_null_target}
-use Rattle.link_tree.specs.Slots.{slot_of, is_slot}
+use Rattle.unit_paths.specs.declared.place.Scope.{Scope}
+use Rattle.unit_paths.specs.declared.slot.Slot.{Slot}
+use Rattle.unit_paths.specs.Canonical.{is_null_target}
+use Rattle.unit_paths.specs.Slots.{slot_of, is_slot}
 use Rattle.link_tree.specs.Trees.{path_cmp, Entries, set_entry}
 use Rattle.link_tree.proofs.Changed.{get-set, same_tree, same_bytes}
 use Rattle.link_tree.proofs.Maps.{all_standing, all_listed}
 use Rattle.footprint.specs.declared.key.Key.{Key}
 use Rattle.footprint.specs.declared.key.Key.TheVariants.{Cell, Marked, Presets, Links}
-use Rattle.footprint.specs.Belonging.{is_of_scope, is_named, belongs}
+use Rattle.link_tree.specs.Links.{is_of_scope, is_named, belongs}
 use Rattle.footprint.specs.Keys.{is_preset, is_dependency, is_cell, selects, shows, shown, part}
 use Rattle.footprint.specs.KeyLaws.{get-part}
 use Rattle.footprint.specs.Seeing.{AllSelected, AllStand}

@@ -6,10 +6,10 @@ use Rattle.std.proofs.lemmas.Bool.{cases_Bool, false≢true, or_parts}
 use Rattle.std.proofs.lemmas.List.Elements.{All-head, All-tail, All-nil, All-cons, All-weaker, All-contains}
 use Rattle.std.proofs.lemmas.Slice.Eq.{bytes_eq-Decides}
 use Rattle.link_tree.specs.declared.entry.Entry.{Entry}
-use Rattle.link_tree.specs.declared.entry.Change.{Change}
-use Rattle.link_tree.specs.declared.slot.Scope.{Scope}
-use Rattle.link_tree.specs.Slots.{slot_of}
-use Rattle.link_tree.specs.Trees.{Entries, AreFrom, KeepsPath, after_change, after_changes, taken_back, turned}
+use Rattle.link_tree.specs.declared.change.Change.{Change}
+use Rattle.unit_paths.specs.declared.place.Scope.{Scope}
+use Rattle.unit_paths.specs.Slots.{slot_of}
+use Rattle.link_tree.specs.Trees.{Entries, AreFrom, KeepsPath, after_change, after_changes, taken_back, inverse_of}
 use Rattle.link_tree.proofs.Changed.{same_tree, same_bytes, other_bytes, after_at, get-set, get-after_changes}
 use Rattle.footprint.specs.declared.key.Key.{Key}
 use Rattle.footprint.specs.declared.key.Key.TheVariants.{Cell, Marked, Presets, Links}
@@ -92,16 +92,16 @@ touches-taken_back c (Marked scope name) = or_other (is_marked scope name c.path
 touches-taken_back c Presets = refl
 touches-taken_back c Links = refl
 
-free-turned : (key : Key) (cs : List Change) → All (λ c. touches c key ≡ false) cs → All (λ c. touches c key ≡ false) (turned cs)
-free-turned key [] h = All-nil (λ c. touches c key ≡ false)
-free-turned key (c ∷ cs) h =
-    All-cons (λ d. touches d key ≡ false) (taken_back c) (turned cs)
+free-inverse : (key : Key) (cs : List Change) → All (λ c. touches c key ≡ false) cs → All (λ c. touches c key ≡ false) (inverse_of cs)
+free-inverse key [] h = All-nil (λ c. touches c key ≡ false)
+free-inverse key (c ∷ cs) h =
+    All-cons (λ d. touches d key ≡ false) (taken_back c) (inverse_of cs)
     (touches-taken_back c key ∙ All-head (λ d. touches d key ≡ false) c cs h)
-    (free-turned key cs (All-tail (λ d. touches d key ≡ false) c cs h))
+    (free-inverse key cs (All-tail (λ d. touches d key ≡ false) c cs h))
 
-pub untouched-turned : (cs : List Change) (keys : List Key) → Untouched cs keys → Untouched (turned cs) keys
-untouched-turned cs keys h =
-    All-weaker (λ key. All (λ c. touches c key ≡ false) cs) (λ key. All (λ c. touches c key ≡ false) (turned cs)) (λ key free. free-turned key cs free) keys h
+pub untouched-inverse : (cs : List Change) (keys : List Key) → Untouched cs keys → Untouched (inverse_of cs) keys
+untouched-inverse cs keys h =
+    All-weaker (λ key. All (λ c. touches c key ≡ false) cs) (λ key. All (λ c. touches c key ≡ false) (inverse_of cs)) (λ key free. free-inverse key cs free) keys h
 
 -- no path is changed by both
 abbrev pub AreApart : List Change → List Change → Type 0

@@ -1,19 +1,22 @@
--- What keys see of trees, path by path, and after changes.
-use Rattle.std.proofs.Common.{◌≡◌, ℕ, Bool, true, false, cond, List, [], ◌∷◌, Option, Some, None, refl, sym, ap, ◌∙◌, inl, inr, subst}
+-- For the proofs of this crate: the definitions cite it where an agreement is to be shown, and a reader needs nothing of it. What
+-- keys see of trees, path by path, and after changes.
+use Rattle.std.proofs.Common.{◌≡◌, ℕ, Bool, true, false, cond, List, [], ◌∷◌, ◌++◌, map as list_map, Contains, Option, Some, None, refl, sym, ap, ◌∙◌, inl, inr, subst}
 use Rattle.std.specs.FinMap as map
 use Rattle.std.specs.FinMap.{get-retain_keys}
 use Rattle.std.specs.Str.{bytes_eq}
 use Rattle.std.proofs.lemmas.Bool.{cases_Bool}
+use Rattle.std.proofs.lemmas.List.Elements.{All-head, All-tail, All-nil, All-cons, All-weaker, All-contains, All-contains_itself, Contains-append_left, Contains-append_right}
 use Rattle.std.proofs.lemmas.Map.Lookups.{exact_bytes}
 use Rattle.std.proofs.lemmas.Slice.Eq.{bytes_eq-Decides}
 use Rattle.link_tree.specs.declared.entry.Entry.{Entry}
-use Rattle.link_tree.specs.declared.entry.Change.{Change}
+use Rattle.link_tree.specs.declared.change.Change.{Change}
 use Rattle.link_tree.specs.Trees.{Entries, after_changes}
 use Rattle.link_tree.proofs.Changed.{same_tree, same_bytes, after_at, get-after_changes}
+use Rattle.load_path.specs.Search.{SameAt}
 use Rattle.footprint.specs.declared.key.Key.{Key}
 use Rattle.footprint.specs.declared.key.Key.TheVariants.{Cell, Marked, Presets, Links}
 use Rattle.footprint.specs.declared.reading.Seen.TheVariants as seens
-use Rattle.footprint.specs.Keys.{shows, shown, part, Agree}
+use Rattle.footprint.specs.Keys.{shows, shown, part, Agree, AgreeOn}
 
 -- the key sees the same at each path
 abbrev pub AgreeAt : Key → Entries → Entries → Type 0
@@ -95,3 +98,37 @@ agree_after key changes t u agree = agree_from key (after_changes changes t) (af
       | inl here ↦ ap (shown key path) (after_any changes path (map.get t path) (map.get u path) here)
       | inr away ↦ ap (shown key path) (unchanged changes path (map.get t path) away) ∙ agree_at key t u agree path ∙ sym (ap (shown key path) (unchanged changes path (map.get u path) away))
     ]) ∙ sym (ap (shown key path) (get-after_changes changes u path)))
+
+pub agree_on_after : (keys : List Key) (changes : List Change) (t u : Entries) → AgreeOn keys t u → AgreeOn keys (after_changes changes t) (after_changes changes u)
+agree_on_after keys changes t u agree = All-weaker (λ key. Agree key t u) (λ key. Agree key (after_changes changes t) (after_changes changes u)) (λ key. agree_after key changes t u) keys agree
+
+-- where trees agree on cells, the same stands in each
+pub same_cells : (cells : List (List ℕ)) (t u : Entries) → AgreeOn (list_map Cell cells) t u → SameAt cells t u
+same_cells [] t u agree = All-nil (λ cell. map.get t cell ≡ map.get u cell)
+same_cells (cell ∷ cells) t u agree =
+    All-cons (λ cell. map.get t cell ≡ map.get u cell) cell cells
+    (same_there cell t u (All-head (λ key. Agree key t u) (Cell cell) (list_map Cell cells) agree))
+    (same_cells cells t u (All-tail (λ key. Agree key t u) (Cell cell) (list_map Cell cells) agree))
+
+agree_on_first : (first second : List Key) (t u : Entries) → AgreeOn (first ++ second) t u → AgreeOn first t u
+agree_on_first first second t u agree =
+    All-weaker (λ key. Contains first key) (λ key. Agree key t u)
+    (λ key here. All-contains (λ key. Agree key t u) (first ++ second) key agree (Contains-append_left first second key here)) first (All-contains_itself first)
+
+agree_on_second : (first second : List Key) (t u : Entries) → AgreeOn (first ++ second) t u → AgreeOn second t u
+agree_on_second first second t u agree =
+    All-weaker (λ key. Contains second key) (λ key. Agree key t u)
+    (λ key here. All-contains (λ key. Agree key t u) (first ++ second) key agree (Contains-append_right first second key here)) second (All-contains_itself second)
+
+-- What is asked by keys, and then more by what that comes to: trees that agree on all these keys give the same.
+pub both_agree : {X Y : Type 0} (first : Entries → X) (keys : Entries → List Key) (second : X → Entries → Y) (more : X → Entries → List Key)
+    → ((t u : Entries) → AgreeOn (keys t) t u → (first t ≡ first u) × (keys t ≡ keys u))
+    → ((x : X) (t u : Entries) → AgreeOn (more x t) t u → (second x t ≡ second x u) × (more x t ≡ more x u))
+    → (t u : Entries) → AgreeOn (keys t ++ more (first t) t) t u
+    → (second (first t) t ≡ second (first u) u) × (keys t ++ more (first t) t ≡ keys u ++ more (first u) u)
+both_agree first keys second more agreement later t u agree =
+    let before = agreement t u (agree_on_first (keys t) (more (first t) t) t u agree) in
+    let after = later (first t) t u (agree_on_second (keys t) (more (first t) t) t u agree) in (
+      after.0 ∙ ap (λ x. second x u) before.0,
+      ap (λ keys. keys ++ more (first t) t) before.1 ∙ ap (λ more_keys. keys u ++ more_keys) after.1 ∙ ap (λ x. keys u ++ more x u) before.0,
+    )

@@ -3,17 +3,17 @@ use Rattle.std.specs.Prelude.{◌≡◌, ℕ, Bool, true, false, ◌||◌, if◌
 use Rattle.std.specs.Str.{bytes_eq}
 use Rattle.std.specs.FinMap as map
 use Rattle.link_tree.specs.declared.entry.Entry.{Entry}
-use Rattle.link_tree.specs.declared.entry.Change.{Change}
-use Rattle.link_tree.specs.declared.slot.Scope.{Scope}
-use Rattle.link_tree.specs.declared.slot.Slot.{Slot}
-use Rattle.link_tree.specs.declared.slot.Slot.TheVariants as slots
-use Rattle.link_tree.specs.Slots.{slot_of}
+use Rattle.link_tree.specs.declared.change.Change.{Change}
+use Rattle.unit_paths.specs.declared.place.Scope.{Scope}
+use Rattle.unit_paths.specs.declared.slot.Slot.{Slot}
+use Rattle.unit_paths.specs.declared.slot.Slot.TheVariants as slots
+use Rattle.unit_paths.specs.Slots.{slot_of}
 use Rattle.link_tree.specs.Trees.{Entries}
 use Rattle.footprint.specs.declared.key.Key.{Key}
 use Rattle.footprint.specs.declared.key.Key.TheVariants.{Cell, Marked, Presets, Links}
 use Rattle.footprint.specs.declared.reading.Seen.{Seen}
 use Rattle.footprint.specs.declared.reading.Seen.TheVariants as seens
-use Rattle.footprint.specs.Belonging.{belongs}
+use Rattle.link_tree.specs.Links.{belongs}
 
 abbrev pub is_preset : Option Slot → Bool
 is_preset (Some (slots.Preset place)) = true

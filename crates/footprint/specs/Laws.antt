@@ -1,6 +1,6 @@
 -- Laws of operations and of what they look at, each the contract of a public function.
 use Rattle.std.specs.Prelude.{◌≡◌, List}
-use Rattle.link_tree.specs.declared.entry.Change.{Change}
+use Rattle.link_tree.specs.declared.change.Change.{Change}
 use Rattle.link_tree.specs.Trees.{Entries, after_changes}
 use Rattle.footprint.specs.declared.key.Key.{Key}
 use Rattle.footprint.specs.Keys.{Agree, Untouched}

@@ -1,12 +1,14 @@
-pub mod Belonging
 pub mod Keys
 pub mod Order
+pub mod OrderLaws
 pub mod Readings
 pub mod Seeing
 pub mod KeyLaws
 pub mod Inquiry
 pub mod Operations
+pub mod Placing
+pub mod PlacingLaws
 pub mod Steps
+pub mod EditLaws
 pub mod Edits
-pub mod Commands
 pub mod Laws

@@ -1,20 +1,12 @@
--- The order of keys.
-use Rattle.std.specs.Prelude.{◌≡◌, ℕ, Bool, true, false, List, [], ◌∷◌, map as list_map, ◌⊎◌, refl}
-use Rattle.std.proofs.Common.{inl, inr, sym, ap, ◌∙◌}
-use Rattle.std.specs.Coded.{Coded, code_by, coded×, coded⊎, coded_bool}
-use Rattle.std.specs.Cmp.{IsTotalOrder}
+-- The order of keys, which is that of a reading.
+use Rattle.std.specs.Prelude.{ℕ, List, [], ◌∷◌, map as list_map}
 use Rattle.std.specs.Ordering.{on}
-use Rattle.std.specs.Cmp.Lexicographic.{nat_list_cmp_total}
-use Rattle.std.proofs.lemmas.Cmp.{on_total}
 use Rattle.std.specs.FinSet as set
 use Rattle.std.specs.FinMap as map
-use Rattle.std.specs.FinMap.{IsAntisymmetric}
-use Rattle.std.proofs.lemmas.Map.Lookups.{exact_bytes}
 use Rattle.std.specs.declared.cmp.Ordering.{Ordering}
-use Rattle.link_tree.specs.declared.slot.Scope.{Scope}
-use Rattle.link_tree.specs.declared.slot.Scope.TheVariants.{Etc, Run}
+use Rattle.unit_paths.specs.declared.place.Scope.{Scope}
+use Rattle.unit_paths.specs.declared.place.Scope.TheVariants.{Etc, Run}
 use Rattle.link_tree.specs.Trees.{path_cmp}
-use Rattle.link_tree.specs.Values.{coded_path}
 use Rattle.footprint.specs.declared.key.Key.{Key}
 use Rattle.footprint.specs.declared.key.Key.TheVariants.{Cell, Marked, Presets, Links}
 
@@ -39,70 +31,14 @@ spelling Links = 3 ∷ []
 abbrev pub key_cmp : Key → Key → Ordering
 key_cmp = on spelling path_cmp
 
-pub key_cmp_total : IsTotalOrder key_cmp
-key_cmp_total = on_total spelling nat_list_cmp_total
-
--- a key as one of two texts, or none
-abbrev pub parts_of : Key → List ℕ ⊎ (Bool × List ℕ) ⊎ Bool
-parts_of (Cell path) = inl path
-parts_of (Marked Etc name) = inr (inl (false, name))
-parts_of (Marked Run name) = inr (inl (true, name))
-parts_of Presets = inr (inr false)
-parts_of Links = inr (inr true)
-
-abbrev pub of_parts : List ℕ ⊎ (Bool × List ℕ) ⊎ Bool → Key
-of_parts (inl path) = Cell path
-of_parts (inr (inl (false, name))) = Marked Etc name
-of_parts (inr (inl (true, name))) = Marked Run name
-of_parts (inr (inr false)) = Presets
-of_parts (inr (inr true)) = Links
-
-pub of_own_parts : (key : Key) → of_parts (parts_of key) ≡ key
-of_own_parts (Cell path) = refl
-of_own_parts (Marked Etc name) = refl
-of_own_parts (Marked Run name) = refl
-of_own_parts Presets = refl
-of_own_parts Links = refl
-
--- keys with one spelling have the same parts
-same_parts : (key other : Key) → spelling key ≡ spelling other → parts_of key ≡ parts_of other
-same_parts (Cell path) (Cell other) same = let here : path ≡ other = cc in ap inl here
-same_parts (Marked Etc name) (Marked Etc other) same = let here : name ≡ other = cc in ap (λ n. inr (inl (false, n))) here
-same_parts (Marked Run name) (Marked Run other) same = let here : name ≡ other = cc in ap (λ n. inr (inl (true, n))) here
-same_parts Presets Presets same = refl
-same_parts Links Links same = refl
-same_parts (Cell path) (Marked scope other) same = cc
-same_parts (Cell path) Presets same = cc
-same_parts (Cell path) Links same = cc
-same_parts (Marked scope name) (Cell other) same = cc
-same_parts (Marked Etc name) (Marked Run other) same = cc
-same_parts (Marked Run name) (Marked Etc other) same = cc
-same_parts (Marked scope name) Presets same = cc
-same_parts (Marked scope name) Links same = cc
-same_parts Presets (Cell other) same = cc
-same_parts Presets (Marked scope other) same = cc
-same_parts Presets Links same = cc
-same_parts Links (Cell other) same = cc
-same_parts Links (Marked scope other) same = cc
-same_parts Links Presets same = cc
-
--- how keys are told apart
-abbrev pub coded_key : Coded Key
-coded_key = code_by (List ℕ ⊎ (Bool × List ℕ) ⊎ Bool) (coded⊎ coded_path (coded⊎ (coded× coded_bool coded_path) coded_bool)) parts_of of_parts of_own_parts
-
--- keys that are ordered alike are one
-pub exact_keys : IsAntisymmetric key_cmp
-exact_keys key other alike = sym (of_own_parts key) ∙ ap of_parts (same_parts key other (exact_bytes (spelling key) (spelling other) alike)) ∙ of_own_parts other
-
 -- a set of keys
 abbrev pub KeySet : Type 0
 KeySet = set.FinSet key_cmp
 
+-- a key as the set's map holds it
 abbrev pub entry : Key → Key × Unit {0}
 entry key = (key, tt)
 
+-- the set of these keys
 abbrev pub set_of : List Key → KeySet
 set_of keys = map.from_entries (list_map entry keys)
-
-abbrev pub coded_keys : Coded KeySet
-coded_keys = set.code coded_key

@@ -1,4 +1,4 @@
--- How two trees are compared by a key.
+-- For the proofs of this crate: no public contract cites it. How two trees are compared by a key.
 use Rattle.std.specs.Prelude.{◌≡◌, ℕ, true, List, Some}
 use Rattle.std.specs.FinMap as map
 use Rattle.link_tree.specs.declared.entry.Entry.{Entry}

@@ -1,66 +1,78 @@
--- What commands on slots are made of: one argument is taken after another, each in the tree that the earlier ones left.
-use Rattle.std.specs.Prelude.{◌≡◌, ℕ, if◌then◌else◌, List, [], ◌∷◌, ◌++◌, Option, Result, Ok, Err}
-use Rattle.std.specs.Str.{bytes_eq}
-use Rattle.std.proofs.Common.{ap, sym, ◌∙◌}
-use Rattle.std.proofs.lemmas.List.Elements.{All-weaker}
+-- What commands on slots are made of: steps, one for each argument, each in the tree that the earlier ones left.
+use Rattle.std.specs.Prelude.{◌≡◌, ℕ, List, [], ◌∷◌, ◌++◌, map as list_map, Result, Ok, Err}
 use Rattle.std.specs.FinMap as map
-use Rattle.link_tree.specs.declared.entry.Entry.{Entry}
-use Rattle.link_tree.specs.Trees.{Entries, set_entry}
-use Rattle.link_tree.proofs.Changed.{get-set}
-use Rattle.load_path.specs.Search.{SameAt, Search, over, look, giving, ◌>>=◌}
+use Rattle.link_tree.specs.Trees.{Entries}
+use Rattle.load_path.specs.Search.{Search, SameAt, over, look, giving, both_agree}
+use Rattle.footprint.specs.declared.key.Key.TheVariants.{Cell}
 use Rattle.footprint.specs.declared.refusal.Refusal.{Refusal}
+use Rattle.footprint.specs.Inquiry.{Inquiry}
+use Rattle.footprint.specs.Operations.{Effect}
+use Rattle.footprint.specs.Placing.{Verdict, effect, IsLookedAt, Rule, ruled_at, concluded_after, cells_after}
+use Rattle.footprint.specs.PlacingLaws.{none_looked_at, path_looked_at, looked_before, effects_agree, agreement_after, looked_after}
 
--- what is to stand at a path
-abbrev pub Placed : Type 0
-Placed = List ℕ × Option Entry
+-- A step of a command is a search for what is to stand where, or for the reason to refuse, that looks at each path where
+-- something is to stand.
+pub record Step : Type 0 where
+  pub conclusion : Entries → Verdict
+  pub cells : Entries → List (List ℕ)
+  pub agreement : (t u : Entries) → SameAt (cells t) t u → (conclusion t ≡ conclusion u) × (cells t ≡ cells u)
+  pub looked : (t : Entries) → IsLookedAt (cells t) (conclusion t)
 
--- what is to stand at paths, in order, or a refusal
-abbrev pub Verdict : Type 0
-Verdict = Result (List Placed) Refusal
+abbrev pub search_of : Step → Search Verdict
+search_of step = record { conclusion = step.conclusion; cells = step.cells; agreement = step.agreement }
 
--- the tree in which some entries have been placed, in order
-abbrev pub placed_in : List Placed → Entries → Entries
-placed_in [] t = t
-placed_in (p ∷ placed) t = placed_in placed (set_entry t p.0 p.1)
+abbrev pub step_of : (s : Search Verdict) → ((t : Entries) → IsLookedAt (s.cells t) (s.conclusion t)) → Step
+step_of s looked = record { conclusion = s.conclusion; cells = s.cells; agreement = s.agreement; looked = looked }
 
--- what is the same at a path is the same there after the same placing
-pub placed_alike : (placed : List Placed) (t u : Entries) (path : List ℕ) → map.get t path ≡ map.get u path → map.get (placed_in placed t) path ≡ map.get (placed_in placed u) path
-placed_alike [] t u path same = same
-placed_alike (p ∷ placed) t u path same =
-    placed_alike placed (set_entry t p.0 p.1) (set_entry u p.0 p.1) path
-    (get-set t p.0 p.1 path ∙ ap (λ there. if bytes_eq path p.0 then p.1 else there) same ∙ sym (get-set u p.0 p.1 path))
+-- all stays
+abbrev pub nothing : Step
+nothing = step_of (over (Ok [])) (λ t. none_looked_at)
 
-pub cells_alike : (placed : List Placed) (cells : List (List ℕ)) (t u : Entries) → SameAt cells t u → SameAt cells (placed_in placed t) (placed_in placed u)
-cells_alike placed cells t u same = All-weaker (λ cell. map.get t cell ≡ map.get u cell) (λ cell. map.get (placed_in placed t) cell ≡ map.get (placed_in placed u) cell) (placed_alike placed t u) cells same
+-- the command is refused
+abbrev pub refuse : Refusal → Step
+refuse refusal = step_of (over (Err refusal)) (λ t. tt)
 
--- a search in the tree in which some entries have been placed
-abbrev pub after : {X : Type 0} → List Placed → Search X → Search X
-after placed s = record {
-  conclusion = λ t. s.conclusion (placed_in placed t);
-  cells = λ t. s.cells (placed_in placed t);
-  agreement = λ t u same. s.agreement (placed_in placed t) (placed_in placed u) (cells_alike placed (s.cells (placed_in placed t)) t u same);
+-- a path is left as a rule says by what stands there
+abbrev pub ruled : Rule → List ℕ → Step
+ruled rule path = step_of (giving (look path) (λ there. ruled_at path (rule path there))) (λ t. path_looked_at path (rule path (map.get t path)))
+
+-- what a search comes to decides the step
+infixl 10 ◌>>=◌
+abbrev pub ◌>>=◌ : {X : Type 0} → Search X → (X → Step) → Step
+s >>= f = record {
+  conclusion = λ t. (f (s.conclusion t)).conclusion t;
+  cells = λ t. s.cells t ++ (f (s.conclusion t)).cells t;
+  agreement = both_agree s (λ x. search_of (f x));
+  looked = λ t. looked_before (s.cells t) ((f (s.conclusion t)).cells t) ((f (s.conclusion t)).conclusion t) ((f (s.conclusion t)).looked t);
 }
 
--- it goes on with what was come to, unless that is a refusal
-abbrev pub unless_refused : {X Y : Type 0} → (X → Search (Result Y Refusal)) → Result X Refusal → Search (Result Y Refusal)
+-- the step for what was found, unless that is a refusal
+abbrev pub unless_refused : {X : Type 0} → (X → Step) → Result X Refusal → Step
 unless_refused on (Ok x) = on x
-unless_refused on (Err refusal) = over (Err refusal)
+unless_refused on (Err refusal) = refuse refusal
 
--- one argument after another, each in the tree that the earlier ones left
-abbrev pub each_in_turn : {A : Type 0} → (A → Search Verdict) → List A → List Placed → Search Verdict
-each_in_turn step [] placed = over (Ok placed)
-each_in_turn step (a ∷ rest) placed = do
-  more ← after placed (step a)
-  unless_refused (λ more. each_in_turn step rest (placed ++ more)) more
+-- a step, and then another in the tree that the first leaves; a refusal of either refuses both
+abbrev pub and_then : (first second : Step) → Step
+and_then first second = record {
+  conclusion = λ t. concluded_after (first.conclusion t) second.conclusion t;
+  cells = λ t. first.cells t ++ cells_after (first.conclusion t) second.cells t;
+  agreement = both_agree (search_of first) (λ verdict. record {
+    conclusion = concluded_after verdict second.conclusion;
+    cells = cells_after verdict second.cells;
+    agreement = agreement_after second.conclusion second.cells second.agreement second.looked verdict;
+  });
+  looked = λ t. looked_after second.conclusion second.cells second.agreement second.looked (first.cells t) (first.conclusion t) t (first.looked t);
+}
 
--- what is to stand at a path, by what stands there, or a refusal
-abbrev pub Rule : Type 0
-Rule = List ℕ → Option Entry → Result (Option Entry) Refusal
+-- a step for each argument, one after another
+abbrev pub each_in_turn : {A : Type 0} → (A → Step) → List A → Step
+each_in_turn step [] = nothing
+each_in_turn step (a ∷ rest) = and_then (step a) (each_in_turn step rest)
 
--- a slot is left as a rule says
-abbrev pub ruled_at : List ℕ → Result (Option Entry) Refusal → Verdict
-ruled_at slot (Ok entry) = Ok ((slot, entry) ∷ [])
-ruled_at slot (Err refusal) = Err refusal
-
-abbrev pub ruled : Rule → List ℕ → Search Verdict
-ruled rule slot = giving (look slot) (λ there. ruled_at slot (rule slot there))
+-- What a command of such steps asks of a tree: its effect, by the cells at which the steps look.
+abbrev pub carried_out : Step → Inquiry Effect
+carried_out step = record {
+  conclusion = λ t. effect t (step.conclusion t);
+  keys = λ t. list_map Cell (step.cells t);
+  agreement = effects_agree step.conclusion step.cells step.agreement step.looked;
+}

@@ -1,10 +1,10 @@
 //! What operations answer.
 ghost use Rattle.std.specs.Prelude.{◌≡◌, IfOk};
 
-use crate::notice::Notices;
 use crate::refusal::Refusal;
 use crate::units::Units;
 use std::alloc::AllocError;
+use unit_file::Notices;
 use unit_name::UnitName;
 
 /// Whether a unit is enabled: systemctl(1), `is-enabled`.
@@ -26,16 +26,20 @@ pub enum StateWord {
 /// What an operation answers.
 #[derive(Debug, Drop)]
 pub enum Answer {
-    /// It is done, but for what the notices tell.
+    /// A command is carried out, but for the words that the notices name.
     Done(Notices),
+    /// `is-enabled`.
     State(StateWord),
+    /// `get-default`.
     Name(UnitName),
+    /// `list-dependencies`.
     Names(Units),
+    /// Nothing was done.
     Refused(Refusal),
 }
 
 impl Answer {
-    /// An equal answer.
+    /// A copy of the answer. Fails only where memory runs out.
     pub fn copy(&self) -> Result<Answer, AllocError>
         ensures { IfOk result (λ answer. answer ≡ self.now) }
     {

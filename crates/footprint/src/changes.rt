@@ -1,12 +1,12 @@
 //! Lists of changes.
 ghost use Rattle.std.specs.Prelude.{◌≡◌, ◌++◌, ◌∷◌, [], IfOk, OnOk, OnErr};
-ghost use Rattle.link_tree.specs.Trees.{turned};
+ghost use Rattle.link_tree.specs.Trees.{inverse_of};
 
 use link_tree::Change;
 use std::alloc::{AllocError, Global};
 use std::marker::Model;
 
-/// Changes of entries, in byte order of their paths, each path once. Contracts see their list.
+/// The changes that an operation makes, in byte order of their paths, each path once. Contracts see their list.
 #[derive(Debug, Drop)]
 pub struct Changes {
     items: Vec<Change>,
@@ -14,7 +14,7 @@ pub struct Changes {
 
 impl Model for Changes {
     ghost use Rattle.std.specs.Prelude.{List};
-    ghost use Rattle.link_tree.specs.declared.entry.Change.{Change};
+    ghost use Rattle.link_tree.specs.declared.change.Change.{Change};
 
     ghost Value = { List Change };
 
@@ -22,7 +22,7 @@ impl Model for Changes {
 }
 
 impl Changes {
-    /// No changes.
+    /// No changes, as of a refusal or a question. Takes no memory.
     pub fn none(alloc: Global) -> Changes
         ensures { result ≡ [] }
     {
@@ -31,7 +31,7 @@ impl Changes {
         }
     }
 
-    /// One change more.
+    /// Adds a change. Where memory runs out the list stays as it was.
     pub(crate) fn push(&mut self, change: Change) -> Result<(), AllocError>
         ensures ok { OnOk result (self.new ≡ self.old ++ change ∷ []) }
         ensures err { OnErr result (self.new ≡ self.old) }
@@ -39,13 +39,14 @@ impl Changes {
         Ok(self.items.push(change)?)
     }
 
+    /// The changes, in order.
     pub fn as_slice(&self) -> &[Change]
         ensures { result.now ≡ self.now }
     {
         &self.items
     }
 
-    /// Equal changes.
+    /// A copy of the changes. Fails only where memory runs out.
     pub fn copy(&self) -> Result<Changes, AllocError>
         ensures { IfOk result (λ changes. changes ≡ self.now) }
     {
@@ -56,14 +57,15 @@ impl Changes {
         Ok(copy)
     }
 
-    /// The changes that take these back, in the same order.
-    pub fn turned(&self) -> Result<Changes, AllocError>
-        ensures { IfOk result (λ changes. changes ≡ turned self.now) }
+    /// The changes that take these back, in the same order: at each path what stood there before stands there after. Fails only
+    /// where memory runs out.
+    pub fn inverse(&self) -> Result<Changes, AllocError>
+        ensures { IfOk result (λ changes. changes ≡ inverse_of self.now) }
     {
-        let mut turned = Changes::none(*self.items.allocator());
+        let mut inverse = Changes::none(*self.items.allocator());
         for change in self.as_slice() {
-            turned.push(change.taken_back()?)?;
+            inverse.push(change.taken_back()?)?;
         }
-        Ok(turned)
+        Ok(inverse)
     }
 }

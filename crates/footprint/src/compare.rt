@@ -52,7 +52,8 @@ impl PartialOrd for Key {
 impl Ord for Key {
     ghost use Rattle.std.specs.Prelude.{refl};
     ghost use Rattle.std.specs.Cmp.Lexicographic.{texts_ties};
-    ghost use Rattle.footprint.specs.Order.{spelling, key_cmp, key_cmp_total};
+    ghost use Rattle.footprint.specs.Order.{spelling, key_cmp};
+    ghost use Rattle.footprint.specs.OrderLaws.{key_cmp_total};
 
     ghost cmp = { key_cmp };
 

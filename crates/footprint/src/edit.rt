@@ -2,17 +2,16 @@
 ghost use Rattle.std.specs.Prelude.{◌≡◌, true, All, IfOk};
 ghost use Rattle.std.specs.Option.{option_copied};
 ghost use Rattle.std.specs.FinMap as map;
-ghost use Rattle.link_tree.specs.Slots.{is_slot};
+ghost use Rattle.unit_paths.specs.Slots.{is_slot};
 ghost use Rattle.link_tree.specs.Trees.{set_entry};
 ghost use Rattle.link_tree.specs.Differences.{changes_between};
-ghost use Rattle.footprint.specs.Steps.{ruled_at};
+ghost use Rattle.footprint.specs.Placing.{ruled_at};
 ghost use Rattle.footprint.specs.Edits.{stepped, ended};
 
 use crate::answer::Answer;
 use crate::changes::Changes;
 use crate::keys::Keys;
 use crate::net::NetChanges;
-use crate::notice::Notices;
 use crate::outcome::Outcome;
 use crate::reading::Reading;
 use crate::refusal::Refusal;
@@ -20,9 +19,10 @@ use link_tree::{Entry, Tree, TreePath};
 use load_path::Cells;
 use std::alloc::{AllocError, Global};
 use std::marker::Model;
+use unit_file::Notices;
 
-/// A tree as it was, and as it is now. What is put into it is held back until the whole tree is looked at. Contracts see
-/// the two.
+/// A tree that a command edits: as it was, and as it is now. What is put into it is held back until the whole tree is looked
+/// at, so that a command with one change copies no tree. Contracts see the two trees.
 #[derive(Drop)]
 pub struct Edit<'a> {
     first: &'a Tree,
@@ -36,8 +36,8 @@ impl<'a> Model for Edit<'a> {
     ghost use Rattle.std.specs.Coded.{coded×};
     ghost use Rattle.link_tree.specs.Trees.{Entries};
     ghost use Rattle.link_tree.specs.Values.{coded_path, coded_entry};
-    ghost use Rattle.footprint.specs.Steps.{placed_in};
-    ghost use Rattle.footprint.specs.Edits.{IsEdit};
+    ghost use Rattle.footprint.specs.Placing.{placed_in};
+    ghost use Rattle.footprint.specs.EditLaws.{IsEdit};
 
     ghost Value = { Entries × Entries };
 
@@ -49,7 +49,7 @@ impl<'a> Model for Edit<'a> {
 }
 
 impl<'a> Edit<'a> {
-    /// A tree that is not changed yet.
+    /// Begins an edit of a tree, with no change yet. Fails only where memory runs out.
     pub fn new(alloc: Global, tree: &'a Tree) -> Result<Edit<'a>, AllocError>
         ensures { IfOk result (λ edit. edit ≡ (tree.now, tree.now)) }
     {
@@ -61,7 +61,7 @@ impl<'a> Edit<'a> {
         })
     }
 
-    /// What stands at the path now.
+    /// What stands at the path now, after what was put so far.
     pub fn get(&self, path: &TreePath) -> Option<&Entry>
         ensures { option_copied result ≡ map.get self.now.1 path.now }
     {
@@ -71,7 +71,8 @@ impl<'a> Edit<'a> {
         }
     }
 
-    /// The tree as it is now, beside the edit, where nothing is held back then.
+    /// The whole tree as it is now, for look-ups, and the edit to go on with. What was held back is placed. Fails only where
+    /// memory runs out.
     pub fn settled(self, alloc: Global) -> Result<(Tree, Edit<'a>), AllocError>
         ensures tree { IfOk result (λ r. r.0 ≡ self.entry.1) }
         ensures edit { IfOk result (λ r. r.1 ≡ self.entry) }
@@ -91,7 +92,8 @@ impl<'a> Edit<'a> {
         Ok((copy, edit))
     }
 
-    /// Puts an entry at a slot in place of what stands there, or with `None` takes that away.
+    /// Puts an entry at a slot in place of what stands there, or with `None` takes that away. The path is to be a slot. Fails only
+    /// where memory runs out.
     pub fn with(self, slot: &TreePath, entry: Option<Entry>) -> Result<Edit<'a>, AllocError>
         requires { is_slot slot.now ≡ true }
         ensures { IfOk result (λ edit. edit ≡ (self.entry.0, set_entry self.entry.1 slot.now entry)) }
@@ -109,7 +111,8 @@ impl<'a> Edit<'a> {
         })
     }
 
-    /// Leaves a slot as a rule says there, unless that refuses.
+    /// Puts at a slot what a rule left there, or hands the rule's refusal on. The path is to be a slot. The outer error is want of
+    /// memory alone.
     pub fn ruled(
         self,
         slot: &TreePath,
@@ -124,7 +127,8 @@ impl<'a> Edit<'a> {
         }
     }
 
-    /// All that has changed.
+    /// The changes from the tree as it was to the tree as it is now: an entry that was put back is none. Fails only where memory
+    /// runs out.
     pub fn into_changes(self, alloc: Global) -> Result<Changes, AllocError>
         ensures changes { IfOk result (λ changes. changes ≡ changes_between self.entry.0 self.entry.1) }
         ensures slots { IfOk result (λ changes. All (λ change. is_slot change.path ≡ true) changes) }
@@ -134,7 +138,8 @@ impl<'a> Edit<'a> {
 }
 
 impl Outcome {
-    /// What has become of a tree that was edited, or the refusal, where these cells of it were looked at.
+    /// The outcome of a command: the changes of its edit, or its refusal, with the reading of the tree at the cells that it
+    /// looked at. Fails only where memory runs out.
     pub fn of(
         alloc: Global,
         tree: &Tree,

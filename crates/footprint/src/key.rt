@@ -1,15 +1,14 @@
 //! What an operation looks at.
 ghost use Rattle.std.specs.Prelude.{◌≡◌, IfOk};
-ghost use Rattle.link_tree.specs.Slots.{slot_of};
+ghost use Rattle.unit_paths.specs.Slots.{slot_of};
 ghost use Rattle.footprint.specs.Keys.{is_preset, is_dependency, selects};
 ghost use Rattle.footprint.specs.Order.{rank};
 
-use crate::belonging::belongs;
-use link_tree::{Entry, Scope, Slot, TreePath};
+use link_tree::{Entry, Scope, Slot, TreePath, belongs};
 use std::alloc::AllocError;
 use unit_name::UnitName;
 
-/// What an operation looks at in a tree. In a reading cells stand first, in byte order of their paths, then the links that
+/// What an operation looks at in a tree; together its keys are its footprint. In a reading cells stand first, in byte order of their paths, then the links that
 /// belong to names, those of `/etc` first, in byte order of the names, then `Presets`, then `Links`.
 #[derive(Debug, Drop)]
 pub enum Key {
@@ -36,7 +35,7 @@ impl Default for Key {
 }
 
 impl Key {
-    /// An equal key.
+    /// A copy of the key. Fails only where memory runs out.
     pub fn copy(&self) -> Result<Key, AllocError>
         ensures { IfOk result (λ key. key ≡ self.now) }
     {

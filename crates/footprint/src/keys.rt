@@ -33,7 +33,7 @@ impl Model for Keys {
 }
 
 impl Keys {
-    /// No keys.
+    /// No keys yet. Takes no memory.
     pub fn none(alloc: Global) -> Keys
         ensures { result ≡ [] }
     {
@@ -42,7 +42,7 @@ impl Keys {
         }
     }
 
-    /// One key more.
+    /// Adds a key. Where memory runs out the list stays as it was.
     pub fn push(&mut self, key: Key) -> Result<(), AllocError>
         ensures ok { OnOk result (self.new ≡ self.old ++ key ∷ []) }
         ensures err { OnErr result (self.new ≡ self.old) }
@@ -50,7 +50,7 @@ impl Keys {
         Ok(self.items.push(key)?)
     }
 
-    /// The cells that were looked at.
+    /// Adds a key for each of the cells, in order. Where memory runs out some of them may have been added.
     pub fn push_cells(&mut self, cells: &Cells) -> Result<(), AllocError>
         ensures { OnOk result (self.new ≡ self.old ++ list_map keys.Cell cells.now) }
     {
@@ -60,6 +60,7 @@ impl Keys {
         Ok(())
     }
 
+    /// The keys, in the order in which they were added.
     pub fn as_slice(&self) -> &[Key]
         ensures { result.now ≡ self.now }
     {
@@ -74,7 +75,8 @@ struct KeySet {
 }
 
 impl Model for KeySet {
-    ghost use Rattle.footprint.specs.Order.{KeySet, set_of, coded_keys};
+    ghost use Rattle.footprint.specs.Order.{KeySet, set_of};
+    ghost use Rattle.footprint.specs.OrderLaws.{coded_keys};
 
     ghost Value = { KeySet };
 
@@ -124,7 +126,7 @@ impl KeySet {
 }
 
 impl Reading {
-    /// What a tree is read as by keys.
+    /// Reads a tree by keys: each key once, in the order of keys, with what it sees. Fails only where memory runs out.
     #[tactic(auto, unfolding(crate::specs::Readings::in_order))]
     pub fn of(alloc: Global, tree: &Tree, keys: Keys) -> Result<Reading, AllocError>
         ensures { IfOk result (λ reading. reading ≡ reading_of keys tree.now) }

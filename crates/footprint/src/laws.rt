@@ -3,7 +3,7 @@ ghost use Rattle.footprint.specs.Laws.{AgreeAfterChanges, MayChangePlaces};
 
 use crate::operation::Operation;
 
-/// Trees that agree on a key agree on it after the same changes.
+/// Trees that agree on a key agree on it after the same changes, whatever else differs between them.
 pub fn trees_agree_after_the_same_changes()
     ensures { AgreeAfterChanges }
 {}

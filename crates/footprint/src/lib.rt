@@ -2,7 +2,6 @@
 #![tactic(auto)]
 
 mod answer;
-mod belonging;
 mod changes;
 mod compare;
 mod edit;
@@ -10,7 +9,6 @@ mod key;
 mod keys;
 mod laws;
 mod net;
-mod notice;
 mod operation;
 mod outcome;
 mod reading;
@@ -25,12 +23,12 @@ pub use edit::Edit;
 pub use key::Key;
 pub use keys::Keys;
 pub use laws::{commands_may_change_places, trees_agree_after_the_same_changes};
-pub use notice::{Notice, NoticeKey, Notices, Reason};
 pub use operation::Operation;
 pub use outcome::Outcome;
 pub use reading::{Observation, Reading, Seen, agrees};
 pub use refusal::{Refusal, Subject};
 pub use touching::touches;
+pub use unit_file::{Notice, NoticeKey, Notices, Reason};
 pub use units::Units;
 
 #[cfg(test)]

@@ -18,7 +18,7 @@ pub(crate) struct NetChanges {
 
 impl Model for NetChanges {
     ghost use Rattle.std.specs.FinMap as map;
-    ghost use Rattle.link_tree.specs.declared.entry.Change.{Change};
+    ghost use Rattle.link_tree.specs.declared.change.Change.{Change};
     ghost use Rattle.link_tree.specs.Trees.{path_cmp};
     ghost use Rattle.link_tree.specs.Values.{coded_path};
     ghost use Rattle.link_tree.specs.Differences.{coded_change};

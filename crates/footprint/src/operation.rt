@@ -1,6 +1,6 @@
 //! Operations on trees.
 ghost use Rattle.std.specs.Prelude.{◌≡◌, ◌↔◌, IfOk, IsTrue, All, true};
-ghost use Rattle.link_tree.specs.Slots.{is_slot};
+ghost use Rattle.unit_paths.specs.Slots.{is_slot};
 ghost use Rattle.footprint.specs.Operations.{outcome_of};
 
 use crate::outcome::Outcome;
@@ -20,7 +20,8 @@ pub trait Operation: Drop + Sized {
     /// Whether it is a question.
     ghost asks: { Self → Bool };
 
-    /// What it comes to in the tree, which stays. It changes slots alone.
+    /// What it comes to in the tree: its answer, its changes, all at slots, and its reading. The tree itself stays as it is, so
+    /// that a caller may make the changes or drop them. A refusal is an answer; the error is want of memory alone.
     fn run(&self, alloc: Global, tree: &Tree) -> Result<Outcome, AllocError>
         ensures outcome { IfOk result (λ done. done ≡ outcome_of meaning self.now tree.now) }
         ensures slots { IfOk result (λ done. All (λ change. is_slot change.path ≡ true) done.changes) };
@@ -29,11 +30,11 @@ pub trait Operation: Drop + Sized {
     fn asks_only(&self) -> bool
         ensures { result ≡ asks self.now };
 
-    /// An equal operation.
+    /// A copy of the operation. Fails only where memory runs out.
     fn copy(&self) -> Result<Self, AllocError>
         ensures { IfOk result (λ copy. copy ≡ self.now) };
 
-    /// Whether the operations are equal.
+    /// Whether the operations are the same, with the same arguments.
     fn same(&self, other: &Self) -> bool
         ensures { IsTrue result ↔ (self.now ≡ other.now) };
 

@@ -18,7 +18,7 @@ pub enum Seen {
 }
 
 impl Seen {
-    /// What is equal to it.
+    /// A copy of it. Fails only where memory runs out.
     pub fn copy(&self) -> Result<Seen, AllocError>
         ensures { IfOk result (λ seen. seen ≡ self.now) }
     {
@@ -53,7 +53,7 @@ impl Default for Observation {
 }
 
 impl Observation {
-    /// An equal observation.
+    /// A copy of the observation. Fails only where memory runs out.
     pub fn copy(&self) -> Result<Observation, AllocError>
         ensures { IfOk result (λ observation. observation ≡ self.now) }
     {
@@ -89,7 +89,7 @@ impl Model for Reading {
 }
 
 impl Reading {
-    /// A reading of no keys.
+    /// A reading by no keys. Takes no memory.
     pub fn none(alloc: Global) -> Reading
         ensures { result ≡ [] }
     {
@@ -105,13 +105,14 @@ impl Reading {
         Ok(self.observations.push(observation)?)
     }
 
+    /// The observations, in the order of their keys.
     pub fn as_slice(&self) -> &[Observation]
         ensures { result.now ≡ self.now }
     {
         self.observations.as_slice()
     }
 
-    /// An equal reading.
+    /// A copy of the reading. Fails only where memory runs out.
     pub fn copy(&self) -> Result<Reading, AllocError>
         ensures { IfOk result (λ reading. reading ≡ self.now) }
     {
@@ -123,7 +124,8 @@ impl Reading {
     }
 }
 
-/// Whether each key of a reading sees in a tree what it saw, or the first that doesn't. It takes no memory.
+/// Whether a tree agrees with a reading: each of its keys sees there what it saw. The error is the first key that sees something
+/// else. Takes no memory.
 pub fn agrees<'a>(tree: &Tree, reading: &'a Reading) -> Result<(), &'a Key>
     ensures { MatchResult result (λ _. HoldsIn tree.now reading.now) (λ key. IsFirstOther tree.now reading.now key.now) }
 {

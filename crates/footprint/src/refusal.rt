@@ -13,7 +13,7 @@ pub enum Subject {
 }
 
 impl Subject {
-    /// An equal subject.
+    /// A copy of the subject. Fails only where memory runs out.
     pub fn copy(&self) -> Result<Subject, AllocError>
         ensures { IfOk result (λ subject. subject ≡ self.now) }
     {
@@ -52,7 +52,7 @@ pub enum Refusal {
 }
 
 impl Refusal {
-    /// An equal refusal.
+    /// A copy of the refusal. Fails only where memory runs out.
     pub fn copy(&self) -> Result<Refusal, AllocError>
         ensures { IfOk result (λ refusal. refusal ≡ self.now) }
     {

@@ -2,13 +2,13 @@
 ghost use Rattle.std.specs.Prelude.{◌≡◌};
 ghost use Rattle.footprint.specs.Keys.{is_marked, touches};
 
-use crate::belonging::belongs;
 use crate::key::{Key, is_dependency, is_preset};
-use link_tree::{Change, Entry, Scope, TreePath};
+use link_tree::{Change, Entry, Scope, TreePath, belongs};
 use unit_name::UnitName;
 
-/// Whether a change touches what a key looks at: the cell of its path, the names to which its entry before or after
-/// belongs, the presets or the dependencies where it is at a slot of theirs.
+/// Whether a change touches what a key looks at: the cell of its path, the names in a scope to which its entry before or after
+/// belongs, the presets or the dependencies where its path is one of theirs. What a change doesn't touch a key sees as before; an
+/// undo is refused where a later reading has a key that its changes touch. Takes no memory.
 pub fn touches(change: &Change, key: &Key) -> bool
     ensures { result ≡ touches change.now key.now }
 {

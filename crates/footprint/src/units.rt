@@ -20,7 +20,7 @@ impl Model for Units {
 }
 
 impl Units {
-    /// No names.
+    /// No names. Takes no memory.
     pub fn none(alloc: Global) -> Units
         ensures { result ≡ [] }
     {
@@ -29,7 +29,7 @@ impl Units {
         }
     }
 
-    /// One name more.
+    /// Adds a name. Where memory runs out the list stays as it was.
     pub fn push(&mut self, name: UnitName) -> Result<(), AllocError>
         ensures ok { OnOk result (self.new ≡ self.old ++ name ∷ []) }
         ensures err { OnErr result (self.new ≡ self.old) }
@@ -37,20 +37,21 @@ impl Units {
         Ok(self.names.push(name)?)
     }
 
+    /// The names, in order.
     pub fn as_slice(&self) -> &[UnitName]
         ensures { result.now ≡ self.now }
     {
         &self.names
     }
 
-    /// Whether the names are equal, in their order.
+    /// Whether these are the same names, in the same order.
     pub fn same(&self, other: &Units) -> bool
         ensures { IsTrue result ↔ (self.now ≡ other.now) }
     {
         self.as_slice() == other.as_slice()
     }
 
-    /// Equal names.
+    /// A copy of the names. Fails only where memory runs out.
     pub fn copy(&self) -> Result<Units, AllocError>
         ensures { IfOk result (λ units. units ≡ self.now) }
     {

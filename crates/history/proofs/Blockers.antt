@@ -1,7 +1,7 @@
 -- What is read of rows to see whether one may be undone.
 use Rattle.std.proofs.Common.{◌≡◌, ◌+◌, ◌-◌, ℕ, Bool, true, false, cond, List, Option, Some, None, is_some, take, drop, length, sym, ap, ◌∙◌}
 use Rattle.std.proofs.lemmas.List.{take_rest}
-use Rattle.link_tree.specs.declared.entry.Change.{Change}
+use Rattle.link_tree.specs.declared.change.Change.{Change}
 use Rattle.history.specs.declared.row.UndoRefusal.{UndoRefusal}
 use Rattle.history.specs.declared.row.Row.{Row}
 use Rattle.history.specs.Rows.{row_at, or_blocked, row_refusal, accepted, survivor, first_met, blocker_at, blocker, refusal_at, undo_refusal}

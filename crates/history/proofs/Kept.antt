@@ -2,8 +2,8 @@
 use Rattle.std.proofs.Common.{◌≡◌, ◌+◌, ◌-◌, ◌<◌, ◌≤◌, ℕ, zero, suc, Bool, true, List, [], ◌∷◌, ◌++◌, Option, Some, None, slice_get, get_or, set, length-append, length, refl, sym, ap, subst, ◌∙◌, arith, All}
 use Rattle.std.proofs.lemmas.Option.{slice_get_within, slice_get_read}
 use Rattle.std.proofs.lemmas.List.Elements.{All-head, All-tail, All-cons, All-nil, All-append}
-use Rattle.link_tree.specs.Slots.{is_slot}
-use Rattle.link_tree.specs.Trees.{Entries, AreFrom, after_changes, turned}
+use Rattle.unit_paths.specs.Slots.{is_slot}
+use Rattle.link_tree.specs.Trees.{Entries, AreFrom, after_changes, inverse_of}
 use Rattle.footprint.specs.Inquiry.{Inquiry}
 use Rattle.footprint.specs.Operations.{Effect, outcome_of, OperationLaws}
 use Rattle.history.specs.declared.row.UndoRefusal.{UndoRefusal}
@@ -104,8 +104,8 @@ module _ {O : Type 0} {asks : O → Bool} {meaning : O → Inquiry Effect} (laws
   -- what an undo that isn't refused may rely on: the changes of its row can be taken back, and that keeps the history
   pub record CanBeTakenBack (operator : List ℕ) (first tree : Entries) (rows : List (Row O)) (limit n : ℕ) (row : Row O) : Type 0 where
     pub slots : ChangesSlots row
-    pub from : AreFrom tree (turned row.changes)
-    pub kept : IsKept asks meaning first (after_changes (turned row.changes) tree) (undone rows n (length rows + 1) ++ row_of_undo operator n (Undid n) ∷ []) limit
+    pub from : AreFrom tree (inverse_of row.changes)
+    pub kept : IsKept asks meaning first (after_changes (inverse_of row.changes) tree) (undone rows n (length rows + 1) ++ row_of_undo operator n (Undid n) ∷ []) limit
 
   can_be_taken_back : (operator : List ℕ) (first tree : Entries) (rows : List (Row O)) (limit n : ℕ) (row : Row O) → length rows < limit → IsKept asks meaning first tree rows limit → undo_refusal asks rows n ≡ None → row_at rows n ≡ Some row
       → CanBeTakenBack operator first tree rows limit n row
@@ -119,11 +119,11 @@ module _ {O : Type 0} {asks : O → Bool} {meaning : O → Inquiry Effect} (laws
       let parts = removed laws rows first k (suc k + 1) by found.0 (alike_kept first rows kept.legal) free.here free.stands free.unblocked in
       subst (CanBeTakenBack operator first tree rows limit (suc k)) same (record {
         slots = slots_at rows k found.0 kept.slots free.here;
-        from = subst (λ (u : Entries). AreFrom u (turned found.0.changes)) (sym kept.tree_is) parts.2;
+        from = subst (λ (u : Entries). AreFrom u (inverse_of found.0.changes)) (sym kept.tree_is) parts.2;
         kept = record {
           legal = subst (λ (o : Option UndoRefusal). rows_undone operator rows (suc k) o ≡ run asks meaning first [] (calls_of (rows_undone operator rows (suc k) o))) is
               (legal-after asks meaning first rows (operator, Undo (suc k)) kept.legal);
-          tree_is = ap (after_changes (turned found.0.changes)) kept.tree_is ∙ sym parts.1 ∙ sym (replay-push asks meaning first (mark rows k by) last);
+          tree_is = ap (after_changes (inverse_of found.0.changes)) kept.tree_is ∙ sym parts.1 ∙ sym (replay-push asks meaning first (mark rows k by) last);
           slots = slots-push (mark rows k by) last (mark_slots rows k by kept.slots) (All-nil (λ change. is_slot change.path ≡ true));
           few = omega (arith, length-append (mark rows k by) (last ∷ []), length-mark rows k by);
           bounded = kept.bounded;

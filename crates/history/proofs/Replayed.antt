@@ -3,9 +3,9 @@ use Rattle.std.proofs.Common.{◌≡◌, ◌+◌, ◌&&◌, ◌||◌, ℕ, zero,
 use Rattle.std.specs.List.{list_any}
 use Rattle.std.proofs.lemmas.Bool.{cases_Bool, or_parts, false≢true}
 use Rattle.std.proofs.lemmas.List.Elements.{All-cons, All-nil, All-map, All-weaker}
-use Rattle.link_tree.specs.declared.entry.Change.{Change}
-use Rattle.link_tree.specs.Trees.{Entries, AreFrom, after_changes, turned}
-use Rattle.link_tree.proofs.Changed.{turned_from, turned_back}
+use Rattle.link_tree.specs.declared.change.Change.{Change}
+use Rattle.link_tree.specs.Trees.{Entries, AreFrom, after_changes, inverse_of}
+use Rattle.link_tree.proofs.Changed.{inverse_from, inverse_undoes}
 use Rattle.footprint.specs.declared.outcome.Outcome.{Outcome}
 use Rattle.footprint.specs.declared.reading.Observation.{Observation}
 use Rattle.footprint.specs.Inquiry.{Inquiry}
@@ -13,7 +13,7 @@ use Rattle.footprint.specs.Keys.{touches, Untouched}
 use Rattle.footprint.specs.Operations.{Effect, is_refused, outcome_of, OperationLaws}
 use Rattle.footprint.specs.Readings.{keys_of, reading_of}
 use Rattle.footprint.proofs.Outcomes.{untouched_keys}
-use Rattle.footprint.proofs.Untouched.{untouched-turned, untouched_step}
+use Rattle.footprint.proofs.Untouched.{untouched-inverse, untouched_step}
 use Rattle.history.specs.declared.row.UndoRefusal.{UndoRefusal}
 use Rattle.history.specs.declared.row.Row.{Row}
 use Rattle.history.specs.declared.row.Request.TheVariants.{Do, Undo}
@@ -147,26 +147,26 @@ module _ {O : Type 0} {asks : O → Bool} {meaning : O → Inquiry Effect} (laws
 
   -- one command with changes taken back before it that touch nothing that it looks at: it does the same, and they can be taken
   -- back after it
-  row_without : (cs : List Change) (o : Option O) (t : Entries) (row : Row O) → AnswersHere asks meaning o t row → AreFrom t (turned cs) → (is_some o && meets cs row.reading) ≡ false
-      → AnswersHere asks meaning o (after_changes (turned cs) t) row
-      × (after asks meaning o (after_changes (turned cs) t) ≡ after_changes (turned cs) (after asks meaning o t))
-      × AreFrom (after asks meaning o t) (turned cs)
+  row_without : (cs : List Change) (o : Option O) (t : Entries) (row : Row O) → AnswersHere asks meaning o t row → AreFrom t (inverse_of cs) → (is_some o && meets cs row.reading) ≡ false
+      → AnswersHere asks meaning o (after_changes (inverse_of cs) t) row
+      × (after asks meaning o (after_changes (inverse_of cs) t) ≡ after_changes (inverse_of cs) (after asks meaning o t))
+      × AreFrom (after asks meaning o t) (inverse_of cs)
   row_without cs None t row h from apart = (tt, refl, from)
   row_without cs (Some c) t row h from apart =
       let keys = (meaning c).keys t in
       let seen : Untouched cs (keys_of (reading_of keys t)) = subst (λ (r : List Observation). Untouched cs (keys_of r)) h.2 (not_meeting cs row.reading apart) in
-      let one = untouched_step laws (turned cs) c t from (untouched-turned cs keys (untouched_keys cs keys t seen)) in
-      let u : Entries = after_changes (turned cs) t in (
+      let one = untouched_step laws (inverse_of cs) c t from (untouched-inverse cs keys (untouched_keys cs keys t seen)) in
+      let u : Entries = after_changes (inverse_of cs) t in (
         (h.0 ∙ ap (λ (o : Outcome). Answered o.answer) one.0, h.1 ∙ ap (λ (o : Outcome). o.changes) one.0, h.2 ∙ ap (λ (o : Outcome). o.reading) one.0),
         ap (λ (o : Outcome). after_changes o.changes u) (sym one.0) ∙ one.1,
         one.2,
       )
 
   -- without those changes the later rows answer as they did, and the tree in the end is the same without them
-  rows_without : (cs : List Change) (rows : List (Row O)) (t : Entries) (at : ℕ) → AnswersAlike asks meaning t rows → AreFrom t (turned cs) → first_met asks cs rows at ≡ None
-      → AnswersAlike asks meaning (after_changes (turned cs) t) rows
-      × (replay asks meaning (after_changes (turned cs) t) rows ≡ after_changes (turned cs) (replay asks meaning t rows))
-      × AreFrom (replay asks meaning t rows) (turned cs)
+  rows_without : (cs : List Change) (rows : List (Row O)) (t : Entries) (at : ℕ) → AnswersAlike asks meaning t rows → AreFrom t (inverse_of cs) → first_met asks cs rows at ≡ None
+      → AnswersAlike asks meaning (after_changes (inverse_of cs) t) rows
+      × (replay asks meaning (after_changes (inverse_of cs) t) rows ≡ after_changes (inverse_of cs) (replay asks meaning t rows))
+      × AreFrom (replay asks meaning t rows) (inverse_of cs)
   rows_without cs [] t at h from none = (tt, refl, from)
   rows_without cs (row ∷ rows) t at h from none =
       let parts = not_first (is_some (survivor asks row) && meets cs row.reading) at (first_met asks cs rows (at + 1)) none in
@@ -176,19 +176,19 @@ module _ {O : Type 0} {asks : O → Bool} {meaning : O → Inquiry Effect} (laws
 
   removed_first : (rows : List (Row O)) (t : Entries) (at : ℕ) (r : Row O) (c : O) → survivor asks r ≡ Some c → AnswersAlike asks meaning t (r ∷ rows) → first_met asks r.changes rows at ≡ None
       → AnswersAlike asks meaning t rows
-      × (replay asks meaning t rows ≡ after_changes (turned r.changes) (replay asks meaning t (r ∷ rows)))
-      × AreFrom (replay asks meaning t (r ∷ rows)) (turned r.changes)
+      × (replay asks meaning t rows ≡ after_changes (inverse_of r.changes) (replay asks meaning t (r ∷ rows)))
+      × AreFrom (replay asks meaning t (r ∷ rows)) (inverse_of r.changes)
   removed_first rows t at r c there h none =
       let here = subst (λ (o : Option O). AnswersHere asks meaning o t r) there h.0 in
       let cs = r.changes in
       let from : AreFrom t cs = subst (AreFrom t) (sym here.1) (laws.changes c t).from in
       let u : Entries = after_changes cs t in
       let u_is : after asks meaning (survivor asks r) t ≡ u = ap (λ (o : Option O). after asks meaning o t) there ∙ ap (λ (xs : List Change). after_changes xs t) (sym here.1) in
-      let rest = rows_without cs rows u at (subst (λ (x : Entries). AnswersAlike asks meaning x rows) u_is h.1) (turned_from t cs from) none in
-      let back : after_changes (turned cs) u ≡ t = turned_back t cs from in (
+      let rest = rows_without cs rows u at (subst (λ (x : Entries). AnswersAlike asks meaning x rows) u_is h.1) (inverse_from t cs from) none in
+      let back : after_changes (inverse_of cs) u ≡ t = inverse_undoes t cs from in (
         subst (λ (x : Entries). AnswersAlike asks meaning x rows) back rest.0,
-        ap (λ (x : Entries). replay asks meaning x rows) (sym back) ∙ rest.1 ∙ ap (λ (x : Entries). after_changes (turned cs) (replay asks meaning x rows)) (sym u_is),
-        subst (λ (x : Entries). AreFrom (replay asks meaning x rows) (turned cs)) (sym u_is) rest.2,
+        ap (λ (x : Entries). replay asks meaning x rows) (sym back) ∙ rest.1 ∙ ap (λ (x : Entries). after_changes (inverse_of cs) (replay asks meaning x rows)) (sym u_is),
+        subst (λ (x : Entries). AreFrom (replay asks meaning x rows) (inverse_of cs)) (sym u_is) rest.2,
       )
 
   -- THE REMOVAL: where no later survivor looked at what a survivor changed, taking its changes back from the tree gives the
@@ -196,14 +196,14 @@ module _ {O : Type 0} {asks : O → Bool} {meaning : O → Inquiry Effect} (laws
   pub removed : (rows : List (Row O)) (t : Entries) (k at by : ℕ) (row : Row O) → AnswersAlike asks meaning t rows → slice_get rows k ≡ Some row → is_some (survivor asks row) ≡ true
       → first_met asks row.changes (drop (suc k) rows) at ≡ None
       → AnswersAlike asks meaning t (mark rows k by)
-      × (replay asks meaning t (mark rows k by) ≡ after_changes (turned row.changes) (replay asks meaning t rows))
-      × AreFrom (replay asks meaning t rows) (turned row.changes)
+      × (replay asks meaning t (mark rows k by) ≡ after_changes (inverse_of row.changes) (replay asks meaning t rows))
+      × AreFrom (replay asks meaning t rows) (inverse_of row.changes)
   removed [] t k at by row h is stands none = cc
   removed (r ∷ rows) t zero at by row h is stands none =
       let same : row ≡ r = cc in
       let some = some_of (survivor asks r) (subst (λ (x : Row O). is_some (survivor asks x) ≡ true) same stands) in
       let one = removed_first rows t at r some.0 some.1 h (subst (λ (x : Row O). first_met asks x.changes rows at ≡ None) same none) in
-      ((tt, one.0), one.1 ∙ ap (λ (x : Row O). after_changes (turned x.changes) (replay asks meaning t (r ∷ rows))) (sym same), subst (λ (x : Row O). AreFrom (replay asks meaning t (r ∷ rows)) (turned x.changes)) (sym same) one.2)
+      ((tt, one.0), one.1 ∙ ap (λ (x : Row O). after_changes (inverse_of x.changes) (replay asks meaning t (r ∷ rows))) (sym same), subst (λ (x : Row O). AreFrom (replay asks meaning t (r ∷ rows)) (inverse_of x.changes)) (sym same) one.2)
   removed (r ∷ rows) t (suc k) at by row h is stands none =
       let rest = removed rows (after asks meaning (survivor asks r) t) k at by row h.1 is stands none in
       ((h.0, rest.0), rest.1, rest.2)

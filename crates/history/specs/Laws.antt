@@ -1,6 +1,6 @@
 -- What holds of all histories, each law the contract of a public function.
 use Rattle.std.specs.Prelude.{◌≡◌, ℕ, Bool, true, List, [], Some, None, is_some}
-use Rattle.link_tree.specs.Trees.{Entries, AreFrom, after_changes, turned}
+use Rattle.link_tree.specs.Trees.{Entries, AreFrom, after_changes, inverse_of}
 use Rattle.footprint.specs.Inquiry.{Inquiry}
 use Rattle.footprint.specs.Operations.{Effect}
 use Rattle.history.specs.declared.row.Row.{Row}
@@ -11,8 +11,8 @@ module _ {O : Type 0} (asks : O → Bool) (meaning : O → Inquiry Effect) where
   -- every other survivor answers there as its row says.
   abbrev pub IsRemovable : Entries → List (Row O) → Type 0
   IsRemovable first rows = (n by : ℕ) (row : Row O) → row_at rows n ≡ Some row → is_some (survivor asks row) ≡ true → blocker asks rows n ≡ None
-      → AreFrom (replay asks meaning first rows) (turned row.changes)
-      × (replay asks meaning first (undone rows n by) ≡ after_changes (turned row.changes) (replay asks meaning first rows))
+      → AreFrom (replay asks meaning first rows) (inverse_of row.changes)
+      × (replay asks meaning first (undone rows n by) ≡ after_changes (inverse_of row.changes) (replay asks meaning first rows))
       × AnswersAlike asks meaning first (undone rows n by)
 
   -- What the machine's rows say is what the replay of the survivors does, the rows that are undone are those of which there

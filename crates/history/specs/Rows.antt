@@ -1,8 +1,8 @@
 -- The machine: its whole state is the first tree and the rows, one for each call.
 use Rattle.std.specs.Prelude.{◌≡◌, ◌+◌, ◌≤◌, ◌↔◌, ℕ, zero, suc, Bool, true, false, ◌&&◌, ◌||◌, if◌then◌else◌, Option, Some, None, is_some, List, [], ◌∷◌, ◌++◌, length, slice_get, drop, All}
 use Rattle.std.specs.List.{list_any}
-use Rattle.link_tree.specs.declared.entry.Change.{Change}
-use Rattle.link_tree.specs.Slots.{is_slot}
+use Rattle.link_tree.specs.declared.change.Change.{Change}
+use Rattle.unit_paths.specs.Slots.{is_slot}
 use Rattle.link_tree.specs.Trees.{Entries, after_changes}
 use Rattle.footprint.specs.declared.answer.Answer.{Answer}
 use Rattle.footprint.specs.declared.outcome.Outcome.{Outcome}

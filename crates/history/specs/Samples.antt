@@ -1,22 +1,20 @@
 -- What the operations mean that the tests run.
-use Rattle.std.specs.Prelude.{◌≡◌, ◌≢◌, ℕ, Bool, true, false, List, [], ◌∷◌, All, Contains, Option, Some, None, Result, Ok, Err, refl}
+use Rattle.std.specs.Prelude.{◌≡◌, ◌≢◌, ℕ, Bool, true, false, List, [], All, Contains, Option, Some, None, Ok, Err, refl}
 use Rattle.std.specs.List.Sorted.{IsStrictlySortedBy}
-use Rattle.std.specs.FinMap as map
 use Rattle.std.proofs.Common.{sym}
 use Rattle.std.proofs.lemmas.Bool.{true≢false}
-use Rattle.std.proofs.lemmas.List.Elements.{All-head, All-nil, All-cons, All-contains_itself}
-use Rattle.link_tree.specs.declared.entry.Entry.{Entry}
+use Rattle.std.proofs.lemmas.List.Elements.{All-nil}
 use Rattle.link_tree.specs.declared.entry.Entry.TheVariants.{File}
 use Rattle.link_tree.specs.Trees.{Entries}
 use Rattle.footprint.specs.declared.answer.Answer.TheVariants.{State}
 use Rattle.footprint.specs.declared.answer.StateWord.TheVariants.{Static}
 use Rattle.footprint.specs.declared.key.Key.TheVariants.{Cell}
-use Rattle.footprint.specs.declared.refusal.Refusal.{Refusal}
 use Rattle.footprint.specs.declared.refusal.Refusal.TheVariants.{Exists, Absent}
 use Rattle.footprint.specs.Inquiry.{Inquiry, look, giving}
 use Rattle.footprint.specs.Operations.{Effect, AreChanges, OperationLaws, is_refused}
-use Rattle.footprint.specs.Steps.{Rule, ruled_at, ruled}
-use Rattle.footprint.specs.Commands.{IsLookedAt, carried_out, laws_of}
+use Rattle.footprint.specs.Placing.{Rule}
+use Rattle.footprint.specs.Steps.{ruled, carried_out}
+use Rattle.footprint.proofs.Carried.{laws_of}
 
 -- an empty file is put where nothing stands, or what stands there is taken away, or it is only looked at
 abbrev pub left : Option Bool → Rule
@@ -26,12 +24,8 @@ left (Some true) slot (Some entry) = Err (Exists slot)
 left (Some false) slot None = Err (Absent slot)
 left (Some false) slot (Some entry) = Ok None
 
-pub looked_at : (slot : List ℕ) (verdict : Result (Option Entry) Refusal) → IsLookedAt (slot ∷ []) (ruled_at slot verdict)
-looked_at slot (Ok entry) = All-cons (λ p. Contains (slot ∷ []) p.0) (slot, entry) [] (All-head (Contains (slot ∷ [])) slot [] (All-contains_itself (slot ∷ []))) (All-nil (λ p. Contains (slot ∷ []) p.0))
-looked_at slot (Err refusal) = tt
-
 abbrev pub commanded : Option Bool → List ℕ → Inquiry Effect
-commanded how slot = carried_out (ruled (left how) slot) (λ t. looked_at slot (left how slot (map.get t slot)))
+commanded how slot = carried_out (ruled (left how) slot)
 
 -- a step that asks changes nothing
 abbrev pub step_meaning : Bool → Option Bool → List ℕ → Inquiry Effect
@@ -39,7 +33,7 @@ step_meaning true how slot = giving (look (Cell slot)) (λ seen. record { answer
 step_meaning false how slot = commanded how slot
 
 commanded_laws : OperationLaws {O = Option Bool × List ℕ} (λ c. false) (λ c. commanded c.0 c.1)
-commanded_laws = laws_of (λ c. ruled (left c.0) c.1) (λ c t. looked_at c.1 (left c.0 c.1 (map.get t c.1)))
+commanded_laws = laws_of (λ c. ruled (left c.0) c.1)
 
 -- no changes are changes of any tree
 no_changes : (t : Entries) → AreChanges t []

@@ -1,7 +1,7 @@
 //! The calls so far, and the tree that they leave.
 ghost use Rattle.std.specs.Prelude.{◌≡◌, ◌≤◌, ◌<◌, ◌+◌, ◌↔◌, [], None, Some, length, true, All, IfOk, IfErr, OnOk, OnErr, vec_len, vec_capacity};
 ghost use Rattle.std.specs.List.{list_any};
-ghost use Rattle.link_tree.specs.Slots.{is_slot};
+ghost use Rattle.unit_paths.specs.Slots.{is_slot};
 ghost use Rattle.link_tree.specs.Trees.{after_changes};
 ghost use Rattle.footprint.specs.Keys.{touches};
 ghost use Rattle.footprint.specs.Operations.{outcome_of};
@@ -66,13 +66,15 @@ impl<O: Operation> Model for History<O> {
     ghost use Rattle.std.specs.FinMap as map;
     ghost use Rattle.link_tree.specs.Trees.{Entries, path_cmp};
     ghost use Rattle.link_tree.specs.Values.{coded_path, coded_entry};
+    ghost use Rattle.unit_file.specs.Notices.{line_cmp};
+    ghost use Rattle.unit_file.specs.declared.notice.Notice.{Notice};
     ghost use Rattle.history.specs.declared.row.Row.{Row};
     ghost use Rattle.history.specs.Logs.{Log, parts_of, of_parts, of_own_parts};
     ghost use Rattle.history.specs.Rows.{IsKept};
 
     ghost Value = { Log O };
 
-    ghost coded = { code_by (Entries × List (Row O) × ℕ) (Prim.hlevel (codes, map.code {R = path_cmp} coded_path coded_entry)) parts_of of_parts of_own_parts };
+    ghost coded = { code_by (Entries × List (Row O) × ℕ) (Prim.hlevel (codes, map.code {R = path_cmp} coded_path coded_entry, map.code {X = Notice} {R = line_cmp} coded_path (Prim.hlevel codes))) parts_of of_parts of_own_parts };
 
     ghost view = { λ history. record { first = history.first; rows = history.rows.items; limit = history.limit } };
 
@@ -228,7 +230,7 @@ impl<O: Operation> History<O> {
         ensures err { OnErr result (self.new ≡ self.old) }
     {
         let place = n as usize - 1;
-        let back = self.rows[place].changes.turned()?;
+        let back = self.rows[place].changes.inverse()?;
         let row = Row::of_undo(alloc, operator, n, RowReply::Undid(n));
         self.rows.reserve(1)?;
         self.tree.make_changes(back.as_slice())?;

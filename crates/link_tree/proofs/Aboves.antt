@@ -6,51 +6,17 @@ use Rattle.std.specs.Str.{bytes_eq}
 use Rattle.std.specs.FinMap as map
 use Rattle.std.specs.FinMap.{contains_key-keys}
 use Rattle.std.specs.Ordering.{eq_by_cmp}
-use Rattle.std.proofs.lemmas.Bool.{cases_Bool, false≢true, and_parts, and_right, or_parts, eqb-true, eq-eqb, ne_eqb, false_from_ne_true}
+use Rattle.std.proofs.lemmas.Bool.{cases_Bool, false≢true, and_parts, false_from_ne_true}
 use Rattle.std.proofs.lemmas.Slice.Eq.{bytes_eq-Decides}
+use Rattle.unit_paths.proofs.Aboves.{beneath-parent, not_empty, root_is}
 use Rattle.link_tree.specs.declared.entry.Entry.{Entry}
-use Rattle.link_tree.specs.Paths.{is_slash, is_path, is_absolute, is_root}
-use Rattle.link_tree.specs.Canonical.{parent, parent_of}
+use Rattle.unit_paths.specs.Paths.{is_slash, is_path, is_absolute, is_root, parent, parent_of}
 use Rattle.link_tree.specs.Values.{is_entry}
 use Rattle.link_tree.specs.Trees.{Entries, path_cmp}
-use Rattle.link_tree.specs.Shape.{IsTree, fits_at, is_beneath}
+use Rattle.link_tree.specs.Shape.{IsTree, fits_at}
+use Rattle.unit_paths.specs.Shape.{is_beneath}
 use Rattle.link_tree.proofs.Keys.{same-found, any-keys}
 use Rattle.link_tree.proofs.Shapes.{same_key}
-
--- a slash stands in what is beneath something
-beneath-slash : (path above : List ℕ) → list_any is_slash path ≡ false → is_beneath path above ≡ false
-unfolding is_beneath
-beneath-slash [] above none = refl
-beneath-slash (b ∷ bs) [] none = (or_parts (is_slash b) (list_any is_slash bs) none).0
-beneath-slash (b ∷ bs) (a ∷ rest) none = and_right (b == a) (is_beneath bs rest) (beneath-slash bs rest (or_parts (is_slash b) (list_any is_slash bs) none).1)
-
-first_slash : (x y : Bool) → y ≡ false → (x || y) ≡ true → x ≡ true
-first_slash true y off some = refl
-first_slash false y off some = absurd (false≢true (sym off ∙ some))
-
-and_or : (x y z : Bool) → (x && (y || z)) ≡ (x && y || x && z)
-and_or true y z = refl
-and_or false y z = refl
-
-eqb-sym : (a b : ℕ) → (a == b) ≡ (b == a)
-eqb-sym a b = elim (cases_Bool (a == b)) [
-  | inl same ↦ same ∙ sym (eq-eqb b a (sym (eqb-true a b same)))
-  | inr other ↦ other ∙ sym (ne_eqb b a (λ same. false≢true (sym other ∙ eq-eqb a b (sym same))))
-]
-
--- a path lies beneath its directory, and beneath what that lies beneath
-beneath-parent : (path above : List ℕ) → list_any is_slash path ≡ true → is_beneath path above ≡ (bytes_eq above (parent path) || is_beneath (parent path) above)
-unfolding is_beneath parent
-beneath-parent [] above some = absurd (false≢true some)
-beneath-parent (b ∷ bs) [] some = elim (cases_Bool (list_any is_slash bs)) [
-  | inl later ↦ rw later refl
-  | inr none ↦ rw none (first_slash (is_slash b) (list_any is_slash bs) none some)
-]
-beneath-parent (b ∷ bs) (a ∷ rest) some = elim (cases_Bool (list_any is_slash bs)) [
-  | inl later ↦ (let turned : (a == b) ≡ (b == a) = eqb-sym a b in
-      rw (later, turned, beneath-parent bs rest later) (and_or (b == a) (bytes_eq rest (parent bs)) (is_beneath (parent bs) rest)))
-  | inr none ↦ rw (none, beneath-slash bs rest none) (and_right (b == a) false refl)
-]
 
 -- whether an entry stands at a directory or above it
 abbrev pub found_above : Entries → Option (List ℕ) → Bool
@@ -92,15 +58,6 @@ unfolding fits_at
 key_path m q tree key =
     let at = some_of (map.get m q) (contains_key-keys m q ∙ key) in
     (and_parts (is_path q) _ (and_parts (is_path q && is_entry at.0) _ (tree.fits q at.0 at.1)).0).0
-
-root_is : (text : List ℕ) → is_root text ≡ true → text ≡ []
-root_is [] h = refl
-root_is (b ∷ bs) h = absurd (false≢true h)
-
-not_empty : (q : List ℕ) → is_path q ≡ true → bytes_eq q [] ≡ false
-unfolding is_path is_absolute
-not_empty [] is = absurd (false≢true is)
-not_empty (b ∷ bs) is = refl
 
 pub found-parent : (m : Entries) (path : List ℕ) → IsTree m → is_path path ≡ true → found_above m (parent_of path) ≡ list_any (is_beneath path) (map.keys m)
 unfolding is_beneath

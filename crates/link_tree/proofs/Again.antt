@@ -20,20 +20,22 @@ use Rattle.std.proofs.lemmas.Map.Lookups.{exact_bytes}
 use Rattle.std.proofs.lemmas.Bool.{cases_Bool, and_parts, and_from, eqb-false, eq-eqb, not-true, false≢true, leb-true}
 use Rattle.std.proofs.lemmas.Grind.{common_steps}
 use Rattle.std.proofs.lemmas.List.Folds.{list_all-append}
-use Rattle.link_tree.specs.Paths.{is_path, is_target, is_text_byte}
-use Rattle.link_tree.specs.Lines.{Whole, front_line, after_byte}
+use Rattle.unit_paths.specs.Paths.{is_path, is_target, is_text_byte}
+use Rattle.byte_streams.specs.Lines.{Whole, front_line, after_byte}
 use Rattle.link_tree.specs.Trees.{Entries, path_cmp, entry_line}
 use Rattle.link_tree.specs.Files.{is_contents}
 use Rattle.link_tree.specs.Values.{is_entry}
 use Rattle.link_tree.specs.EntryLines.{fields_of, two_fields, cut_at_tab, is_tab, file_line, by_letter, line_of}
-use Rattle.link_tree.specs.Inventory.{inventory_of, after_prefix, entries_at, entry_at, contents_at, placed}
+use Rattle.link_tree.specs.Inventory.{inventory_of, entries_at, entry_at, contents_at, placed}
+use Rattle.byte_streams.specs.Blocks.{after_prefix}
 use Rattle.link_tree.specs.declared.entry_line.EntryLine.TheVariants as lines
-use Rattle.link_tree.specs.Shape.{IsTree, fits_at, is_crowded, is_close, is_bad_shape}
+use Rattle.link_tree.specs.Shape.{IsTree, fits_at, is_crowded}
+use Rattle.unit_paths.specs.Shape.{is_close, is_bad_shape}
 use Rattle.link_tree.specs.declared.entry.Entry.{Entry}
 use Rattle.link_tree.specs.declared.entry.Entry.TheVariants.{File, Link}
 use Rattle.link_tree.specs.Laws.{ReadsBack}
 use Rattle.link_tree.proofs.Keys.{same-found, any-keys}
-use Rattle.link_tree.proofs.Lines.{front_line-byte}
+use Rattle.byte_streams.proofs.Pieces.{front_line-byte}
 use Rattle.link_tree.proofs.Entries.{next_of, entries_at-end, entries_at-more}
 use Rattle.link_tree.proofs.Lengths.{digit_bounds, decimal_digits, length_of_decimal}
 

@@ -9,9 +9,9 @@ use Rattle.std.proofs.lemmas.List.Elements.{All-map}
 use Rattle.std.proofs.lemmas.Map.Lookups.{exact_bytes}
 use Rattle.std.proofs.lemmas.Slice.Eq.{bytes_eq-Decides}
 use Rattle.link_tree.specs.declared.entry.Entry.{Entry}
-use Rattle.link_tree.specs.declared.entry.Change.{Change}
-use Rattle.link_tree.specs.Slots.{is_slot}
-use Rattle.link_tree.specs.Trees.{path_cmp, Entries, set_entry, after_change, after_changes, KeepsPath, AreFrom, taken_back, turned}
+use Rattle.link_tree.specs.declared.change.Change.{Change}
+use Rattle.unit_paths.specs.Slots.{is_slot}
+use Rattle.link_tree.specs.Trees.{path_cmp, Entries, set_entry, after_change, after_changes, KeepsPath, AreFrom, taken_back, inverse_of}
 use Rattle.link_tree.proofs.Keys.{same-found}
 use Rattle.link_tree.proofs.Shapes.{same_key}
 
@@ -73,9 +73,9 @@ after_at-kept [] q o h = refl
 after_at-kept (c ∷ cs) q o h = ap (λ b. after_at cs q (cond b c.after o)) h.0 ∙ after_at-kept cs q o h.1
 
 -- taken back, changes are of the same paths
-turned_keep : (changes : List Change) (q : List ℕ) → KeepsPath q changes → KeepsPath q (turned changes)
-turned_keep [] q h = tt
-turned_keep (c ∷ cs) q h = (h.0, turned_keep cs q h.1)
+inverse_keeps : (changes : List Change) (q : List ℕ) → KeepsPath q changes → KeepsPath q (inverse_of changes)
+inverse_keeps [] q h = tt
+inverse_keeps (c ∷ cs) q h = (h.0, inverse_keeps cs q h.1)
 
 -- a change of another path leaves what the rest are from
 from_kept : (change : Change) (changes : List Change) (m : Entries) → KeepsPath change.path changes → AreFrom m changes → AreFrom (after_change change m) changes
@@ -84,30 +84,30 @@ from_kept c (d ∷ cs) m apart h =
     (get-set_other m c.path c.after d.path (other_bytes c.path d.path apart.0) ∙ h.0, h.1, from_kept c cs m apart.1 h.2)
 
 -- taken back, changes are from the tree that they left
-pub turned_from : (m : Entries) (changes : List Change) → AreFrom m changes → AreFrom (after_changes changes m) (turned changes)
-turned_from m [] h = tt
-turned_from m (c ∷ cs) h =
+pub inverse_from : (m : Entries) (changes : List Change) → AreFrom m changes → AreFrom (after_changes changes m) (inverse_of changes)
+inverse_from m [] h = tt
+inverse_from m (c ∷ cs) h =
     let next : Entries = after_change c m in
-    (get-after_changes cs next c.path ∙ after_at-kept cs c.path (map.get next c.path) h.1 ∙ get-set_same m c.path c.after, turned_keep cs c.path h.1, turned_from next cs (from_kept c cs m h.1 h.2))
+    (get-after_changes cs next c.path ∙ after_at-kept cs c.path (map.get next c.path) h.1 ∙ get-set_same m c.path c.after, inverse_keeps cs c.path h.1, inverse_from next cs (from_kept c cs m h.1 h.2))
 
 -- what stood at a path stands there again
-back_at : (m : Entries) (changes : List Change) (q : List ℕ) → AreFrom m changes → after_at (turned changes) q (after_at changes q (map.get m q)) ≡ map.get m q
+back_at : (m : Entries) (changes : List Change) (q : List ℕ) → AreFrom m changes → after_at (inverse_of changes) q (after_at changes q (map.get m q)) ≡ map.get m q
 back_at m [] q h = refl
 back_at m (c ∷ cs) q h =
-    let back : Bool → Option Entry = λ b. after_at (turned cs) q (cond b c.before (after_at cs q (cond b c.after (map.get m q)))) in
+    let back : Bool → Option Entry = λ b. after_at (inverse_of cs) q (cond b c.before (after_at cs q (cond b c.after (map.get m q)))) in
     elim (cases_Bool (bytes_eq q c.path)) [
       | inl here ↦ (let same = same_bytes q c.path here in
           ap back here
-          ∙ after_at-kept (turned cs) q c.before (turned_keep cs q (subst (λ p. KeepsPath p cs) (sym same) h.1))
+          ∙ after_at-kept (inverse_of cs) q c.before (inverse_keeps cs q (subst (λ p. KeepsPath p cs) (sym same) h.1))
           ∙ sym (ap (map.get m) same ∙ h.0))
       | inr away ↦ ap back away ∙ back_at m cs q h.2
     ]
 
 -- taken back, changes leave the very tree that they were made on
-pub turned_back : (m : Entries) (changes : List Change) → AreFrom m changes → after_changes (turned changes) (after_changes changes m) ≡ m
-turned_back m changes h = same_tree _ _ (λ q.
-    get-after_changes (turned changes) (after_changes changes m) q ∙ ap (after_at (turned changes) q) (get-after_changes changes m q) ∙ back_at m changes q h)
+pub inverse_undoes : (m : Entries) (changes : List Change) → AreFrom m changes → after_changes (inverse_of changes) (after_changes changes m) ≡ m
+inverse_undoes m changes h = same_tree _ _ (λ q.
+    get-after_changes (inverse_of changes) (after_changes changes m) q ∙ ap (after_at (inverse_of changes) q) (get-after_changes changes m q) ∙ back_at m changes q h)
 
 -- taken back, changes are of slots if they were
-pub turned_slots : (changes : List Change) → All (λ change. is_slot change.path ≡ true) changes → All (λ change. is_slot change.path ≡ true) (turned changes)
-turned_slots changes h = All-map (λ change. is_slot change.path ≡ true) taken_back changes h
+pub inverse_slots : (changes : List Change) → All (λ change. is_slot change.path ≡ true) changes → All (λ change. is_slot change.path ≡ true) (inverse_of changes)
+inverse_slots changes h = All-map (λ change. is_slot change.path ≡ true) taken_back changes h

@@ -7,7 +7,7 @@ use Rattle.std.proofs.lemmas.List.Concat.{flat_map-cons}
 use Rattle.std.proofs.lemmas.Bool.{leb-true}
 use Rattle.std.specs.FinMap as map
 use Rattle.std.specs.FinMap.{is_sorted, from_entries, entries_sorted, len-entries}
-use Rattle.link_tree.specs.Paths.{is_path}
+use Rattle.unit_paths.specs.Paths.{is_path}
 use Rattle.link_tree.specs.Files.{is_contents}
 use Rattle.link_tree.specs.Values.{is_entry}
 use Rattle.link_tree.specs.Trees.{Entries, path_cmp, entry_line, inventory_text}

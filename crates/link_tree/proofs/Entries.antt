@@ -5,18 +5,20 @@ use Rattle.std.specs.Prelude.{IsErr, IsErrAnd}
 use Rattle.std.proofs.lemmas.Bool.{leb-true}
 use Rattle.std.proofs.lemmas.Bool.Decides.{nat_tests}
 use Rattle.std.specs.FinMap as map
-use Rattle.link_tree.specs.Reads.{EntryOfFront, ReadsEntry, numbered}
-use Rattle.link_tree.specs.TreeReads.{TreeOf}
+use Rattle.byte_streams.specs.Reads.{ReadsFront}
+use Rattle.link_tree.specs.Reads.{TreeOf, numbered}
 use Rattle.link_tree.specs.declared.entry.Entry.{Entry}
-use Rattle.link_tree.specs.declared.inventory.InventoryError.{InventoryError}
-use Rattle.link_tree.specs.declared.inventory.InventoryError.TheVariants as inventories
-use Rattle.link_tree.specs.declared.inventory.EntryError.{EntryError}
-use Rattle.link_tree.specs.declared.inventory.EntryError.TheVariants as entries
-use Rattle.link_tree.specs.Lines.{front_line}
+use Rattle.byte_streams.specs.declared.read_error.ReadError.{ReadError}
+use Rattle.byte_streams.specs.declared.read_error.ReadError.TheVariants as errors
+use Rattle.link_tree.specs.declared.inventory_fault.InventoryError.{InventoryError}
+use Rattle.link_tree.specs.declared.inventory_fault.InventoryError.TheVariants as inventories
+use Rattle.byte_streams.specs.Lines.{front_line}
+use Rattle.byte_streams.specs.Blocks.{SkipsPrefix}
 use Rattle.link_tree.specs.Trees.{Entries}
-use Rattle.link_tree.specs.Inventory.{◌>>=◌, entry_at, placed, in_entry, entries_at}
-use Rattle.link_tree.specs.Waiting.{GivesOn, with_entry}
-use Rattle.link_tree.specs.declared.inventory.InventoryFault.{InventoryFault}
+use Rattle.link_tree.specs.Inventory.{◌>>=◌, entry_at, placed, in_entry, entries_at, header_of}
+use Rattle.link_tree.specs.Pending.{GivesOn, with_entry}
+use Rattle.link_tree.specs.declared.inventory_fault.InventoryFault.{InventoryFault}
+use Rattle.link_tree.specs.declared.inventory_fault.InventoryFault.TheVariants.{BadHeader}
 
 abbrev pub Next : Type 0
 Next = List ℕ × Entry
@@ -81,14 +83,14 @@ step more number (Ok m) bytes rest entry room e = one (placed m entry) refl
     one (Ok grown) p = entries_at-more more number m grown bytes rest entry room e p
     one (Err fault) p = entries_at-refused more number m bytes rest entry fault room e p
 
-module _ (first mid new : Option (List ℕ)) (number : ℕ) (read : Read) (so_far : Reached first mid number read) (r : Result (Option Next) EntryError) (reads : ReadsEntry (nat_le number 65536) mid new r) (bytes : List ℕ) (e : first ≡ Some bytes) where
-  seen : (x : Result (Option Next) EntryError) → r ≡ x → (rest : List ℕ) × EntryOfFront new x (next_of (65537 - number) rest) × ((read >>= λ m. entries_at (65537 - number) number m rest) ≡ entries_at 65536 1 map.empty bytes)
+module _ (first mid new : Option (List ℕ)) (number : ℕ) (read : Read) (so_far : Reached first mid number read) (r : Result (Option Next) (ReadError InventoryFault)) (reads : (bytes : List ℕ) → mid ≡ Some bytes → ReadsFront (λ o. o) new r (entry_at (nat_le number 65536) (front_line 16384 bytes))) (bytes : List ℕ) (e : first ≡ Some bytes) where
+  seen : (x : Result (Option Next) (ReadError InventoryFault)) → r ≡ x → (rest : List ℕ) × ReadsFront (λ o. o) new x (next_of (65537 - number) rest) × ((read >>= λ m. entries_at (65537 - number) number m rest) ≡ entries_at 65536 1 map.empty bytes)
   seen x is =
       let at = so_far bytes e in
-      let here = subst (λ (room : Bool). EntryOfFront new r (entry_at room (front_line 16384 at.0))) (room_of number (65537 - number) refl) (reads at.0 at.1) in
-      (at.0, subst (λ (y : Result (Option Next) EntryError). EntryOfFront new y (next_of (65537 - number) at.0)) is here, at.2)
+      let here = subst (λ (room : Bool). ReadsFront (λ o. o) new r (entry_at room (front_line 16384 at.0))) (room_of number (65537 - number) refl) (reads at.0 at.1) in
+      (at.0, subst (λ (y : Result (Option Next) (ReadError InventoryFault)). ReadsFront (λ o. o) new y (next_of (65537 - number) at.0)) is here, at.2)
 
-  -- where what waits can't be placed, neither can all
+  -- where the pending entries can't be placed, neither can all
   pub reached_stop : (f : InventoryError) (now : Read) → GivesOn (Err f) now read → TreeOf new (Err f) (entries_at 65536 1 map.empty bytes)
   reached_stop (inventories.Fault fault k) now stop =
       let at = so_far bytes e in
@@ -101,12 +103,12 @@ module _ (first mid new : Option (List ℕ)) (number : ℕ) (read : Read) (so_fa
       let at = seen (Ok None) (is ∙ ap (λ (x : Option Next). Ok x) none) in
       (at.1.0, at.1.1, sym at.2 ∙ ap (λ (x : Read). x >>= λ m. entries_at (65537 - number) number m at.0) (sym all) ∙ entries_at-end (65537 - number) number m at.0 at.1.0 at.1.2)
 
-  pub reached_bad : (f : EntryError) (m : Entries) → r ≡ Err f → Ok m ≡ read → TreeOf new (Err (numbered number f)) (entries_at 65536 1 map.empty bytes)
-  reached_bad (entries.Fault fault) m is all =
-      let at = seen (Err (entries.Fault fault)) is in
+  pub reached_bad : (f : ReadError InventoryFault) (m : Entries) → r ≡ Err f → Ok m ≡ read → TreeOf new (Err (numbered number f)) (entries_at 65536 1 map.empty bytes)
+  reached_bad (errors.Fault fault) m is all =
+      let at = seen (Err (errors.Fault fault)) is in
       sym at.2 ∙ ap (λ (x : Read). x >>= λ m. entries_at (65537 - number) number m at.0) (sym all) ∙ entries_at-bad (65537 - number) number m at.0 fault at.1
-  reached_bad entries.ReadFault m is all = tt
-  reached_bad entries.OutOfMemory m is all = tt
+  reached_bad errors.ReadFault m is all = tt
+  reached_bad errors.OutOfMemory m is all = tt
 
   -- with one entry more
   one_more : (o : Option Next) (entry : Next) → r ≡ Ok o → o ≡ Some entry → number ≤ 65536 → (rest : List ℕ) × (new ≡ Some rest) × ((with_entry read number entry >>= λ m. entries_at (65537 - (number + 1)) (number + 1) m rest) ≡ entries_at 65536 1 map.empty bytes)
@@ -126,3 +128,13 @@ module _ (first mid new : Option (List ℕ)) (number : ℕ) (read : Read) (so_fa
   reached_more o entry now is some room goes_on =
       let at = one_more o entry is some room in
       (at.0, at.1, ap (λ (x : Read). x >>= λ m. entries_at (65537 - (number + 1)) (number + 1) m at.0) goes_on ∙ at.2)
+
+-- whether the header was there
+pub header_found : (left : Option (List ℕ)) (found : Bool) (after : Option (List ℕ)) → SkipsPrefix left found after → found ≡ true → (rest : List ℕ) × (left ≡ Some rest) × (header_of after ≡ Ok (tt, rest))
+header_found left true (Some rest) is e = (rest, is, refl)
+header_found left true None is e = absurd is
+header_found left false after is e = cc
+
+pub header_missed : (left : Option (List ℕ)) (found : Bool) (after : Option (List ℕ)) → SkipsPrefix left found after → found ≡ false → header_of after ≡ Err BadHeader
+header_missed left false after is e = ap header_of is
+header_missed left true after is e = cc

@@ -11,8 +11,8 @@ use Rattle.std.specs.FinMap.Entries.{below_all}
 use Rattle.std.proofs.lemmas.Bool.{cases_Bool, false≢true}
 use Rattle.std.proofs.lemmas.List.Elements.{All-nil, All-cons}
 use Rattle.link_tree.specs.declared.entry.Entry.{Entry}
-use Rattle.link_tree.specs.declared.entry.Change.{Change}
-use Rattle.link_tree.specs.Slots.{is_slot}
+use Rattle.link_tree.specs.declared.change.Change.{Change}
+use Rattle.unit_paths.specs.Slots.{is_slot}
 use Rattle.link_tree.specs.Trees.{path_cmp, Entries, KeepsPath, AreFrom, set_entry}
 use Rattle.link_tree.proofs.Keys.{same-found}
 use Rattle.link_tree.proofs.Maps.{first, second, less, none_some, found_later}

@@ -4,9 +4,10 @@ use Rattle.std.specs.Prelude.{is_some}
 use Rattle.std.specs.FinMap as map
 use Rattle.link_tree.specs.Trees.{Entries}
 use Rattle.link_tree.specs.Inventory.{placed}
-use Rattle.link_tree.specs.Shape.{is_crowded, is_bad_shape}
+use Rattle.link_tree.specs.Shape.{is_crowded}
+use Rattle.unit_paths.specs.Shape.{is_bad_shape}
 use Rattle.link_tree.specs.declared.entry.Entry.{Entry}
-use Rattle.link_tree.specs.declared.inventory.InventoryFault.TheVariants.{Duplicate}
+use Rattle.link_tree.specs.declared.inventory_fault.InventoryFault.TheVariants.{Duplicate}
 
 pub placed_free : (m : Entries) (path : List ℕ) (entry : Entry) → map.get m path ≡ None → is_crowded m path ≡ false → is_bad_shape path ≡ false → placed m (path, entry) ≡ Ok (map.insert m path entry)
 unfolding placed

@@ -2,7 +2,6 @@
 use Rattle.std.proofs.Common.{◌≡◌, ℕ, Bool, true, false, cond, ◌&&◌, ◌||◌, List, [], ◌∷◌, Option, Some, None, ◌++◌, refl, sym, ◌∙◌, ap, subst, inl, inr, ◌⊎◌}
 use Rattle.std.specs.List.{list_any}
 use Rattle.std.specs.Prelude.{is_some, ◌==◌}
-use Rattle.link_tree.specs.Canonical.{begins_with_slash}
 use Rattle.std.specs.FinMap as map
 use Rattle.std.specs.FinMap.{get-empty, get-insert, get-remove, contains_key-keys}
 use Rattle.std.specs.Ordering.{eq_by_cmp, is_eq}
@@ -10,11 +9,13 @@ use Rattle.std.specs.declared.cmp.Ordering.{Ordering}
 use Rattle.std.specs.declared.cmp.Ordering.TheVariants.{Less, Equal, Greater}
 use Rattle.std.specs.Cmp.Lexicographic.{nat_list_cmp_total}
 use Rattle.std.proofs.lemmas.Map.Lookups.{exact_bytes}
-use Rattle.std.proofs.lemmas.Bool.{cases_Bool, false≢true, or_cases, and_right, and_parts, eqb-true, eq-eqb}
+use Rattle.std.proofs.lemmas.Bool.{false≢true, or_cases}
+use Rattle.unit_paths.proofs.Shapes.{close_sym, self_close}
 use Rattle.link_tree.specs.Trees.{Entries, path_cmp}
-use Rattle.link_tree.specs.Paths.{is_path}
+use Rattle.unit_paths.specs.Paths.{is_path}
 use Rattle.link_tree.specs.Values.{is_entry}
-use Rattle.link_tree.specs.Shape.{is_bad_shape, IsTree, fits_at, is_crowded, is_close, is_beneath}
+use Rattle.unit_paths.specs.Shape.{is_bad_shape, is_close}
+use Rattle.link_tree.specs.Shape.{IsTree, fits_at, is_crowded}
 use Rattle.link_tree.specs.declared.entry.Entry.{Entry}
 
 none_some : {P : Type 0} (e : Entry) → None ≡ Some e → P
@@ -57,16 +58,6 @@ removed_tree m path tree = record {
   apart = λ p q at there. tree.apart p q (left-some _ _ (sym (ap is_some (get-remove nat_list_cmp_total m path p)) ∙ at)) (left-some _ _ (sym (ap is_some (get-remove nat_list_cmp_total m path q)) ∙ there));
 }
 
-or_swap : (x y : Bool) → (x || y) ≡ (y || x)
-or_swap true true = refl
-or_swap true false = refl
-or_swap false true = refl
-or_swap false false = refl
-
-close_sym : (p q : List ℕ) → is_close p q ≡ is_close q p
-unfolding is_close
-close_sym p q = or_swap (is_beneath p q) (is_beneath q p)
-
 neither : (x y : Bool) → (x || y) ≡ false → (x ≡ false) × (y ≡ false)
 neither true y h = absurd (false≢true (sym h))
 neither false y h = (refl, h)
@@ -84,37 +75,6 @@ none_of f (k ∷ ks) q none some =
 apart_from : (m : Entries) (path q : List ℕ) → is_crowded m path ≡ false → is_some (map.get m q) ≡ true → is_close path q ≡ false
 unfolding is_crowded
 apart_from m path q none some = none_of (is_close path) (map.keys m) q none (sym (contains_key-keys m q) ∙ some)
-
-beneath_self : (p : List ℕ) → is_beneath p p ≡ false
-unfolding is_beneath
-beneath_self [] = refl
-beneath_self (b ∷ bs) = and_right (b == b) (is_beneath bs bs) (beneath_self bs)
-
-self_close : (p : List ℕ) → is_close p p ≡ false
-unfolding is_close
-self_close p = rw (beneath_self p) refl
-
--- beneath a text is what begins with it and a slash
-pub beneath-after : (above rest : List ℕ) → is_beneath (above ++ rest) above ≡ begins_with_slash rest
-unfolding is_beneath begins_with_slash
-beneath-after [] [] = refl
-beneath-after [] (b ∷ bs) = refl
-beneath-after (a ∷ bs') rest = ap (λ (t : Bool). t && is_beneath (bs' ++ rest) bs') (eq-eqb a a refl) ∙ beneath-after bs' rest
-
-pub beneath-parts : (path above : List ℕ) → is_beneath path above ≡ true → (rest : List ℕ) × (path ≡ above ++ 47 ∷ rest)
-unfolding is_beneath
-beneath-parts [] above h = absurd (false≢true h)
-beneath-parts (b ∷ bs) [] h = (bs, ap (λ (k : ℕ). k ∷ bs) (eqb-true b 47 h))
-beneath-parts (b ∷ bs) (a ∷ bs') h =
-    let parts = and_parts (b == a) (is_beneath bs bs') h in
-    let at = beneath-parts bs bs' parts.1 in
-    (at.0, (λ i. eqb-true b a parts.0 i ∷ at.1 i))
-
-pub not-beneath : (path above : List ℕ) → ((rest : List ℕ) → path ≡ above ++ rest → ⊥) → is_beneath path above ≡ false
-not-beneath path above other = elim (cases_Bool (is_beneath path above)) [
-  | inl beneath ↦ (let at = beneath-parts path above beneath in absurd (other (47 ∷ at.0) at.1))
-  | inr off ↦ off
-]
 
 -- an entry more that may stand there
 pub grown_tree : (m : Entries) (path : List ℕ) (entry : Entry) → IsTree m → fits_at path entry ≡ true → is_crowded m path ≡ false → IsTree (map.insert m path entry)

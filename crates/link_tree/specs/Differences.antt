@@ -4,8 +4,8 @@ use Rattle.std.specs.List.{flat_map}
 use Rattle.std.specs.Coded.{Coded, code_by, coded×, coded_option}
 use Rattle.std.specs.FinMap as map
 use Rattle.link_tree.specs.declared.entry.Entry.{Entry}
-use Rattle.link_tree.specs.declared.entry.Change.{Change}
-use Rattle.link_tree.specs.Slots.{is_slot}
+use Rattle.link_tree.specs.declared.change.Change.{Change}
+use Rattle.unit_paths.specs.Slots.{is_slot}
 use Rattle.link_tree.specs.Trees.{path_cmp, Entries}
 use Rattle.link_tree.specs.Values.{coded_path, coded_entry, same_entry}
 

@@ -5,12 +5,12 @@ use Rattle.std.specs.Option.{option_map}
 use Rattle.std.specs.Char.{is_ascii_digit}
 use Rattle.std.specs.Str.{bytes_eq}
 use Rattle.std.specs.Str.Parse.{digits_value}
-use Rattle.link_tree.specs.Paths.{is_path, is_target, is_root}
+use Rattle.unit_paths.specs.Paths.{is_path, is_target, is_root}
 use Rattle.link_tree.specs.declared.entry_line.EntryLine.{EntryLine}
 use Rattle.link_tree.specs.declared.entry_line.EntryLine.TheVariants.{File, Link, End}
-use Rattle.link_tree.specs.declared.fault.TheConstants.{MAX_FILE}
-use Rattle.link_tree.specs.declared.inventory.InventoryFault.{InventoryFault}
-use Rattle.link_tree.specs.declared.inventory.InventoryFault.TheVariants.{BadLine, BadPath, TooLarge}
+use Rattle.link_tree.specs.declared.contents.TheConstants.{MAX_FILE}
+use Rattle.link_tree.specs.declared.inventory_fault.InventoryFault.{InventoryFault}
+use Rattle.link_tree.specs.declared.inventory_fault.InventoryFault.TheVariants.{BadLine, BadPath, TooLarge}
 use Prim.Native.Char.{code}
 
 abbrev pub is_tab : ℕ → Bool

@@ -1,6 +1,6 @@
--- Files.
+-- What files hold.
 use Rattle.std.specs.Prelude.{ℕ, Bool, nat_le, List, length}
-use Rattle.link_tree.specs.declared.fault.TheConstants.{MAX_FILE}
+use Rattle.link_tree.specs.declared.contents.TheConstants.{MAX_FILE}
 
 -- what a file may hold: at most 1 MiB
 unfoldable pub is_contents : List ℕ → Bool

@@ -2,16 +2,18 @@
 use Rattle.std.specs.Prelude.{ℕ, ◌+◌, Bool, true, false, ◌==◌, nat_lt, if◌then◌else◌, List, [], ◌∷◌, length, take, drop, Option, Some, None, is_some, Result, Ok, Err, codes, zero, suc}
 use Rattle.std.specs.Option.{option_map_or}
 use Rattle.std.specs.FinMap as map
-use Rattle.link_tree.specs.Lines.{front_line, Front, Whole, Last, Long}
+use Rattle.byte_streams.specs.Lines.{front_line, Front, Whole, Last, Long}
 use Rattle.link_tree.specs.EntryLines.{line_of}
 use Rattle.link_tree.specs.Trees.{Entries}
 use Rattle.link_tree.specs.declared.entry.Entry.{Entry}
 use Rattle.link_tree.specs.declared.entry.Entry.TheVariants.{File, Link}
 use Rattle.link_tree.specs.declared.entry_line.EntryLine.{EntryLine}
 use Rattle.link_tree.specs.declared.entry_line.EntryLine.TheVariants as lines
-use Rattle.link_tree.specs.declared.inventory.InventoryFault.{InventoryFault}
-use Rattle.link_tree.specs.declared.inventory.InventoryFault.TheVariants.{BadHeader, BadLine, Truncated, Duplicate, UnderEntry, BadShape, TooMany}
-use Rattle.link_tree.specs.Shape.{is_crowded, is_bad_shape}
+use Rattle.link_tree.specs.declared.inventory_fault.InventoryFault.{InventoryFault}
+use Rattle.link_tree.specs.declared.inventory_fault.InventoryFault.TheVariants.{BadHeader, BadLine, Truncated, Duplicate, UnderEntry, BadShape, TooMany}
+use Rattle.unit_paths.specs.Shape.{is_bad_shape}
+use Rattle.byte_streams.specs.Blocks.{after_prefix}
+use Rattle.link_tree.specs.Shape.{is_crowded}
 use Rattle.link_tree.specs.declared.inventory.TheConstants.{MAX_LINE, MAX_ENTRIES}
 use Prim.Native.Char.{code}
 
@@ -83,17 +85,16 @@ entries_at (suc more) number m bytes = do
 abbrev pub header : List ℕ
 header = codes "unitadm-inventory 1\n"
 
--- what follows a prefix
-unfoldable pub after_prefix : List ℕ → List ℕ → Option (List ℕ)
-after_prefix [] bytes = Some bytes
-after_prefix (x ∷ xs) [] = None
-after_prefix (x ∷ xs) (b ∷ bs) = if b == x then after_prefix xs bs else None
+-- the header, and the bytes after it
+abbrev pub header_of : Option (List ℕ) → Result (Unit {0} × List ℕ) InventoryFault
+header_of None = Err BadHeader
+header_of (Some rest) = Ok (tt, rest)
 
--- the entries after a header
-abbrev pub entries_after : Option (List ℕ) → Result (Entries × List ℕ) (InventoryFault × ℕ)
-entries_after None = Err (BadHeader, 0)
-entries_after (Some bytes) = entries_at MAX_ENTRIES 1 map.empty bytes
+abbrev pub header_at : List ℕ → Result (Unit {0} × List ℕ) InventoryFault
+header_at bytes = header_of (after_prefix header bytes)
 
--- the tree of an inventory, and the bytes after it
+-- The tree of an inventory, and the bytes after it, or the first fault with the number of its entry: that of the header is 0.
 abbrev pub inventory_of : List ℕ → Result (Entries × List ℕ) (InventoryFault × ℕ)
-inventory_of bytes = entries_after (after_prefix header bytes)
+inventory_of bytes = do
+  found ← in_entry 0 (header_at bytes)
+  entries_at MAX_ENTRIES 1 map.empty found.1

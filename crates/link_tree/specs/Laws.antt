@@ -1,23 +1,14 @@
--- Laws of links, trees and inventories, each the contract of a public function.
-use Rattle.std.specs.Prelude.{◌≡◌, ◌≢◌, ◌<◌, ◌≤◌, ◌^◌, ◌↔◌, ℕ, true, List, [], ◌∷◌, ◌++◌, Some, Ok, All, map as list_map}
+-- Laws of trees and inventories, each the contract of a public function.
+use Rattle.std.specs.Prelude.{◌≡◌, ◌≢◌, ◌<◌, ◌≤◌, ◌^◌, ◌↔◌, ℕ, List, [], ◌∷◌, ◌++◌, Some, Ok, All, map as list_map}
 use Rattle.std.specs.Fmt.{decimal}
-use Rattle.link_tree.specs.declared.entry.Change.{Change}
-use Rattle.std.specs.List.{list_all}
+use Rattle.link_tree.specs.declared.change.Change.{Change}
 use Rattle.std.specs.List.Sorted.{IsStrictlySortedBy}
 use Rattle.std.specs.FinMap as map
-use Rattle.link_tree.specs.Paths.{is_path, is_text_byte}
-use Rattle.link_tree.specs.Canonical.{canonical_text, fits}
-use Rattle.link_tree.specs.Trees.{path_cmp, Entries, AreFrom, after_changes, turned, inventory_text}
+use Rattle.link_tree.specs.Trees.{path_cmp, Entries, AreFrom, after_changes, inverse_of, inventory_text}
 use Rattle.link_tree.specs.Differences.{changes_between}
-use Rattle.link_tree.specs.Shape.{IsTree, is_beneath, is_under_slot}
-use Rattle.link_tree.specs.Slots.{is_slot}
+use Rattle.link_tree.specs.Shape.{IsTree}
 use Rattle.link_tree.specs.EntryLines.{length_of}
 use Rattle.link_tree.specs.Inventory.{inventory_of}
-use Prim.Native.Char.{code}
-
--- Where a link leads is a path, but for the root and what is too long.
-abbrev pub CanonicalIsPath : Type 0
-CanonicalIsPath = (link target : List ℕ) → is_path link ≡ true → list_all is_text_byte target ≡ true → is_path (canonical_text link target) ≡ fits (canonical_text link target)
 
 -- What is written of a tree is read again as the same tree, whatever follows.
 abbrev pub ReadsBack : Type 0
@@ -30,18 +21,7 @@ LengthsAreDecimals = (text : List ℕ) (n : ℕ) → n < 2 ^ 64 → (length_of t
 -- Changes from what stands in a tree can be taken back, and then it is the very tree again.
 abbrev pub TakenBack : Type 0
 TakenBack = (m : Entries) (changes : List Change) → AreFrom m changes
-    → AreFrom (after_changes changes m) (turned changes) × (after_changes (turned changes) (after_changes changes m) ≡ m)
-
--- A path lies beneath another where it goes on after it, with a slash between.
-abbrev pub BeneathGoesOn : Type 0
-BeneathGoesOn = (path above : List ℕ) → (is_beneath path above ≡ true) ↔ ((rest : List ℕ) × (path ≡ above ++ code "/" ∷ rest))
-
--- A path is under a slot where it lies beneath one.
-abbrev pub UnderIsBeneathSlot : Type 0
-UnderIsBeneathSlot = (path : List ℕ) → (is_under_slot [] path ≡ true) ↔ ((slot : List ℕ) × (is_slot slot ≡ true) × (is_beneath path slot ≡ true))
-
-abbrev pub PathsLieBeneath : Type 0
-PathsLieBeneath = BeneathGoesOn × UnderIsBeneathSlot
+    → AreFrom (after_changes changes m) (inverse_of changes) × (after_changes (inverse_of changes) (after_changes changes m) ≡ m)
 
 -- Changes that lead from one tree to another: each from what stands in the first to something else, in byte order of
 -- their paths, each path once.

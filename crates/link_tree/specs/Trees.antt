@@ -9,7 +9,7 @@ use Rattle.std.specs.FinMap as map
 use Rattle.std.specs.declared.cmp.Ordering.{Ordering}
 use Rattle.link_tree.specs.declared.entry.Entry.{Entry}
 use Rattle.link_tree.specs.declared.entry.Entry.TheVariants.{File, Link}
-use Rattle.link_tree.specs.declared.entry.Change.{Change}
+use Rattle.link_tree.specs.declared.change.Change.{Change}
 
 abbrev pub path_cmp : List ℕ → List ℕ → Ordering
 path_cmp = slice_cmp nat_cmp
@@ -54,5 +54,5 @@ abbrev pub taken_back : Change → Change
 taken_back change = record { path = change.path; before = change.after; after = change.before }
 
 -- the changes that take these back, in the same order
-abbrev pub turned : List Change → List Change
-turned changes = list_map taken_back changes
+abbrev pub inverse_of : List Change → List Change
+inverse_of changes = list_map taken_back changes

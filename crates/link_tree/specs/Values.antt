@@ -4,7 +4,7 @@ use Rattle.std.proofs.Common.{inl, inr}
 use Rattle.std.specs.Coded.{Coded, code_by, coded_ℕ, coded_list, coded⊎}
 use Rattle.std.specs.Str.{bytes_eq}
 use Rattle.link_tree.specs.Files.{is_contents}
-use Rattle.link_tree.specs.Paths.{is_target}
+use Rattle.unit_paths.specs.Paths.{is_target}
 use Rattle.link_tree.specs.declared.entry.Entry.{Entry}
 use Rattle.link_tree.specs.declared.entry.Entry.TheVariants.{File, Link}
 

@@ -1,121 +1,13 @@
+//! Files and links.
 ghost use Rattle.std.specs.Prelude.{◌≡◌, IfOk, IsTrue, ◌↔◌, true, false};
+ghost use Rattle.unit_paths.specs.Paths.{is_target};
 ghost use Rattle.link_tree.specs.Files.{is_contents};
-ghost use Rattle.link_tree.specs.Paths.{is_target};
-ghost use Rattle.link_tree.specs.Trees.{taken_back};
+ghost use Rattle.link_tree.specs.Links.{is_null_link};
 ghost use Rattle.link_tree.specs.declared.entry.Entry.TheVariants.{File, Link};
 
-use crate::fault::{FileError, MAX_FILE, TargetError};
-use crate::part::is_target;
-use crate::path::TreePath;
+use crate::contents::{Contents, FileError};
 use std::alloc::{AllocError, Global};
-use std::marker::Model;
-use std::sync::ArcSlice;
-
-/// Where a link leads, as it was written: 1 to 4,095 bytes without NUL, TAB and LF. Contracts see its text.
-#[derive(Debug, Drop)]
-pub struct Target {
-    text: Vec<u8>,
-}
-
-impl Model for Target {
-    ghost use Rattle.std.specs.Prelude.{List, ℕ, IsTrue};
-    ghost use Rattle.link_tree.specs.Paths.{is_target};
-
-    ghost Value = { List ℕ };
-
-    ghost view = { λ target. target.text.items };
-
-    ghost invariant = { λ target. IsTrue (is_target target.text.items) };
-}
-
-impl Target {
-    /// Reads a target.
-    pub fn parse(alloc: Global, text: &[u8]) -> Result<Target, TargetError>
-        ensures target { IfOk result (λ target. (target ≡ text.now) × (is_target text.now ≡ true)) }
-        ensures bad { result ≡ Err TargetError.BadTarget → is_target text.now ≡ false }
-    {
-        if !is_target(text) {
-            return Err(TargetError::BadTarget);
-        }
-        let text = Vec::from_slice(alloc, text)?;
-        Ok(Target { text })
-    }
-
-    pub fn text(&self) -> &[u8]
-        ensures text { result.now ≡ self.now }
-        ensures target { is_target self.now ≡ true }
-    {
-        &self.text
-    }
-
-    /// An equal target.
-    pub fn copy(&self) -> Result<Target, AllocError>
-        ensures { IfOk result (λ target. target ≡ self.now) }
-    {
-        Ok(Target {
-            text: self.text.clone()?,
-        })
-    }
-}
-
-/// What a file holds: at most 1,048,576 bytes, which its copies share. Contracts see the bytes.
-#[derive(Debug, Drop)]
-pub struct Contents {
-    bytes: ArcSlice<u8>,
-}
-
-impl Model for Contents {
-    ghost use Rattle.std.specs.Prelude.{List, ℕ, IsTrue};
-    ghost use Rattle.std.specs.Arc.{arc_slice_items};
-    ghost use Rattle.link_tree.specs.Files.{is_contents};
-
-    ghost Value = { List ℕ };
-
-    ghost view = { λ contents. arc_slice_items contents.bytes };
-
-    ghost invariant = { λ contents. IsTrue (is_contents (arc_slice_items contents.bytes)) };
-}
-
-impl Contents {
-    /// Copies the bytes of a file.
-    #[tactic(auto, unfolding(crate::specs::Files::is_contents))]
-    pub fn copied(alloc: Global, bytes: &[u8]) -> Result<Contents, FileError>
-        ensures contents { IfOk result (λ contents. (contents ≡ bytes.now) × (is_contents bytes.now ≡ true)) }
-        ensures large { result ≡ Err FileError.TooLarge → is_contents bytes.now ≡ false }
-    {
-        if bytes.len() > MAX_FILE {
-            return Err(FileError::TooLarge);
-        }
-        let bytes = ArcSlice::from_slice(alloc, bytes)?;
-        Ok(Contents { bytes })
-    }
-
-    /// Takes the bytes of a file.
-    pub(crate) fn new(bytes: Vec<u8>) -> Result<Contents, AllocError>
-        requires { is_contents bytes.items ≡ true }
-        ensures { IfOk result (λ contents. contents ≡ bytes.items) }
-    {
-        Ok(Contents {
-            bytes: ArcSlice::from_vec(bytes)?,
-        })
-    }
-
-    pub fn bytes(&self) -> &[u8]
-        ensures bytes { result.now ≡ self.now }
-        ensures contents { is_contents self.now ≡ true }
-    {
-        &self.bytes
-    }
-
-    /// Equal contents, without a copy of the bytes.
-    pub fn copy(&self) -> Result<Contents, AllocError>
-        ensures { IfOk result (λ contents. contents ≡ self.now) }
-    {
-        Ok(Contents {
-            bytes: self.bytes.clone()?,
-        })
-    }
-}
+use unit_paths::{Target, TargetError, TreePath, is_null_target};
 
 /// What stands at a path.
 #[derive(Debug, Drop)]
@@ -127,7 +19,11 @@ pub enum Entry {
 impl Entry {
     ghost use Rattle.link_tree.specs.Values.{is_entry, bytes_of, same_entry};
 
-    /// A file with these bytes.
+    /// A file with these bytes: at most 1,048,576.
+    ///
+    /// # Errors
+    ///
+    /// `TooLarge`, where there are more; want of memory.
     pub fn file(alloc: Global, bytes: &[u8]) -> Result<Entry, FileError>
         ensures file { IfOk result (λ entry. (entry ≡ File bytes.now) × (is_contents bytes.now ≡ true)) }
         ensures large { result ≡ Err FileError.TooLarge → is_contents bytes.now ≡ false }
@@ -135,7 +31,11 @@ impl Entry {
         Ok(Entry::File(Contents::copied(alloc, bytes)?))
     }
 
-    /// A link with this target.
+    /// A link with this target, as it is written: 1 to 4,095 bytes without NUL, TAB and LF.
+    ///
+    /// # Errors
+    ///
+    /// `BadTarget` for any other text; want of memory.
     pub fn link(alloc: Global, target: &[u8]) -> Result<Entry, TargetError>
         ensures link { IfOk result (λ entry. (entry ≡ Link target.now) × (is_target target.now ≡ true)) }
         ensures bad { result ≡ Err TargetError.BadTarget → is_target target.now ≡ false }
@@ -186,44 +86,12 @@ impl Clone for Entry {
     }
 }
 
-/// What a command does at one path: the entry before, or none, becomes the entry after, or none.
-#[derive(Debug, Drop)]
-pub struct Change {
-    pub path: TreePath,
-    pub before: Option<Entry>,
-    pub after: Option<Entry>,
-}
-
-impl Change {
-    /// An equal change.
-    pub fn copy(&self) -> Result<Change, AllocError>
-        ensures { IfOk result (λ change. change ≡ self.now) }
-    {
-        Ok(Change {
-            path: self.path.copy()?,
-            before: copy_of(&self.before)?,
-            after: copy_of(&self.after)?,
-        })
-    }
-
-    /// The change that takes this one back.
-    pub fn taken_back(&self) -> Result<Change, AllocError>
-        ensures { IfOk result (λ change. change ≡ taken_back self.now) }
-    {
-        Ok(Change {
-            path: self.path.copy()?,
-            before: copy_of(&self.after)?,
-            after: copy_of(&self.before)?,
-        })
-    }
-}
-
-/// An equal entry, or none.
-pub fn copy_of(entry: &Option<Entry>) -> Result<Option<Entry>, AllocError>
-    ensures { IfOk result (λ copy. copy ≡ entry.now) }
+/// Whether a link leads to `/dev/null`, which masks a unit: systemctl(1), `mask`. A file never does, and no memory is taken.
+pub fn is_null_link(link: &TreePath, entry: &Entry) -> bool
+    ensures { result ≡ is_null_link link.now entry.now }
 {
     match entry {
-        Some(entry) => Ok(Some(entry.copy()?)),
-        None => Ok(None),
+        Entry::File(_) => false,
+        Entry::Link(target) => is_null_target(link, target),
     }
 }

@@ -1,20 +1,19 @@
 //! The lines of an inventory, one for each entry.
-#![tactic(auto, using(crate::proofs::Known::known))]
-
 ghost use Rattle.std.specs.Prelude.{◌≡◌, ◌<◌, ◌+◌, min, true, length, Option, IfOk, IfSome, Some};
 ghost use Rattle.std.specs.Option.{option_map};
 ghost use Rattle.std.specs.List.{list_all, position};
 ghost use Rattle.std.specs.Char.{is_ascii_digit};
 ghost use Rattle.std.specs.Str.Parse.{digits_value};
 ghost use Rattle.link_tree.specs.EntryLines.{is_tab, cut_at_tab, two_fields, fields_of, is_length, length_of, path_of, target_of, file_line, link_line, line_of, IsSized};
-ghost use Rattle.link_tree.specs.Reads.{Gives, path_error_seen, target_error_seen};
+ghost use Rattle.byte_streams.specs.Reads.{Gives};
+ghost use Rattle.link_tree.specs.Reads.{path_error_seen, target_error_seen};
 
-use crate::entry::Target;
-use crate::fault::{MAX_FILE, PathError, TargetError};
-use crate::inventory::{InventoryFault, LineError};
-use crate::path::TreePath;
+use crate::contents::MAX_FILE;
+use crate::inventory_fault::InventoryFault;
+use byte_streams::ReadError;
 use memchr::memchr;
 use std::alloc::Global;
+use unit_paths::{PathError, Target, TargetError, TreePath};
 
 /// What a line of an inventory says.
 #[derive(Debug, Drop)]
@@ -29,7 +28,7 @@ pub(crate) enum EntryLine {
 
 /// What a line says.
 #[tactic(auto, unfolding(crate::specs::EntryLines::line_of))]
-pub(crate) fn line_of(alloc: Global, line: &[u8]) -> Result<EntryLine, LineError>
+pub(crate) fn line_of(alloc: Global, line: &[u8]) -> Result<EntryLine, ReadError<InventoryFault>>
     ensures line { Gives (λ x. x) result (line_of line.now) }
     ensures sized { IfOk result IsSized }
 {
@@ -39,38 +38,46 @@ pub(crate) fn line_of(alloc: Global, line: &[u8]) -> Result<EntryLine, LineError
     match (fields_of(b'F', line), fields_of(b'L', line)) {
         (Some((length, path)), _) => file_line(alloc, length, path),
         (None, Some((path, target))) => link_line(alloc, path, target),
-        (None, None) => Err(LineError::Fault(InventoryFault::BadLine)),
+        (None, None) => Err(ReadError::Fault(InventoryFault::BadLine)),
     }
 }
 
-fn file_line(alloc: Global, length: &[u8], path: &[u8]) -> Result<EntryLine, LineError>
+fn file_line(
+    alloc: Global,
+    length: &[u8],
+    path: &[u8],
+) -> Result<EntryLine, ReadError<InventoryFault>>
     ensures line { Gives (λ x. x) result (file_line (length_of length.now) path.now) }
     ensures sized { IfOk result IsSized }
 {
     let Some(length) = length_of(length) else {
-        return Err(LineError::Fault(InventoryFault::BadLine));
+        return Err(ReadError::Fault(InventoryFault::BadLine));
     };
     let path = path_of(alloc, path)?;
     if length > MAX_FILE {
-        return Err(LineError::Fault(InventoryFault::TooLarge));
+        return Err(ReadError::Fault(InventoryFault::TooLarge));
     }
     Ok(EntryLine::File(path, length))
 }
 
-fn link_line(alloc: Global, path: &[u8], target: &[u8]) -> Result<EntryLine, LineError>
+fn link_line(
+    alloc: Global,
+    path: &[u8],
+    target: &[u8],
+) -> Result<EntryLine, ReadError<InventoryFault>>
     ensures line { Gives (λ x. x) result (link_line path.now target.now) }
     ensures sized { IfOk result IsSized }
 {
     Ok(EntryLine::Link(path_of(alloc, path)?, target_of(alloc, target)?))
 }
 
-fn path_of(alloc: Global, text: &[u8]) -> Result<TreePath, LineError>
+fn path_of(alloc: Global, text: &[u8]) -> Result<TreePath, ReadError<InventoryFault>>
     ensures { Gives (λ path. path) result (path_of text.now) }
 {
     TreePath::parse(alloc, text).map_err(path_error)
 }
 
-fn target_of(alloc: Global, text: &[u8]) -> Result<Target, LineError>
+fn target_of(alloc: Global, text: &[u8]) -> Result<Target, ReadError<InventoryFault>>
     ensures { Gives (λ target. target) result (target_of text.now) }
 {
     Target::parse(alloc, text).map_err(target_error)
@@ -150,20 +157,20 @@ fn two_fields(text: &[u8]) -> Option<(&[u8], &[u8])>
     }
 }
 
-fn path_error(e: PathError) -> LineError
+fn path_error(e: PathError) -> ReadError<InventoryFault>
     ensures { result ≡ path_error_seen e }
 {
     match e {
-        PathError::BadPath => LineError::Fault(InventoryFault::BadPath),
-        PathError::OutOfMemory => LineError::OutOfMemory,
+        PathError::BadPath => ReadError::Fault(InventoryFault::BadPath),
+        PathError::OutOfMemory => ReadError::OutOfMemory,
     }
 }
 
-fn target_error(e: TargetError) -> LineError
+fn target_error(e: TargetError) -> ReadError<InventoryFault>
     ensures { result ≡ target_error_seen e }
 {
     match e {
-        TargetError::BadTarget => LineError::Fault(InventoryFault::BadPath),
-        TargetError::OutOfMemory => LineError::OutOfMemory,
+        TargetError::BadTarget => ReadError::Fault(InventoryFault::BadPath),
+        TargetError::OutOfMemory => ReadError::OutOfMemory,
     }
 }

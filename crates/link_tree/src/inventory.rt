@@ -1,29 +1,24 @@
-//! Inventories are read: the texts of trees.
-#![tactic(auto, using(crate::proofs::Known::known))]
-
+//! Reading inventories: the texts of trees.
 ghost use Rattle.std.specs.Prelude.{◌≡◌, ◌+◌, ◌≤◌, ℕ, true, List, [], All, Option, OnOk, IfOk, IfErr, IsTrue, Some, is_some, Ok, Err};
-ghost use Rattle.link_tree.specs.declared.fault.TheConstants.{MAX_FILE};
 ghost use Rattle.std.specs.FinMap as map;
-ghost use Rattle.link_tree.specs.Streams.{HasCause};
-ghost use Rattle.link_tree.specs.Lines.{Front, IsFront, front_line};
+ghost use Rattle.byte_streams.specs.Lines.{Front, IsFront, front_line};
+ghost use Rattle.byte_streams.specs.Reads.{AccountsRead, FailsAs, Gives, ReadsFront};
+ghost use Rattle.link_tree.specs.declared.contents.TheConstants.{MAX_FILE};
 ghost use Rattle.link_tree.specs.EntryLines.{IsSized};
-ghost use Rattle.link_tree.specs.Inventory.{line_of_front, contents_at, placed, entries_at, inventory_of, after_prefix, header};
-ghost use Rattle.link_tree.specs.Waiting.{AreRising, AreWaiting, GivesOn, IsAtSlot, place_all, with_entry};
-ghost use Rattle.link_tree.specs.Reads.{Gives, ReadsEntry, EntryOfFront, read_error_seen, line_error_seen, numbered};
-ghost use Rattle.link_tree.specs.TreeReads.{ReadsTree, HeaderOf, PrefixOf};
+ghost use Rattle.link_tree.specs.Inventory.{line_of_front, contents_at, placed, entries_at, entry_at, header_at, inventory_of};
+ghost use Rattle.link_tree.specs.Pending.{AreRising, ArePending, GivesOn, IsAtSlot, place_all, with_entry};
+ghost use Rattle.link_tree.specs.Reads.{AccountsTree, ReadsTree, numbered};
 
-use crate::entry::{Contents, Entry};
+use crate::contents::Contents;
+use crate::entry::Entry;
 use crate::entry_line::{EntryLine, line_of};
-use crate::path::TreePath;
-use crate::reading::{Line, ReadError, next_byte, read_bytes, read_line};
-use crate::shape::is_bad_shape;
-use crate::slot::slot_of;
-use crate::stream::Source;
+use crate::inventory_fault::{InventoryError, InventoryFault};
+use crate::pending::{PendingEntry, insert_all, most_pending};
 use crate::tree::Tree;
-use crate::waiting::{Arrival, room_beside, settle};
+use byte_streams::{Line, ReadError, Source, read_byte, read_bytes, read_line, skip_prefix};
 use std::alloc::{AllocError, Global};
 use std::mem;
-use thiserror::Error;
+use unit_paths::{Slot, TreePath};
 
 /// The longest line of an inventory, in bytes before its end.
 pub const MAX_LINE: usize = 16384;
@@ -34,90 +29,16 @@ pub const MAX_ENTRIES: u32 = 65536;
 /// What each inventory begins with.
 const HEADER: &[u8; 20] = b"unitadm-inventory 1\n";
 
-/// What is wrong with an inventory, in one entry the first of these that holds.
-#[derive(Clone, Copy, Debug, PartialEq, Eq, Hash, Error)]
-pub enum InventoryFault {
-    /// It doesn't begin with the header.
-    #[error("bad header")]
-    BadHeader,
-    /// A line is no entry and not `end`, or has over 16,384 bytes; or no line end follows a file's bytes.
-    #[error("bad line")]
-    BadLine,
-    /// A path is none, or a target.
-    #[error("bad path")]
-    BadPath,
-    /// A file is said to have over 1,048,576 bytes.
-    #[error("file too large")]
-    TooLarge,
-    /// 65,536 entries came before.
-    #[error("too many entries")]
-    TooMany,
-    /// The input ends before the line `end`.
-    #[error("truncated")]
-    Truncated,
-    /// An entry stands at the path.
-    #[error("duplicate")]
-    Duplicate,
-    /// An entry stands above the path, or beneath it.
-    #[error("under another entry")]
-    UnderEntry,
-    /// The path lies beneath a slot, is a directory of slots or lies above one.
-    #[error("bad shape")]
-    BadShape,
-}
-
-/// Why a line gives no entry.
-#[derive(Clone, Copy, Debug, PartialEq, Eq)]
-pub(crate) enum LineError {
-    Fault(InventoryFault),
-    OutOfMemory,
-}
-
-/// Why an entry was not read.
-#[derive(Clone, Copy, Debug, PartialEq, Eq)]
-pub(crate) enum EntryError {
-    Fault(InventoryFault),
-    ReadFault,
-    OutOfMemory,
-}
-
-impl From<AllocError> for EntryError {
-    ghost use Rattle.link_tree.specs.declared.inventory.EntryError.TheVariants.{OutOfMemory};
-
-    ghost from_gives = { λ _ e. e ≡ OutOfMemory };
-
-    fn from(_e: AllocError) -> EntryError {
-        EntryError::OutOfMemory
-    }
-}
-
-/// Why an inventory was not read: the first fault with the number of its entry. Entries count from 1, the header
-/// is 0, and the last line counts as the next entry.
-#[derive(Clone, Copy, Debug, PartialEq, Eq, Hash, Error)]
-pub enum InventoryError {
-    #[error("inventory entry {1}: {0}")]
-    Fault(InventoryFault, u32),
-    #[error("inventory entry {0}: read fault")]
-    ReadFault(u32),
-    #[error("out of memory")]
-    OutOfMemory,
-}
-
-impl From<AllocError> for InventoryError {
-    ghost use Rattle.link_tree.specs.declared.inventory.InventoryError.TheVariants.{OutOfMemory};
-
-    ghost from_gives = { λ _ e. e ≡ OutOfMemory };
-
-    fn from(_e: AllocError) -> InventoryError {
-        InventoryError::OutOfMemory
-    }
-}
-
-/// Reads an inventory up to the end of its line `end`. What follows is left unread.
+/// Reads an inventory up to the end of its line `end`, and leaves what follows in the source. It has at most 65,536 entries, in any order.
+///
+/// # Errors
+///
+/// The first fault in reading order, with the number of its entry: entries count from 1, the header is 0, and the line `end` counts as the
+/// next entry. For one entry the faults are tried in the order of `InventoryFault`'s table in docs/RULES.md, "Inventories". A read fault,
+/// where the source fails, or is interrupted 1,000 times in a row, before one of these is decided. Want of memory.
 pub fn read_inventory<S: Source>(alloc: Global, source: &mut S) -> Result<Tree, InventoryError>
     ensures tree { ReadsTree (S.left source.old) (S.left source.new) result inventory_of }
-    ensures cause { IfErr result (λ e. (n : ℕ) → e ≡ InventoryError.ReadFault n → HasCause (S.failures source.old, S.interruptions source.old) (S.failures source.new, S.interruptions source.new)) }
-    ensures calm { OnOk result (S.failures source.new ≡ S.failures source.old) }
+    ensures counters { AccountsTree result (S.counters source.old) (S.counters source.new) }
 {
     if let Err(e) = read_header(source) {
         return Err(in_entry(0, e));
@@ -127,23 +48,22 @@ pub fn read_inventory<S: Source>(alloc: Global, source: &mut S) -> Result<Tree, 
 
 fn read_entries<S: Source>(alloc: Global, source: &mut S) -> Result<Tree, InventoryError>
     ensures tree { ReadsTree (S.left source.old) (S.left source.new) result (entries_at MAX_ENTRIES 1 map.empty) }
-    ensures cause { IfErr result (λ e. (n : ℕ) → e ≡ InventoryError.ReadFault n → HasCause (S.failures source.old, S.interruptions source.old) (S.failures source.new, S.interruptions source.new)) }
-    ensures calm { OnOk result (S.failures source.new ≡ S.failures source.old) }
+    ensures counters { AccountsTree result (S.counters source.old) (S.counters source.new) }
 {
     let mut tree = Tree::empty(alloc)?;
-    let mut waiting = Vec::new(alloc);
+    let mut pending = Vec::new(alloc);
     let mut number = 1;
     'entries: loop {
         match read_entry(alloc, source, number <= MAX_ENTRIES) {
             Ok(Some((path, entry))) => {
-                take_in(alloc, &mut tree, &mut waiting, path, entry, number)?;
+                add_entry(alloc, &mut tree, &mut pending, path, entry, number)?;
             }
             Ok(None) => {
-                settle_all(alloc, &mut tree, &mut waiting)?;
+                flush(alloc, &mut tree, &mut pending)?;
                 return Ok(tree);
             }
             Err(e) => {
-                settle_all(alloc, &mut tree, &mut waiting)?;
+                flush(alloc, &mut tree, &mut pending)?;
                 return Err(in_entry(number, e));
             }
         }
@@ -151,126 +71,103 @@ fn read_entries<S: Source>(alloc: Global, source: &mut S) -> Result<Tree, Invent
     }
 }
 
-/// An entry at a slot waits. Any other is placed, once what waits is in the tree.
-fn take_in(
+/// Adds an entry to the pending ones if it stands at a slot, and else to the tree, after the pending ones.
+fn add_entry(
     alloc: Global,
     tree: &mut Tree,
-    waiting: &mut Vec<Arrival>,
+    pending: &mut Vec<PendingEntry>,
     path: TreePath,
     entry: Entry,
     number: u32,
 ) -> Result<(), InventoryError>
-    requires { AreWaiting number waiting.old.items }
-    ensures read { GivesOn result (place_all tree.new waiting.new.items) (with_entry (place_all tree.old waiting.old.items) number (path, entry)) }
-    ensures waiting { OnOk result (AreWaiting (number + 1) waiting.new.items) }
+    requires { ArePending number pending.old.items }
+    ensures read { GivesOn result (place_all tree.new pending.new.items) (with_entry (place_all tree.old pending.old.items) number (path, entry)) }
+    ensures pending { OnOk result (ArePending (number + 1) pending.new.items) }
 {
-    if slot_of(path.text()).is_some() {
-        if waiting.len() >= room_beside(tree.len()) {
-            settle_all(alloc, tree, waiting)?;
+    if Slot::of(&path).is_some() {
+        if pending.len() >= most_pending(tree.len()) {
+            flush(alloc, tree, pending)?;
         }
+        let _path = path.text();
         let _valid = entry.bytes();
-        let arrival = Arrival {
+        let added = PendingEntry {
             path,
             entry,
             number,
         };
-        match waiting.push(arrival) {
+        match pending.push(added) {
             Ok(()) => return Ok(()),
             Err(_) => return Err(InventoryError::OutOfMemory),
         }
     }
-    settle_all(alloc, tree, waiting)?;
+    flush(alloc, tree, pending)?;
     match place(tree, path, entry) {
         Ok(()) => Ok(()),
-        Err(e) => Err(in_entry(number, line_error(e))),
+        Err(e) => Err(in_entry(number, e)),
     }
 }
 
-/// What waits comes into the tree.
-fn settle_all(
+/// Puts the pending entries into the tree.
+fn flush(
     alloc: Global,
     tree: &mut Tree,
-    waiting: &mut Vec<Arrival>,
+    pending: &mut Vec<PendingEntry>,
 ) -> Result<(), InventoryError>
-    requires slots { All IsAtSlot waiting.old.items }
-    requires rising { AreRising waiting.old.items }
-    ensures tree { GivesOn result (Ok tree.new) (place_all tree.old waiting.old.items) }
-    ensures empty { OnOk result (waiting.new.items ≡ []) }
+    requires slots { All IsAtSlot pending.old.items }
+    requires rising { AreRising pending.old.items }
+    ensures tree { GivesOn result (Ok tree.new) (place_all tree.old pending.old.items) }
+    ensures empty { OnOk result (pending.new.items ≡ []) }
 {
-    let arrivals = mem::replace(waiting, Vec::new(alloc));
-    match settle(tree, arrivals)? {
+    let entries = mem::replace(pending, Vec::new(alloc));
+    match insert_all(tree, entries)? {
         None => Ok(()),
         Some(number) => Err(InventoryError::Fault(InventoryFault::Duplicate, number)),
     }
 }
 
 #[tactic(auto, unfolding(crate::specs::Inventory::placed))]
-fn place(tree: &mut Tree, path: TreePath, entry: Entry) -> Result<(), LineError>
+fn place(tree: &mut Tree, path: TreePath, entry: Entry) -> Result<(), ReadError<InventoryFault>>
     ensures { Gives (λ _. tree.new) result (placed tree.old (path, entry)) }
 {
     if tree.get(&path).is_some() {
-        return Err(LineError::Fault(InventoryFault::Duplicate));
+        return Err(ReadError::Fault(InventoryFault::Duplicate));
     }
-    match tree.is_crowded(&path) {
-        Ok(true) => return Err(LineError::Fault(InventoryFault::UnderEntry)),
-        Ok(false) => {}
-        Err(AllocError) => return Err(LineError::OutOfMemory),
+    if tree.is_crowded(&path)? {
+        return Err(ReadError::Fault(InventoryFault::UnderEntry));
     }
-    if is_bad_shape(path.text()) {
-        return Err(LineError::Fault(InventoryFault::BadShape));
+    if path.is_bad_shape() {
+        return Err(ReadError::Fault(InventoryFault::BadShape));
     }
+    let _path = path.text();
     let _valid = entry.bytes();
-    match tree.insert(path, entry) {
-        Ok(_) => Ok(()),
-        Err(AllocError) => Err(LineError::OutOfMemory),
-    }
+    tree.insert(path, entry)?;
+    Ok(())
 }
 
-fn read_header<S: Source>(source: &mut S) -> Result<(), EntryError>
-    ensures header { (bytes : List ℕ) → S.left source.old ≡ Some bytes → HeaderOf (S.left source.new) result (after_prefix header bytes) }
-    ensures cause { result ≡ Err EntryError.ReadFault → HasCause (S.failures source.old, S.interruptions source.old) (S.failures source.new, S.interruptions source.new) }
-    ensures calm { OnOk result (S.failures source.new ≡ S.failures source.old) }
+fn read_header<S: Source>(source: &mut S) -> Result<(), ReadError<InventoryFault>>
+    ensures header { (bytes : List ℕ) → S.left source.old ≡ Some bytes → ReadsFront (λ x. x) (S.left source.new) result (header_at bytes) }
+    ensures counters { AccountsRead result (S.counters source.old) (S.counters source.new) }
 {
-    match skip_prefix(HEADER, source) {
-        Ok(true) => Ok(()),
-        Ok(false) => Err(EntryError::Fault(InventoryFault::BadHeader)),
-        Err(e) => Err(read_error(e)),
+    if skip_prefix(HEADER, source)? {
+        Ok(())
+    } else {
+        Err(ReadError::Fault(InventoryFault::BadHeader))
     }
 }
 
-/// Whether the bytes of the prefix come first.
-fn skip_prefix<S: Source>(prefix: &[u8], source: &mut S) -> Result<bool, ReadError>
-    ensures prefix { IfOk result (λ found. (bytes : List ℕ) → S.left source.old ≡ Some bytes → PrefixOf (S.left source.new) found (after_prefix prefix.now bytes)) }
-    ensures cause { result ≡ Err ReadError.Fault → HasCause (S.failures source.old, S.interruptions source.old) (S.failures source.new, S.interruptions source.new) }
-    ensures calm { OnOk result (S.failures source.new ≡ S.failures source.old) }
-{
-    for expected in prefix {
-        match next_byte(source)? {
-            None => return Ok(false),
-            Some(byte) => {
-                if byte != *expected {
-                    return Ok(false);
-                }
-            }
-        }
-    }
-    Ok(true)
-}
-
-/// The next entry, or `None` for the end, which alone may come where there is no room.
+/// Reads the next entry, or `None` for the line `end`, which alone may come where there is no room.
 fn read_entry<S: Source>(
     alloc: Global,
     source: &mut S,
     room: bool,
-) -> Result<Option<(TreePath, Entry)>, EntryError>
-    ensures entry { ReadsEntry room (S.left source.old) (S.left source.new) result }
+) -> Result<Option<(TreePath, Entry)>, ReadError<InventoryFault>>
+    ensures entry { (bytes : List ℕ) → S.left source.old ≡ Some bytes → ReadsFront (λ x. x) (S.left source.new) result (entry_at room (front_line MAX_LINE bytes)) }
     ensures room { IfOk result (λ entry. is_some entry ≡ true → IsTrue room) }
-    ensures cause { result ≡ Err EntryError.ReadFault → HasCause (S.failures source.old, S.interruptions source.old) (S.failures source.new, S.interruptions source.new) }
-    ensures calm { OnOk result (S.failures source.new ≡ S.failures source.old) }
+    ensures counters { AccountsRead result (S.counters source.old) (S.counters source.new) }
 {
     match read_entry_line(alloc, source)? {
         EntryLine::End => Ok(None),
-        _ if !room => Err(EntryError::Fault(InventoryFault::TooMany)),
+        _ if !room => Err(ReadError::Fault(InventoryFault::TooMany)),
         EntryLine::File(path, size) => {
             let contents = read_contents(alloc, source, size)?;
             Ok(Some((path, Entry::File(contents))))
@@ -279,78 +176,55 @@ fn read_entry<S: Source>(
     }
 }
 
-fn read_entry_line<S: Source>(alloc: Global, source: &mut S) -> Result<EntryLine, EntryError>
-    ensures line { (bytes : List ℕ) → S.left source.old ≡ Some bytes → EntryOfFront (S.left source.new) result (line_of_front (front_line MAX_LINE bytes)) }
+fn read_entry_line<S: Source>(
+    alloc: Global,
+    source: &mut S,
+) -> Result<EntryLine, ReadError<InventoryFault>>
+    ensures line { (bytes : List ℕ) → S.left source.old ≡ Some bytes → ReadsFront (λ x. x) (S.left source.new) result (line_of_front (front_line MAX_LINE bytes)) }
     ensures sized { IfOk result IsSized }
-    ensures cause { result ≡ Err EntryError.ReadFault → HasCause (S.failures source.old, S.interruptions source.old) (S.failures source.new, S.interruptions source.new) }
-    ensures calm { OnOk result (S.failures source.new ≡ S.failures source.old) }
+    ensures counters { AccountsRead result (S.counters source.old) (S.counters source.new) }
 {
-    match read_line(alloc, source, MAX_LINE) {
-        Ok(line) => line_of_read(alloc, line),
-        Err(e) => Err(read_error(e)),
-    }
+    let line = read_line(alloc, source, MAX_LINE, InventoryFault::BadLine)?;
+    line_of_read(alloc, line)
 }
 
-fn line_of_read(alloc: Global, line: Line) -> Result<EntryLine, EntryError>
-    ensures line { (left : Option (List ℕ)) → (front : Front) → IsFront line left front → EntryOfFront left result (line_of_front front) }
+fn line_of_read(alloc: Global, line: Line) -> Result<EntryLine, ReadError<InventoryFault>>
+    ensures line { (left : Option (List ℕ)) → (front : Front) → IsFront line left front → ReadsFront (λ x. x) left result (line_of_front front) }
     ensures sized { IfOk result IsSized }
-    ensures calm { result ≡ Err EntryError.ReadFault → ⊥ }
+    ensures calm { result ≡ Err ReadError.ReadFault → ⊥ }
 {
     match line {
-        Line::Whole(line) => line_of(alloc, &line).map_err(line_error),
-        Line::Last(_) => Err(EntryError::Fault(InventoryFault::Truncated)),
-        Line::Long => Err(EntryError::Fault(InventoryFault::BadLine)),
+        Line::Whole(line) => line_of(alloc, &line),
+        Line::Last(_) => Err(ReadError::Fault(InventoryFault::Truncated)),
     }
 }
 
-/// The bytes of a file and the line end behind them.
+/// Reads the bytes of a file and the line end behind them.
 fn read_contents<S: Source>(
     alloc: Global,
     source: &mut S,
     size: usize,
-) -> Result<Contents, EntryError>
+) -> Result<Contents, ReadError<InventoryFault>>
     requires { size ≤ MAX_FILE }
-    ensures contents { (bytes : List ℕ) → S.left source.old ≡ Some bytes → EntryOfFront (S.left source.new) result (contents_at size bytes) }
-    ensures cause { result ≡ Err EntryError.ReadFault → HasCause (S.failures source.old, S.interruptions source.old) (S.failures source.new, S.interruptions source.new) }
-    ensures calm { OnOk result (S.failures source.new ≡ S.failures source.old) }
+    ensures contents { (bytes : List ℕ) → S.left source.old ≡ Some bytes → ReadsFront (λ x. x) (S.left source.new) result (contents_at size bytes) }
+    ensures counters { AccountsRead result (S.counters source.old) (S.counters source.new) }
 {
-    let bytes = match read_bytes(alloc, source, size) {
-        Ok(Some(bytes)) => bytes,
-        Ok(None) => return Err(EntryError::Fault(InventoryFault::Truncated)),
-        Err(e) => return Err(read_error(e)),
+    let Some(bytes) = read_bytes(alloc, source, size)? else {
+        return Err(ReadError::Fault(InventoryFault::Truncated));
     };
-    match next_byte(source) {
-        Ok(Some(b'\n')) => Ok(Contents::new(bytes)?),
-        Ok(Some(_)) => Err(EntryError::Fault(InventoryFault::BadLine)),
-        Ok(None) => Err(EntryError::Fault(InventoryFault::Truncated)),
-        Err(e) => Err(read_error(e)),
+    match read_byte(source)? {
+        Some(b'\n') => Ok(Contents::new(bytes)?),
+        Some(_) => Err(ReadError::Fault(InventoryFault::BadLine)),
+        None => Err(ReadError::Fault(InventoryFault::Truncated)),
     }
 }
 
-fn read_error(e: ReadError) -> EntryError
-    ensures { result ≡ read_error_seen e }
-{
-    match e {
-        ReadError::Fault => EntryError::ReadFault,
-        ReadError::OutOfMemory => EntryError::OutOfMemory,
-    }
-}
-
-fn line_error(e: LineError) -> EntryError
-    ensures { result ≡ line_error_seen e }
-{
-    match e {
-        LineError::Fault(fault) => EntryError::Fault(fault),
-        LineError::OutOfMemory => EntryError::OutOfMemory,
-    }
-}
-
-fn in_entry(number: u32, e: EntryError) -> InventoryError
+fn in_entry(number: u32, e: ReadError<InventoryFault>) -> InventoryError
     ensures { result ≡ numbered number e }
 {
     match e {
-        EntryError::Fault(fault) => InventoryError::Fault(fault, number),
-        EntryError::ReadFault => InventoryError::ReadFault(number),
-        EntryError::OutOfMemory => InventoryError::OutOfMemory,
+        ReadError::Fault(fault) => InventoryError::Fault(fault, number),
+        ReadError::ReadFault => InventoryError::ReadFault(number),
+        ReadError::OutOfMemory => InventoryError::OutOfMemory,
     }
 }

@@ -2,9 +2,9 @@
 ghost use Rattle.std.specs.Prelude.{◌≡◌};
 
 use crate::entry::Entry;
-use crate::path::TreePath;
 use std::collections::btree_map;
 use std::marker::Model;
+use unit_paths::TreePath;
 
 /// The entries of a tree that are still to come, in an order of the tree's own. Contracts see their list.
 #[derive(Drop)]

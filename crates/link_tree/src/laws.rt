@@ -1,10 +1,5 @@
-//! What holds of all links and trees: each function does nothing, and its contract is the law.
-ghost use Rattle.link_tree.specs.Laws.{CanonicalIsPath, ReadsBack, LengthsAreDecimals, TakenBack, PathsLieBeneath, ChangesLead};
-
-/// Where a link leads is a path, but for the root and what is too long.
-pub fn links_lead_to_paths()
-    ensures { CanonicalIsPath }
-{}
+//! What holds of all trees: each function does nothing, and its contract is the law.
+ghost use Rattle.link_tree.specs.Laws.{ReadsBack, LengthsAreDecimals, TakenBack, ChangesLead};
 
 /// What is written of a tree is read again as that tree, whatever follows it, where it has at most as many
 /// entries as are read.
@@ -25,10 +20,4 @@ pub fn changes_are_taken_back()
 /// The changes between two trees lead from the one to the other.
 pub fn changes_lead_from_tree_to_tree()
     ensures { ChangesLead }
-{}
-
-/// A path lies beneath another where it goes on after it, with a slash between; and it is under a slot where it lies
-/// beneath one.
-pub fn paths_lie_beneath()
-    ensures { PathsLieBeneath }
 {}

@@ -1,3 +1,3 @@
-mod links;
+mod entries;
 mod reading;
 mod writing;

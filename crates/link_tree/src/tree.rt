@@ -1,24 +1,24 @@
 //! Trees of entries.
-ghost use Rattle.std.specs.Prelude.{◌≡◌, ◌++◌, All, IfOk, OnOk, OnErr, IsTrue, true, false, ◌↔◌};
+ghost use Rattle.std.specs.Prelude.{◌≡◌, ◌++◌, All, IfOk, OnOk, OnErr, IsTrue, true, false, ◌↔◌, ℕ, List, IsPermutation};
 ghost use Rattle.std.specs.List.{list_any};
-ghost use Rattle.std.specs.Prelude.{ℕ, List, IsPermutation};
 ghost use Rattle.std.specs.Map.Iter.{ShowsInOrder, deref_pair};
 ghost use Rattle.std.specs.Option.{option_copied};
 ghost use Rattle.std.specs.Fmt.{decimal};
 ghost use Rattle.std.specs.FinMap as map;
-ghost use Rattle.link_tree.specs.Slots.{is_slot};
-ghost use Rattle.link_tree.specs.Shape.{fits_at, is_beneath, is_crowded, IsTree};
+ghost use Rattle.unit_paths.specs.Slots.{is_slot};
+ghost use Rattle.unit_paths.specs.Shape.{is_beneath};
+ghost use Rattle.link_tree.specs.Shape.{fits_at, is_crowded, IsTree};
 ghost use Rattle.link_tree.specs.Trees.{AreFrom, set_entry, after_changes};
 
-use crate::entry::{Change, Entry, copy_of};
+use crate::change::{Change, copy_of};
+use crate::entry::Entry;
 use crate::iter::Iter;
-use crate::path::TreePath;
-use crate::shape::is_beneath;
 use std::alloc::{AllocError, Global};
 use std::collections::BTreeMap;
 use std::marker::Model;
 use std::ops::Bound;
 use std::sync::Arc;
+use unit_paths::TreePath;
 
 /// Entries by their paths, none beneath another and none where slots don't allow it. Copies share them until one is
 /// changed. Contracts see a finite map.
@@ -119,7 +119,7 @@ impl Tree {
         }
     }
 
-    /// The tree with these changes made: each replaces what stands at a slot. The tree itself stays.
+    /// The tree with these changes made: each replaces what stands at a slot. `self` is unchanged.
     pub fn with_changes(&self, changes: &[Change]) -> Result<Tree, AllocError>
         requires slots { All (λ change. is_slot change.path ≡ true) changes.now }
         requires from { AreFrom self.now changes.now }
@@ -219,7 +219,7 @@ impl Tree {
             .range((Bound::Included(first), Bound::Unbounded))
             .next()
         {
-            Some((other, _)) => Ok(is_beneath(other.text(), path.text())),
+            Some((other, _)) => Ok(other.is_beneath(path)),
             None => Ok(false),
         }
     }

@@ -1,78 +1,19 @@
-//! What goes out.
-#![tactic(auto, using(crate::proofs::Known::known))]
-
-ghost use Rattle.std.specs.Prelude.{◌≡◌, true, ◌<◌, ◌≤◌, ◌^◌, ◌++◌, [], length, take, OnOk, OnErr, IfErr, IfNone, OnSome};
-ghost use Rattle.std.specs.Bool.{OnFalse};
-ghost use Rattle.std.specs.Io.KnownBytes.{Appends, Keeps};
-ghost use Rattle.std.specs.Prelude.{◌⊎◌};
+//! Writing trees: the one text of a tree.
+ghost use Rattle.std.specs.Prelude.{◌≡◌, ◌<◌, ◌^◌, ◌++◌, true, [], length, OnOk, IfErr};
 ghost use Rattle.std.specs.FinMap as map;
+ghost use Rattle.std.specs.Io.KnownBytes.{Appends};
 ghost use Rattle.std.specs.List.{flat_map};
-ghost use Rattle.link_tree.specs.Sends.{OrStops, Puts};
-ghost use Rattle.link_tree.specs.Streams.{HasCause, StopsIn, WritesSome};
+ghost use Rattle.byte_streams.specs.Streams.{Accounts};
+ghost use Rattle.byte_streams.specs.Writes.{OrStops, Writes};
 ghost use Rattle.link_tree.specs.Trees.{entry_line, inventory_text};
-ghost use Rattle.link_tree.specs.Reads.{SentBefore};
+ghost use Rattle.link_tree.specs.Reads.{AccountsWrite, SentBefore};
 
 use crate::entry::Entry;
-use crate::outgoing::Outgoing;
-use crate::path::TreePath;
-use crate::stream::{PATIENCE, Sink, Stop};
 use crate::tree::Tree;
+use byte_streams::{BufferedWriter, Sink, WriteFault};
 use std::alloc::Global;
 use thiserror::Error;
-
-/// How many bytes went out before the sink failed.
-#[derive(Clone, Copy, Debug, PartialEq, Eq)]
-pub(crate) struct WriteFault(pub usize);
-
-/// One write that takes at least one byte.
-fn write_some<K: Sink>(bytes: &[u8], sink: &mut K) -> Option<usize>
-    requires { 0 < length bytes.now }
-    ensures bytes { WritesSome (K.written sink.old) (K.written sink.new) result bytes.now }
-    ensures cause { IfNone result (HasCause (K.failures sink.old, K.interruptions sink.old) (K.failures sink.new, K.interruptions sink.new)) }
-    ensures calm { OnSome result (K.failures sink.new ≡ K.failures sink.old) }
-{
-    for _tried in 0..PATIENCE {
-        match sink.write(bytes) {
-            Ok(0) => return None,
-            Ok(n) => return Some(n),
-            Err(Stop::Failed) => return None,
-            Err(Stop::Interrupted) => {}
-        }
-    }
-    None
-}
-
-pub(crate) fn flush<K: Sink>(sink: &mut K) -> bool
-    ensures bytes { Keeps (K.written sink.old) (K.written sink.new) }
-    ensures flushed { result ≡ true → K.flushed sink.new ≡ true }
-    ensures cause { OnFalse result (HasCause (K.failures sink.old, K.interruptions sink.old) (K.failures sink.new, K.interruptions sink.new)) }
-{
-    for _tried in 0..PATIENCE {
-        match sink.flush() {
-            Ok(()) => return true,
-            Err(Stop::Failed) => return false,
-            Err(Stop::Interrupted) => {}
-        }
-    }
-    false
-}
-
-/// Writes all of the bytes.
-pub(crate) fn write_all<K: Sink>(bytes: &[u8], sink: &mut K) -> Result<(), WriteFault>
-    ensures ok { OnOk result (Appends (K.written sink.old) (K.written sink.new) bytes.now) }
-    ensures fault { IfErr result (λ e. StopsIn (K.written sink.old) (K.written sink.new) bytes.now e.0) }
-    ensures cause { OnErr result (HasCause (K.failures sink.old, K.interruptions sink.old) (K.failures sink.new, K.interruptions sink.new)) }
-    ensures calm { OnOk result (K.failures sink.new ≡ K.failures sink.old) }
-{
-    let mut sent = 0;
-    while sent < bytes.len() {
-        match write_some(&bytes[sent..], sink) {
-            Some(n) => sent += n,
-            None => return Err(WriteFault(sent)),
-        }
-    }
-    Ok(())
-}
+use unit_paths::TreePath;
 
 /// Why an inventory was not written.
 #[derive(Clone, Copy, Debug, PartialEq, Eq, Hash, Error)]
@@ -89,27 +30,26 @@ const MOST_ENTRIES: usize = 0x100_0000_0000;
 /// More bytes than memory holds, to which those of so many entries can still be added.
 const MOST_BYTES: usize = 0x4000_0000_0000_0000;
 
-fn put_line<K: Sink>(
-    out: &mut Outgoing,
+fn write_line<K: Sink>(
+    writer: &mut BufferedWriter,
     path: &TreePath,
     entry: &Entry,
     sink: &mut K,
 ) -> Result<(), WriteFault>
-    ensures puts { Puts (K.written sink.old) (K.written sink.new) out.old out.new result (entry_line (path.now, entry.now)) }
-    ensures cause { OnErr result (HasCause (K.failures sink.old, K.interruptions sink.old) (K.failures sink.new, K.interruptions sink.new)) }
-    ensures calm { OnOk result (K.failures sink.new ≡ K.failures sink.old) }
+    ensures writes { Writes (K.written sink.old) (K.written sink.new) writer.old writer.new result (entry_line (path.now, entry.now)) }
+    ensures counters { Accounts result (K.counters sink.old) (K.counters sink.new) }
 {
     match entry {
         Entry::File(contents) => {
             let mut digits = itoa::Buffer::new();
             let bytes = contents.bytes();
             let length = digits.format(bytes.len()).as_bytes();
-            out.put_all(
+            writer.write_pieces(
                 &[b"F\t", length, b"\t", path.text(), b"\n", bytes, b"\n"],
                 sink,
             )
         }
-        Entry::Link(target) => out.put_all(
+        Entry::Link(target) => writer.write_pieces(
             &[b"L\t", path.text(), b"\t", target.text(), b"\n"],
             sink,
         ),
@@ -117,44 +57,50 @@ fn put_line<K: Sink>(
 }
 
 /// The lines of the entries, in the order of their paths.
-fn put_lines<K: Sink>(out: &mut Outgoing, tree: &Tree, sink: &mut K) -> Result<(), WriteFault>
-    ensures puts { Puts (K.written sink.old) (K.written sink.new) out.old out.new result (flat_map entry_line (map.entries tree.now)) }
-    ensures cause { OnErr result (HasCause (K.failures sink.old, K.interruptions sink.old) (K.failures sink.new, K.interruptions sink.new)) }
-    ensures calm { OnOk result (K.failures sink.new ≡ K.failures sink.old) }
+fn write_lines<K: Sink>(
+    writer: &mut BufferedWriter,
+    tree: &Tree,
+    sink: &mut K,
+) -> Result<(), WriteFault>
+    ensures writes { Writes (K.written sink.old) (K.written sink.new) writer.old writer.new result (flat_map entry_line (map.entries tree.now)) }
+    ensures counters { Accounts result (K.counters sink.old) (K.counters sink.new) }
 {
     for (path, entry) in tree.entries().iter() {
-        put_line(out, path, entry, sink)?;
+        write_line(writer, path, entry, sink)?;
     }
     Ok(())
 }
 
-fn put_inventory<K: Sink>(out: &mut Outgoing, tree: &Tree, sink: &mut K) -> Result<(), WriteFault>
-    ensures puts { Puts (K.written sink.old) (K.written sink.new) out.old out.new result (inventory_text tree.now) }
-    ensures cause { OnErr result (HasCause (K.failures sink.old, K.interruptions sink.old) (K.failures sink.new, K.interruptions sink.new)) }
-    ensures calm { OnOk result (K.failures sink.new ≡ K.failures sink.old) }
+fn write_tree<K: Sink>(
+    writer: &mut BufferedWriter,
+    tree: &Tree,
+    sink: &mut K,
+) -> Result<(), WriteFault>
+    ensures writes { Writes (K.written sink.old) (K.written sink.new) writer.old writer.new result (inventory_text tree.now) }
+    ensures counters { Accounts result (K.counters sink.old) (K.counters sink.new) }
 {
-    out.put(b"unitadm-inventory 1\n", sink)?;
-    put_lines(out, tree, sink)?;
-    out.put(b"end\n", sink)
+    writer.write(b"unitadm-inventory 1\n", sink)?;
+    write_lines(writer, tree, sink)?;
+    writer.write(b"end\n", sink)
 }
 
 /// Writes a text and that of the tree behind it, and flushes.
 fn write_both<K: Sink>(
-    mut out: Outgoing,
+    mut writer: BufferedWriter,
     text: &[u8],
     tree: &Tree,
     sink: &mut K,
 ) -> Result<(), WriteFault>
-    requires held { out.held ≡ [] }
-    requires sent { out.sent ≡ 0 }
+    requires buffer { writer.buffer ≡ [] }
+    requires sent { writer.sent ≡ 0 }
     requires counted { length (text.now ++ inventory_text tree.now) < 2 ^ 64 }
     ensures written { OrStops (Appends (K.written sink.old) (K.written sink.new) (text.now ++ inventory_text tree.now)) (K.written sink.old) (K.written sink.new) (text.now ++ inventory_text tree.now) result }
     ensures flushed { OnOk result (K.flushed sink.new ≡ true) }
-    ensures cause { OnErr result (HasCause (K.failures sink.old, K.interruptions sink.old) (K.failures sink.new, K.interruptions sink.new)) }
+    ensures counters { Accounts result (K.counters sink.old) (K.counters sink.new) }
 {
-    out.put(text, sink)?;
-    put_inventory(&mut out, tree, sink)?;
-    out.close(sink)
+    writer.write(text, sink)?;
+    write_tree(&mut writer, tree, sink)?;
+    writer.finish(sink)
 }
 
 /// Writes a text and the one text of the tree behind it, and flushes. All memory is taken before the first byte goes out,
@@ -168,16 +114,16 @@ pub fn write_before_inventory<K: Sink>(
     ensures ok { OnOk result (Appends (K.written sink.old) (K.written sink.new) (text.now ++ inventory_text tree.now)) }
     ensures flushed { OnOk result (K.flushed sink.new ≡ true) }
     ensures fault { IfErr result (λ e. SentBefore e (K.written sink.old) (K.written sink.new) (text.now ++ inventory_text tree.now)) }
-    ensures cause { IfErr result (λ e. e ≡ WriteError.OutOfMemory ⊎ HasCause (K.failures sink.old, K.interruptions sink.old) (K.failures sink.new, K.interruptions sink.new)) }
+    ensures counters { AccountsWrite result (K.counters sink.old) (K.counters sink.new) }
 {
     if text.len() > MOST_BYTES || tree.len() > MOST_ENTRIES {
         return Err(WriteError::OutOfMemory);
     }
-    let Ok(out) = Outgoing::none(alloc) else {
+    let Ok(writer) = BufferedWriter::new(alloc) else {
         return Err(WriteError::OutOfMemory);
     };
     tree.shape();
-    match write_both(out, text, tree, sink) {
+    match write_both(writer, text, tree, sink) {
         Ok(()) => Ok(()),
         Err(WriteFault(sent)) => Err(WriteError::Fault(sent)),
     }
@@ -189,7 +135,7 @@ pub fn write_inventory<K: Sink>(alloc: Global, tree: &Tree, sink: &mut K) -> Res
     ensures ok { OnOk result (Appends (K.written sink.old) (K.written sink.new) (inventory_text tree.now)) }
     ensures flushed { OnOk result (K.flushed sink.new ≡ true) }
     ensures fault { IfErr result (λ e. SentBefore e (K.written sink.old) (K.written sink.new) (inventory_text tree.now)) }
-    ensures cause { IfErr result (λ e. e ≡ WriteError.OutOfMemory ⊎ HasCause (K.failures sink.old, K.interruptions sink.old) (K.failures sink.new, K.interruptions sink.new)) }
+    ensures counters { AccountsWrite result (K.counters sink.old) (K.counters sink.new) }
 {
     write_before_inventory(alloc, b"", tree, sink)
 }

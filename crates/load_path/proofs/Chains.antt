@@ -1,7 +1,7 @@
 -- Chains of links, as they are followed and as they stand.
 use Rattle.std.proofs.Common.{◌≡◌, ℕ, zero, suc, ◌+◌, ◌-◌, ◌<◌, ◌≤◌, true, false, cond, List, [], ◌∷◌, length, Option, Some, None, refl, sym, ap, subst, ◌∙◌, arith}
 use Rattle.std.specs.FinMap as map
-use Rattle.link_tree.specs.Canonical.{canonical}
+use Rattle.unit_paths.specs.Canonical.{canonical}
 use Rattle.link_tree.specs.Trees.{Entries}
 use Rattle.link_tree.specs.declared.entry.Entry.{Entry}
 use Rattle.link_tree.specs.declared.entry.Entry.TheVariants as entries

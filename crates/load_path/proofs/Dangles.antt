@@ -12,13 +12,14 @@ use Rattle.unit_name.specs.Parts.{is_name_byte, type_text, kind_of, IsUnitName}
 use Rattle.unit_name.specs.Name.{type_of, instance_of, template_of}
 use Rattle.unit_name.proofs.Names.{parts_read, no_fault_in_name}
 use Rattle.unit_name.proofs.Instances.{instance_set, template_shared, template_named}
-use Rattle.link_tree.specs.Paths.{is_slash}
-use Rattle.link_tree.specs.Canonical.{canonical}
-use Rattle.link_tree.specs.Slots.{places, unit_directory, unit_slot, name_at}
+use Rattle.unit_paths.specs.Paths.{is_slash, name_at}
+use Rattle.unit_paths.specs.Canonical.{canonical}
+use Rattle.unit_paths.specs.Places.{places, unit_directory}
+use Rattle.unit_paths.specs.Slots.{unit_slot}
 use Rattle.link_tree.specs.Trees.{Entries}
 use Rattle.link_tree.specs.declared.entry.Entry.{Entry}
 use Rattle.link_tree.specs.declared.entry.Entry.TheVariants as entries
-use Rattle.link_tree.specs.declared.slot.Place.{Place}
+use Rattle.unit_paths.specs.declared.place.Place.{Place}
 use Rattle.load_path.specs.declared.following.ChainEnd.{ChainEnd}
 use Rattle.load_path.specs.declared.following.ChainEnd.TheVariants.{Null, File, Dangling}
 use Rattle.load_path.specs.declared.finding.Found.TheVariants as founds

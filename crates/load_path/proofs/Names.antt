@@ -1,15 +1,12 @@
 -- The names of files and of units.
 use Rattle.std.proofs.Common.{◌≡◌, ℕ, ◌+◌, ◌<◌, true, false, List, [], ◌∷◌, length, get_or, drop, Some, None, refl, sym, ap, subst, ◌∙◌, arith, suc}
 use Rattle.std.specs.List.{list_any}
-use Rattle.std.proofs.lemmas.List.{length-take-le}
 use Rattle.unit_name.specs.Parts.{kind_of, IsUnitName}
 use Rattle.unit_name.specs.Name.{instance_of, type_of, name_fault}
 use Rattle.unit_name.proofs.Names.{no_fault_in_name, name_from_no_fault}
-use Rattle.link_tree.specs.Paths.{is_slash, is_path, is_absolute}
-use Rattle.link_tree.specs.Canonical.{parent}
-use Rattle.link_tree.specs.Slots.{name_at}
-use Rattle.link_tree.proofs.PathFacts.{path_facts}
-use Rattle.link_tree.proofs.Slashes.{parent-at}
+use Rattle.unit_paths.specs.Paths.{is_slash, is_path, is_absolute, name_at}
+use Rattle.unit_paths.proofs.PathFacts.{path_facts}
+use Rattle.unit_paths.proofs.Slashes.{name-at}
 use Rattle.load_path.specs.RealNames.{named, is_same_type, by_kinds, real_name}
 
 pub not_named : (text : List ℕ) → ¬ IsUnitName text → None ≡ named text
@@ -30,10 +27,9 @@ real_by_kinds name file text e is same =
 
 -- what stands after a slash that is the last
 pub name-after : (text : List ℕ) (i : ℕ) → i < length text → get_or text i 0 ≡ 47 → list_any is_slash (drop (suc i) text) ≡ false → drop (i + 1) text ≡ name_at text
-unfolding name_at
 name-after text i within here none =
-    let front : length (parent text) ≡ i = ap length (sym (parent-at text i within here none)) ∙ length-take-le i text (omega arith) in
-    ap (λ n. drop (n + 1) text) (sym front)
+    let same : i + 1 ≡ suc i = omega arith in
+    ap (λ n. drop n text) same ∙ name-at text i within here none
 
 -- A path has a slash.
 pub slash-in : (text : List ℕ) → is_path text ≡ true → list_any is_slash text ≡ false → ⊥

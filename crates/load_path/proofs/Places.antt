@@ -7,10 +7,12 @@ use Rattle.unit_name.specs.declared.kind.Kind.{Kind}
 use Rattle.unit_name.specs.declared.kind.Kind.TheVariants.{Plain, Template, Instance}
 use Rattle.unit_name.specs.Parts.{kind_of}
 use Rattle.unit_name.specs.Name.{instance_of, template_of}
-use Rattle.link_tree.specs.Slots.{places, unit_slot, name_at}
+use Rattle.unit_paths.specs.Places.{places}
+use Rattle.unit_paths.specs.Slots.{unit_slot}
+use Rattle.unit_paths.specs.Paths.{name_at}
 use Rattle.link_tree.specs.Trees.{Entries}
 use Rattle.link_tree.specs.declared.entry.Entry.{Entry}
-use Rattle.link_tree.specs.declared.slot.Place.{Place}
+use Rattle.unit_paths.specs.declared.place.Place.{Place}
 use Rattle.load_path.specs.declared.following.ChainEnd.{ChainEnd}
 use Rattle.load_path.specs.declared.following.ChainEnd.TheVariants.{Null, File, Dangling}
 use Rattle.load_path.specs.declared.finding.Found.TheVariants as founds

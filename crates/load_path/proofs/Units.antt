@@ -8,7 +8,7 @@ use Rattle.unit_name.specs.Parts.{kind_of, type_text, IsUnitName}
 use Rattle.unit_name.specs.Name.{is_unit_name, name_fault, type_named, type_of, instance_of, with_instance}
 use Rattle.unit_name.proofs.Names.{name_from_no_fault}
 use Rattle.unit_name.proofs.Instances.{instance_set}
-use Rattle.link_tree.specs.Slots.{name_at}
+use Rattle.unit_paths.specs.Paths.{name_at}
 use Rattle.link_tree.proofs.Changed.{same_bytes}
 use Rattle.load_path.specs.RealNames.{is_same_type, is_same_instance, named, put_in, by_kinds, real_name}
 use Rattle.load_path.specs.Laws.{UnitIsLikeName}

@@ -1,7 +1,7 @@
 -- Chains of links, as they stand in a tree.
 use Rattle.std.specs.Prelude.{◌≡◌, ◌+◌, ◌<◌, ℕ, zero, suc, true, false, List, [], length, Some, None}
 use Rattle.std.specs.FinMap as map
-use Rattle.link_tree.specs.Canonical.{canonical}
+use Rattle.unit_paths.specs.Canonical.{canonical}
 use Rattle.link_tree.specs.Trees.{Entries}
 use Rattle.link_tree.specs.declared.entry.Entry.TheVariants as entries
 use Rattle.load_path.specs.declared.following.End.{End}

@@ -1,7 +1,7 @@
 -- Following links: systemd.unit(5), "Unit File Load Path".
 use Rattle.std.specs.Prelude.{ℕ, zero, suc, Bool, if◌then◌else◌, List, [], ◌∷◌, Option, Some, None, codes}
 use Rattle.std.specs.Str.{bytes_eq}
-use Rattle.link_tree.specs.Canonical.{canonical}
+use Rattle.unit_paths.specs.Canonical.{canonical}
 use Rattle.link_tree.specs.declared.entry.Entry.{Entry}
 use Rattle.link_tree.specs.declared.entry.Entry.TheVariants as entries
 use Rattle.load_path.specs.declared.following.End.{End}

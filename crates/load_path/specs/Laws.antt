@@ -8,9 +8,11 @@ use Rattle.unit_name.specs.declared.kind.Kind.{Kind}
 use Rattle.unit_name.specs.declared.kind.Kind.TheVariants.{Plain, Instance}
 use Rattle.unit_name.specs.Parts.{kind_of}
 use Rattle.unit_name.specs.Name.{is_unit_name, type_of, instance_of, template_of}
-use Rattle.link_tree.specs.Slots.{places, unit_slot, name_at}
+use Rattle.unit_paths.specs.Places.{places}
+use Rattle.unit_paths.specs.Slots.{unit_slot}
+use Rattle.unit_paths.specs.Paths.{name_at}
 use Rattle.link_tree.specs.Trees.{Entries}
-use Rattle.link_tree.specs.declared.slot.Place.{Place}
+use Rattle.unit_paths.specs.declared.place.Place.{Place}
 use Rattle.load_path.specs.declared.following.End.{End}
 use Rattle.load_path.specs.declared.following.End.TheVariants as ends
 use Rattle.load_path.specs.declared.finding.Found.{Found}

@@ -1,7 +1,7 @@
 //! Looking units up by their names.
 ghost use Rattle.std.specs.Prelude.{◌≡◌, IfOk};
 ghost use Rattle.std.specs.Option.{option_map};
-ghost use Rattle.link_tree.specs.Slots.{places};
+ghost use Rattle.unit_paths.specs.Places.{places};
 ghost use Rattle.load_path.specs.Search.{Finds, each_once};
 ghost use Rattle.load_path.specs.Find.{first_in, first_entry, found_at, unit_at, find};
 

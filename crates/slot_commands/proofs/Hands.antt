@@ -2,15 +2,14 @@
 use Rattle.std.proofs.Common.{◌≡◌, ℕ, Bool, true, false, List, Option, Some, None, Err, refl, ap}
 use Rattle.std.specs.FinMap as map
 use Rattle.link_tree.specs.declared.entry.Entry.{Entry}
-use Rattle.link_tree.specs.Slots.{is_slot}
+use Rattle.unit_paths.specs.Slots.{is_slot}
 use Rattle.link_tree.specs.Trees.{Entries, set_entry}
 use Rattle.link_tree.proofs.Changed.{get-set}
 use Rattle.slot_commands.specs.declared.by_hand.PlaceEntry.{PlaceEntry}
 use Rattle.slot_commands.specs.declared.by_hand.RemoveEntry.{RemoveEntry}
 use Rattle.footprint.specs.declared.refusal.Refusal.TheVariants.{NotASlot, Absent, Exists}
-use Rattle.footprint.specs.Steps.{Rule, ruled_at}
-use Rattle.slot_commands.specs.ByHand.{place_at, remove_at, ruled_slot}
-use Rattle.slot_commands.specs.Laws.{with_one, FillsSlot, PlaceFills, EmptiesSlot, RemoveEmpties}
+use Rattle.footprint.specs.Placing.{Rule, ruled_at}
+use Rattle.slot_commands.specs.ByHand.{place_at, remove_at, ruled_slot, with_one, FillsSlot, PlaceFills, EmptiesSlot, RemoveEmpties}
 use Rattle.slot_commands.proofs.Turns.{left_by}
 use Rattle.slot_commands.proofs.Outcomes.{refuses, leaves_tree}
 

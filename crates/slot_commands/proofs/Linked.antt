@@ -8,31 +8,32 @@ use Rattle.std.proofs.lemmas.Slice.Eq.{bytes_eq-Decides}
 use Rattle.unit_name.specs.Name.{is_unit_name, type_of}
 use Rattle.link_tree.specs.declared.entry.Entry.{Entry}
 use Rattle.link_tree.specs.declared.entry.Entry.TheVariants.{File, Link}
-use Rattle.link_tree.specs.declared.slot.Place.{Place}
-use Rattle.link_tree.specs.declared.slot.Dependency.{Dependency}
-use Rattle.link_tree.specs.Canonical.{canonical}
-use Rattle.link_tree.specs.Slots.{unit_slot, dependency_slot, scope_place, name_at, slot_of}
+use Rattle.unit_paths.specs.declared.place.Place.{Place}
+use Rattle.unit_paths.specs.declared.slot.Dependency.{Dependency}
+use Rattle.unit_paths.specs.Canonical.{canonical}
+use Rattle.unit_paths.specs.Slots.{unit_slot, dependency_slot, slot_of}
+use Rattle.unit_paths.specs.Places.{scope_place}
+use Rattle.unit_paths.specs.Paths.{name_at}
 use Rattle.link_tree.specs.Trees.{Entries, set_entry, after_changes}
 use Rattle.link_tree.proofs.Changed.{same_bytes, get-set}
 use Rattle.load_path.specs.declared.following.End.{End}
 use Rattle.load_path.specs.declared.following.End.TheVariants as ends
 use Rattle.load_path.specs.declared.finding.Found.{Found}
 use Rattle.load_path.specs.declared.finding.Found.TheVariants as founds
-use Rattle.load_path.specs.Search.{Search}
 use Rattle.load_path.specs.Follow.{follow}
 use Rattle.load_path.specs.Find.{find}
 use Rattle.footprint.specs.declared.answer.Answer.TheVariants.{Done}
 use Rattle.footprint.specs.declared.refusal.Refusal.{Refusal}
 use Rattle.footprint.specs.declared.refusal.Refusal.TheVariants.{Exists, NeedsInstance, BadType}
 use Rattle.footprint.specs.declared.refusal.Subject.TheVariants as subjects
-use Rattle.footprint.specs.Steps.{Verdict, ruled_at, ruled, unless_refused, each_in_turn}
-use Rattle.footprint.specs.Commands.{effect}
-use Rattle.slot_commands.specs.Links.{is_same_path, leads_alike, link_at, relink_at}
-use Rattle.slot_commands.specs.LinkUnits.{is_of_unit, link_file, link_end, link_unit}
-use Rattle.slot_commands.specs.Units.{found_unit}
-use Rattle.slot_commands.specs.AddTo.{is_template_name, default_of, listed_name, add_listed, add_file, add_unit, add_units}
-use Rattle.slot_commands.specs.SetDefault.{default_slot, is_target_type, default_file}
-use Rattle.slot_commands.specs.Laws.{LeadsAs, IsFound, DefaultIsSet, Keeps, AddsOnly, IsLinked, FilesAreLinked, IsDependency, DependenciesAreAdded}
+use Rattle.footprint.specs.Placing.{Verdict, effect, ruled_at}
+use Rattle.footprint.specs.Steps.{Step, ruled, unless_refused, each_in_turn}
+use Rattle.slot_commands.specs.Links.{is_same_path, leads_alike, link_at, relink_at, LeadsAs}
+use Rattle.slot_commands.specs.LinkUnits.{is_of_unit, link_file, link_end, link_unit, IsLinked, FilesAreLinked}
+use Rattle.slot_commands.specs.Units.{found_unit, IsFound}
+use Rattle.slot_commands.specs.AddTo.{is_template_name, default_of, listed_name, add_listed, add_file, add_unit, add_units, IsDependency, DependenciesAreAdded}
+use Rattle.slot_commands.specs.SetDefault.{default_slot, is_target_type, default_file, DefaultIsSet}
+use Rattle.slot_commands.specs.Effects.{Keeps, AddsOnly}
 use Rattle.slot_commands.proofs.Turns.{left_by, leaves, goes_on, in_turn, all_turns}
 use Rattle.slot_commands.proofs.Outcomes.{placed_leads}
 
@@ -105,7 +106,7 @@ module _ (slot target : List ℕ) (u : Entries) where
   linked v is = linked_at (map.get u slot) v refl is
 
 -- what steps do that keep what stands, in turn
-module _ {A : Type 0} (step : A → Search Verdict) (IsNew : A → List ℕ → Entry → Type 0) (IsDone : Entries → A → Type 0)
+module _ {A : Type 0} (step : A → Step) (IsNew : A → List ℕ → Entry → Type 0) (IsDone : Entries → A → Type 0)
     (stays_done : (a : A) (u v : Entries) → Keeps u v → IsDone u a → IsDone v a) where
   abbrev One : A → Entries → Entries → Type 0
   One a u v = Keeps u v × (AddsOnly (IsNew a) u v × IsDone v a)
@@ -144,7 +145,7 @@ module _ {A : Type 0} (step : A → Search Verdict) (IsNew : A → List ℕ → 
     every (a ∷ rest) u v is = one_more a rest u v (λ w left. every rest w v left) (leaves (step a) u) refl is
 
 -- an accepted command leaves the tree in which something was placed
-left_tree : (t : Entries) (verdict : Verdict) → (effect t verdict).answer ≡ Done [] → left_by verdict t ≡ Ok (after_changes (effect t verdict).changes t)
+left_tree : (t : Entries) (verdict : Verdict) → (effect t verdict).answer ≡ Done map.empty → left_by verdict t ≡ Ok (after_changes (effect t verdict).changes t)
 left_tree t (Ok placed) is = ap (λ m. Ok m) (sym (placed_leads t placed))
 left_tree t (Err refusal) is = cc
 
@@ -187,7 +188,7 @@ module _ (place : Place) where
 pub files_are_linked : FilesAreLinked
 files_are_linked = λ link t done.
     let place = scope_place link.scope in
-    let verdict = (each_in_turn (link_unit place) link.paths []).conclusion t in
+    let verdict = (each_in_turn (link_unit place) link.paths).conclusion t in
     let all = every (link_unit place) (IsNewLink place) (IsLinked place) (linked_kept place) (one_linked place) link.paths t (after_changes (effect t verdict).changes t) (sym (all_turns (link_unit place) link.paths t) ∙ left_tree t verdict done) in
     record { kept = all.0; only = all.1.0; linked = all.1.1 }
 
@@ -224,12 +225,12 @@ module _ (place : Place) (dependency : Dependency) (by : List ℕ) where
   one_listed unit u v is = found_listed unit u v ((find unit).conclusion u) is
 
 -- what is found
-module _ (name : List ℕ) (t : Entries) (on : (real file : List ℕ) → Search Verdict) where
+module _ (name : List ℕ) (t : Entries) (on : (real file : List ℕ) → Step) where
   abbrev verdict_of : Found → Verdict
   verdict_of found = (unless_refused (λ (unit : List ℕ × List ℕ). on unit.0 unit.1) (found_unit name found)).conclusion t
 
   -- an accepted command has found the unit
-  was_found : (found : Found) → (find name).conclusion t ≡ found → (effect t (verdict_of found)).answer ≡ Done []
+  was_found : (found : Found) → (find name).conclusion t ≡ found → (effect t (verdict_of found)).answer ≡ Done map.empty
       → (real : List ℕ) × (file : List ℕ) × IsFound t name real file × (verdict_of found ≡ (on real file).conclusion t)
   was_found founds.Missing at is = cc
   was_found (founds.Masked place) at is = cc
@@ -239,7 +240,7 @@ module _ (name : List ℕ) (t : Entries) (on : (real file : List ℕ) → Search
 pub dependencies_are_added : DependenciesAreAdded
 dependencies_are_added = λ add t done.
     let place = scope_place add.scope in
-    let on : List ℕ → List ℕ → Search Verdict = λ real file. add_units place add.dependency add.units real in
+    let on : List ℕ → List ℕ → Step = λ real file. add_units place add.dependency add.units real in
     let unit = was_found add.target t on ((find add.target).conclusion t) refl done in
     let by = unit.0 in
     let verdict = verdict_of add.target t on ((find add.target).conclusion t) in

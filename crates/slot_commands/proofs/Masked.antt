@@ -7,17 +7,17 @@ use Rattle.std.specs.Str.{bytes_eq}
 use Rattle.std.specs.FinMap as map
 use Rattle.std.proofs.lemmas.Bool.{cases_Bool, false≢true, not-true}
 use Rattle.link_tree.specs.declared.entry.Entry.{Entry}
-use Rattle.link_tree.specs.Canonical.{is_null_target, is_null_link, merged, walked, with_part, start_of, begins_with_slash}
-use Rattle.link_tree.specs.Paths.{is_path, is_part, is_text_byte, is_absolute}
+use Rattle.unit_paths.specs.Canonical.{is_null_target, merged, walked, with_part, start_of, begins_with_slash}
+use Rattle.link_tree.specs.Links.{is_null_link}
+use Rattle.unit_paths.specs.Paths.{is_path, is_part, is_text_byte, is_absolute}
 use Rattle.link_tree.specs.Trees.{Entries, set_entry}
 use Rattle.link_tree.proofs.Changed.{same_bytes, get-set}
-use Rattle.link_tree.specs.declared.slot.Scope.{Scope}
+use Rattle.unit_paths.specs.declared.place.Scope.{Scope}
 use Rattle.slot_commands.specs.declared.mask.Mask.{Mask}
 use Rattle.footprint.specs.declared.refusal.Refusal.{Refusal}
 use Rattle.footprint.specs.declared.refusal.Refusal.TheVariants.{Exists}
-use Rattle.footprint.specs.Steps.{Rule, ruled_at}
-use Rattle.slot_commands.specs.Masks.{mask_link, is_mask, mask_at, unmask_at, ruled_unit, each_ruled}
-use Rattle.slot_commands.specs.Laws.{has_mask, is_in_the_way, masked, unmasked, slots_of, FillsEmptySlots, MaskFills, UnmaskEmpties}
+use Rattle.footprint.specs.Placing.{Rule, ruled_at}
+use Rattle.slot_commands.specs.Masks.{mask_link, is_mask, mask_at, unmask_at, ruled_unit, each_ruled, has_mask, is_in_the_way, masked, unmasked, slots_of, FillsEmptySlots, MaskFills, UnmaskEmpties}
 use Rattle.slot_commands.proofs.Turns.{left_by, goes_on, in_turn, all_turns}
 use Rattle.slot_commands.proofs.Outcomes.{refuses, leaves_tree}
 

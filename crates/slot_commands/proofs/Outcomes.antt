@@ -5,15 +5,13 @@ use Rattle.link_tree.specs.declared.entry.Entry.{Entry}
 use Rattle.link_tree.specs.Trees.{Entries, after_changes}
 use Rattle.footprint.specs.declared.answer.Answer.TheVariants.{Done, Refused}
 use Rattle.footprint.specs.declared.refusal.Refusal.{Refusal}
-use Rattle.load_path.specs.Search.{Search}
 use Rattle.footprint.specs.declared.key.Key.TheVariants.{Cell}
 use Rattle.footprint.specs.Operations.{outcome_of}
 use Rattle.footprint.specs.Readings.{reading_of}
-use Rattle.footprint.specs.Steps.{Placed, Verdict, placed_in}
+use Rattle.footprint.specs.Placing.{Placed, Verdict, placed_in, effect}
+use Rattle.footprint.specs.Steps.{Step, carried_out}
 use Rattle.footprint.specs.Edits.{stepped, ended, GoesOn}
-use Rattle.footprint.specs.Commands.{effect, carried_out}
-use Rattle.slot_commands.specs.Looked.{Looks}
-use Rattle.slot_commands.specs.Laws.{Refuses, Leaves}
+use Rattle.slot_commands.specs.Effects.{Refuses, Leaves}
 use Rattle.link_tree.proofs.Leads.{leads}
 use Rattle.slot_commands.proofs.Turns.{left_by}
 
@@ -30,7 +28,7 @@ leaves_tree t (Ok placed) u there is same = let left : placed_in placed t ≡ u 
 leaves_tree t (Err other) u there is same = cc
 
 -- an accepted command placed something
-pub accepted : (t : Entries) (verdict : Verdict) → (effect t verdict).answer ≡ Done [] → (placed : List Placed) × (verdict ≡ Ok placed)
+pub accepted : (t : Entries) (verdict : Verdict) → (effect t verdict).answer ≡ Done map.empty → (placed : List Placed) × (verdict ≡ Ok placed)
 accepted t (Ok placed) is = (placed, refl)
 accepted t (Err refusal) is = cc
 
@@ -40,10 +38,9 @@ begun : (cells : List (List ℕ)) (verdict : Verdict) (t : Entries)
 begun cells (Ok placed) t = refl
 begun cells (Err refusal) t = refl
 
--- What a command comes to that went on as its search says, from a tree of which nothing was looked at.
-pub comes_to : {O : Type 0} (search : O → Search Verdict) (looked : (c : O) → Looks (search c)) (c : O) (t : Entries)
-    (before cells : List (List ℕ)) (done : Result (Entries × Entries) Refusal) → before ≡ [] → GoesOn (search c) (t, t) before cells done
-    → ended t cells done ≡ outcome_of (λ c. carried_out (search c) (looked c)) c t
-comes_to search looked c t before cells done none goes =
-    let here : cells ≡ (search c).cells t = goes.1 ∙ ap (λ before. before ++ (search c).cells t) none in
-    (λ i. ended t (here i) (goes.0 i)) ∙ begun ((search c).cells t) ((search c).conclusion t) t
+-- What a command comes to that went on as its steps say, from a tree of which nothing was looked at.
+pub comes_to : {C : Type 0} (steps : C → Step) (c : C) (t : Entries) (before cells : List (List ℕ)) (done : Result (Entries × Entries) Refusal)
+    → before ≡ [] → GoesOn (steps c) (t, t) before cells done → ended t cells done ≡ outcome_of (λ c. carried_out (steps c)) c t
+comes_to steps c t before cells done none goes =
+    let here : cells ≡ (steps c).cells t = goes.1 ∙ ap (λ before. before ++ (steps c).cells t) none in
+    (λ i. ended t (here i) (goes.0 i)) ∙ begun ((steps c).cells t) ((steps c).conclusion t) t

@@ -2,13 +2,13 @@
 use Rattle.std.proofs.Common.{◌≡◌, ℕ, true, List, [], ◌∷◌, length, refl, arith}
 use Rattle.std.specs.Prelude.{nat_lt, nat_le, ◌&&◌}
 use Rattle.std.specs.List.{list_all}
-use Rattle.link_tree.specs.declared.fault.TheConstants.{MAX_PATH}
+use Rattle.unit_paths.specs.declared.fault.TheConstants.{MAX_PATH}
 use Rattle.std.proofs.lemmas.Bool.{and_parts, and_from, false≢true, lt-ltb}
 use Rattle.unit_name.specs.Parts.{type_text}
 use Rattle.unit_name.specs.Name.{name_fault, part_fault, prefix_of, stem_of, suffix_of, type_of, type_named}
-use Rattle.link_tree.specs.Paths.{is_path, is_target, is_absolute, is_text_byte, is_part}
-use Rattle.link_tree.specs.Canonical.{parent}
-use Rattle.link_tree.specs.Slots.{unit_directory, slot_of, slots_in, place_of, preset_place_of, name_at, list_slot, is_slot}
+use Rattle.unit_paths.specs.Paths.{is_path, is_target, is_absolute, is_text_byte, is_part, parent, name_at}
+use Rattle.unit_paths.specs.Places.{unit_directory, place_of, preset_place_of}
+use Rattle.unit_paths.specs.Slots.{slot_of, slots_in, is_slot, dependency_directory_slots}
 use Rattle.slot_commands.specs.SetDefault.{default_slot}
 
 -- a path may be the target of a link
@@ -26,5 +26,5 @@ unfolding is_path is_absolute is_text_byte is_part
 default_path = refl
 
 pub default_is_slot : is_slot default_slot ≡ true
-unfolding unit_directory slot_of slots_in place_of preset_place_of parent name_at list_slot name_fault part_fault prefix_of stem_of suffix_of type_of type_named type_text
+unfolding unit_directory slot_of slots_in place_of preset_place_of parent name_at dependency_directory_slots name_fault part_fault prefix_of stem_of suffix_of type_of type_named type_text
 default_is_slot = refl

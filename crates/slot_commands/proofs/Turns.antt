@@ -2,9 +2,9 @@
 use Rattle.std.proofs.Common.{◌≡◌, ℕ, ◌+◌, ◌<◌, ◌≤◌, List, [], ◌∷◌, ◌++◌, length, drop, get_or, Result, Ok, Err, refl, sym, ap, ◌∙◌}
 use Rattle.std.proofs.lemmas.List.{append_assoc, append-nil, drop_more, drop_all}
 use Rattle.link_tree.specs.Trees.{Entries}
-use Rattle.load_path.specs.Search.{Search}
 use Rattle.footprint.specs.declared.refusal.Refusal.{Refusal}
-use Rattle.footprint.specs.Steps.{Placed, Verdict, placed_in, unless_refused, each_in_turn}
+use Rattle.footprint.specs.Placing.{Placed, Verdict, placed_in, placed_before, concluded_after, cells_after}
+use Rattle.footprint.specs.Steps.{Step, each_in_turn}
 use Rattle.footprint.specs.Edits.{stepped, GoesOn}
 use Rattle.footprint.proofs.HeldBack.{placed_in-append}
 
@@ -13,7 +13,7 @@ abbrev pub left_by : Verdict → Entries → Result Entries Refusal
 left_by (Ok placed) t = Ok (placed_in placed t)
 left_by (Err refusal) t = Err refusal
 
-abbrev pub leaves : Search Verdict → Entries → Result Entries Refusal
+abbrev pub leaves : Step → Entries → Result Entries Refusal
 leaves s t = left_by (s.conclusion t) t
 
 abbrev pub goes_on : (Entries → Result Entries Refusal) → Result Entries Refusal → Result Entries Refusal
@@ -21,7 +21,7 @@ goes_on on (Ok u) = on u
 goes_on on (Err refusal) = Err refusal
 
 -- the tree that is left when one argument is taken after another
-abbrev pub in_turn : {A : Type 0} → (A → Search Verdict) → List A → Entries → Result Entries Refusal
+abbrev pub in_turn : {A : Type 0} → (A → Step) → List A → Entries → Result Entries Refusal
 in_turn step [] t = Ok t
 in_turn step (a ∷ rest) t = goes_on (in_turn step rest) (leaves (step a) t)
 
@@ -30,40 +30,35 @@ looks_on on (Ok u) = on u
 looks_on on (Err refusal) = []
 
 -- the cells that are looked at then
-abbrev pub cells_in_turn : {A : Type 0} → (A → Search Verdict) → List A → Entries → List (List ℕ)
+abbrev pub cells_in_turn : {A : Type 0} → (A → Step) → List A → Entries → List (List ℕ)
 cells_in_turn step [] t = []
 cells_in_turn step (a ∷ rest) t = (step a).cells t ++ looks_on (cells_in_turn step rest) (leaves (step a) t)
 
-module _ {A : Type 0} (step : A → Search Verdict) where
-  turn : (rest : List A) (placed : List Placed) (t : Entries) (verdict : Verdict)
-      → ((more : List Placed) → left_by ((each_in_turn step rest (placed ++ more)).conclusion t) t ≡ in_turn step rest (placed_in (placed ++ more) t))
-      → left_by ((unless_refused (λ more. each_in_turn step rest (placed ++ more)) verdict).conclusion t) t ≡ goes_on (in_turn step rest) (left_by verdict (placed_in placed t))
-  turn rest placed t (Ok more) later = later more ∙ ap (in_turn step rest) (placed_in-append placed more t)
-  turn rest placed t (Err refusal) later = refl
+left_more : (placed : List Placed) (verdict : Verdict) (t : Entries) → left_by (placed_before placed verdict) t ≡ left_by verdict (placed_in placed t)
+left_more placed (Ok more) t = ap (λ u. Ok u) (placed_in-append placed more t)
+left_more placed (Err refusal) t = refl
 
-  turns : (args : List A) (placed : List Placed) (t : Entries) → left_by ((each_in_turn step args placed).conclusion t) t ≡ in_turn step args (placed_in placed t)
-  turns [] placed t = refl
-  turns (a ∷ rest) placed t = turn rest placed t ((step a).conclusion (placed_in placed t)) (λ more. turns rest (placed ++ more) t)
+-- the tree that a step leaves, and then another
+left_then : (verdict : Verdict) (next : Step) (t : Entries) → left_by (concluded_after verdict next.conclusion t) t ≡ goes_on (leaves next) (left_by verdict t)
+left_then (Ok placed) next t = left_more placed (next.conclusion (placed_in placed t)) t
+left_then (Err refusal) next t = refl
 
+looked_then : (verdict : Verdict) (next : Step) (t : Entries) → cells_after verdict next.cells t ≡ looks_on next.cells (left_by verdict t)
+looked_then (Ok placed) next t = refl
+looked_then (Err refusal) next t = refl
+
+module _ {A : Type 0} (step : A → Step) where
   -- what is placed in turn leaves the tree that the arguments leave in turn
-  pub all_turns : (args : List A) (t : Entries) → left_by ((each_in_turn step args []).conclusion t) t ≡ in_turn step args t
-  all_turns args t = turns args [] t
-
-  turn_cells : (rest : List A) (placed : List Placed) (t : Entries) (verdict : Verdict)
-      → ((more : List Placed) → (each_in_turn step rest (placed ++ more)).cells t ≡ cells_in_turn step rest (placed_in (placed ++ more) t))
-      → (unless_refused (λ more. each_in_turn step rest (placed ++ more)) verdict).cells t ≡ looks_on (cells_in_turn step rest) (left_by verdict (placed_in placed t))
-  turn_cells rest placed t (Ok more) later = later more ∙ ap (cells_in_turn step rest) (placed_in-append placed more t)
-  turn_cells rest placed t (Err refusal) later = refl
-
-  turns_cells : (args : List A) (placed : List Placed) (t : Entries) → (each_in_turn step args placed).cells t ≡ cells_in_turn step args (placed_in placed t)
-  turns_cells [] placed t = refl
-  turns_cells (a ∷ rest) placed t =
-      ap (λ cells. (step a).cells (placed_in placed t) ++ cells)
-      (turn_cells rest placed t ((step a).conclusion (placed_in placed t)) (λ more. turns_cells rest (placed ++ more) t))
+  pub all_turns : (args : List A) (t : Entries) → left_by ((each_in_turn step args).conclusion t) t ≡ in_turn step args t
+  all_turns [] t = refl
+  all_turns (a ∷ rest) t = left_then ((step a).conclusion t) (each_in_turn step rest) t ∙ ap (λ on. goes_on on (leaves (step a) t)) (λ i u. all_turns rest u i)
 
   -- and its cells are theirs
-  pub all_cells : (args : List A) (t : Entries) → (each_in_turn step args []).cells t ≡ cells_in_turn step args t
-  all_cells args t = turns_cells args [] t
+  pub all_cells : (args : List A) (t : Entries) → (each_in_turn step args).cells t ≡ cells_in_turn step args t
+  all_cells [] t = refl
+  all_cells (a ∷ rest) t =
+      ap (λ cells. (step a).cells t ++ cells)
+      (looked_then ((step a).conclusion t) (each_in_turn step rest) t ∙ ap (λ on. looks_on on (leaves (step a) t)) (λ i u. all_cells rest u i))
 
 -- an edit after a step
 pub stepped_on : (verdict : Verdict) (edit next : Entries × Entries) → Ok next ≡ stepped verdict edit → (next.0 ≡ edit.0) × (left_by verdict edit.1 ≡ Ok next.1)
@@ -85,12 +80,12 @@ begun_err (Err other) t refusal is = cc
 
 -- The arguments from one on, in the tree as it is now, lead where all of them do from the first tree, and what is still to be
 -- looked at is all that is.
-pub record HasCome {A : Type 0} (step : A → Search Verdict) (args : List A) (i : ℕ) (first : Entries) (edit : Entries × Entries) (before now : List (List ℕ)) : Type 0 where
+pub record HasCome {A : Type 0} (step : A → Step) (args : List A) (i : ℕ) (first : Entries) (edit : Entries × Entries) (before now : List (List ℕ)) : Type 0 where
   pub begun : edit.0 ≡ first
   pub leads : in_turn step (drop i args) edit.1 ≡ in_turn step args first
   pub looks : now ++ cells_in_turn step (drop i args) edit.1 ≡ before ++ cells_in_turn step args first
 
-module _ {A : Type 0} (step : A → Search Verdict) (args : List A) (i : ℕ) (first : Entries) (edit : Entries × Entries) (before now : List (List ℕ)) (come : HasCome step args i first edit before now) where
+module _ {A : Type 0} (step : A → Step) (args : List A) (i : ℕ) (first : Entries) (edit : Entries × Entries) (before now : List (List ℕ)) (come : HasCome step args i first edit before now) where
   -- one argument more
   module _ (a : A) (is : a ≡ get_or args i a) (within : i < length args) where
     rest_is : drop i args ≡ a ∷ drop (i + 1) args
@@ -117,17 +112,17 @@ module _ {A : Type 0} (step : A → Search Verdict) (args : List A) (i : ℕ) (f
           looks = more_cells then goes.1 (Ok next.1) on.1;
         }
 
-    pub refused_turn : (refusal : Refusal) (then : List (List ℕ)) → GoesOn (step a) edit now then (Err refusal) → GoesOn (each_in_turn step args []) (first, first) before then (Err refusal)
+    pub refused_turn : (refusal : Refusal) (then : List (List ℕ)) → GoesOn (step a) edit now then (Err refusal) → GoesOn (each_in_turn step args) (first, first) before then (Err refusal)
     refused_turn refusal then goes =
         let off = stepped_off ((step a).conclusion edit.1) edit refusal goes.0 in (
-          begun_err ((each_in_turn step args []).conclusion first) first refusal (all_turns step args first ∙ sym one_more ∙ ap (goes_on (in_turn step (drop (i + 1) args))) off),
+          begun_err ((each_in_turn step args).conclusion first) first refusal (all_turns step args first ∙ sym one_more ∙ ap (goes_on (in_turn step (drop (i + 1) args))) off),
           sym (append-nil then) ∙ more_cells then goes.1 (Err refusal) off ∙ ap (λ cells. before ++ cells) (sym (all_cells step args first)),
         )
 
   -- all arguments are through
-  pub last_turn : length args ≤ i → GoesOn (each_in_turn step args []) (first, first) before now (Ok edit)
+  pub last_turn : length args ≤ i → GoesOn (each_in_turn step args) (first, first) before now (Ok edit)
   last_turn through = (
-    begun_ok ((each_in_turn step args []).conclusion first) first edit come.begun
+    begun_ok ((each_in_turn step args).conclusion first) first edit come.begun
         (all_turns step args first ∙ sym come.leads ∙ ap (λ rest. in_turn step rest edit.1) (drop_all i args through)),
     sym (append-nil now) ∙ sym (ap (λ rest. now ++ cells_in_turn step rest edit.1) (drop_all i args through)) ∙ come.looks ∙ ap (λ cells. before ++ cells) (sym (all_cells step args first)),
   )

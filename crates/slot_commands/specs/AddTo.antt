@@ -1,5 +1,6 @@
--- add-wants and add-requires: systemctl(1).
-use Rattle.std.specs.Prelude.{ℕ, Bool, not, ◌&&◌, if◌then◌else◌, List, [], Option, Some, None, Err}
+-- add-wants and add-requires: systemctl(1), "Unit File Commands".
+use Rattle.std.specs.FinMap as map
+use Rattle.std.specs.Prelude.{◌≡◌, ℕ, Bool, not, ◌&&◌, if◌then◌else◌, List, [], Option, Some, None}
 use Rattle.unit_name.specs.declared.kind.Kind.{Kind}
 use Rattle.unit_name.specs.declared.kind.Kind.TheVariants.{Instance}
 use Rattle.unit_name.specs.Parts.{kind_of}
@@ -7,21 +8,28 @@ use Rattle.unit_name.specs.Name.{instance_of}
 use Rattle.unit_file.specs.Identity.{is_template, identity_of}
 use Rattle.unit_file.specs.Reading.{text_of}
 use Rattle.link_tree.specs.declared.entry.Entry.{Entry}
-use Rattle.link_tree.specs.declared.entry.Entry.TheVariants.{File}
-use Rattle.link_tree.specs.declared.slot.Dependency.{Dependency}
-use Rattle.link_tree.specs.declared.slot.Place.{Place}
-use Rattle.link_tree.specs.Slots.{dependency_slot}
-use Rattle.load_path.specs.Search.{Search, over, look, ◌>>=◌}
+use Rattle.link_tree.specs.declared.entry.Entry.TheVariants.{File, Link}
+use Rattle.unit_paths.specs.declared.slot.Dependency.{Dependency}
+use Rattle.unit_paths.specs.declared.place.Place.{Place}
+use Rattle.unit_paths.specs.Slots.{dependency_slot}
+use Rattle.unit_paths.specs.Places.{scope_place}
+use Rattle.link_tree.specs.Trees.{Entries, after_changes}
+use Rattle.load_path.specs.Search.{look}
+use Rattle.footprint.specs.declared.answer.Answer.TheVariants.{Done}
 use Rattle.footprint.specs.declared.refusal.Refusal.TheVariants.{NeedsInstance}
-use Rattle.footprint.specs.Steps.{Verdict, each_in_turn, ruled}
+use Rattle.footprint.specs.Inquiry.{Inquiry}
+use Rattle.footprint.specs.Operations.{Effect}
+use Rattle.footprint.specs.Steps.{Step, refuse, ruled, each_in_turn, carried_out, ◌>>=◌}
+use Rattle.slot_commands.specs.declared.add_to.AddTo.{AddTo}
+use Rattle.slot_commands.specs.Effects.{Keeps, AddsOnly}
 use Rattle.slot_commands.specs.Links.{link_at}
-use Rattle.slot_commands.specs.Units.{with_unit}
+use Rattle.slot_commands.specs.Units.{with_unit, IsFound}
 
--- whether a name is that of a template
+-- whether a name is that of a template: systemd.unit(5)
 abbrev pub is_template_name : List ℕ → Bool
 is_template_name name = is_template (kind_of (instance_of name))
 
--- the default instance of a unit, by what stands at its file's path
+-- the DefaultInstance= of a unit, by what stands at its file's path: systemd.unit(5), "[Install] Section Options"
 abbrev pub default_of : Option Entry → Option (List ℕ)
 default_of (Some (File contents)) = (text_of contents).default_instance
 default_of other = None
@@ -31,27 +39,52 @@ abbrev pub as_instance : Kind → (name : List ℕ) → Option (List ℕ)
 as_instance Instance name = Some name
 as_instance other name = None
 
--- The name under which one unit is listed by another: its own, but of a template under a unit that is none that of the
+-- The name of the link to a unit in another's directory: the unit's own, but of a template under a unit that is none that of the
 -- default instance, if it has one.
 unfoldable pub listed_name : (by real : List ℕ) → (default : Option (List ℕ)) → Option (List ℕ)
 listed_name by real default =
     if is_template_name real && not (is_template_name by) then as_instance (kind_of (instance_of (identity_of real default))) (identity_of real default)
     else Some real
 
-abbrev pub add_listed : Place → Dependency → (by real file : List ℕ) → Option (List ℕ) → Search Verdict
+-- the link is made, unless there is no name for it
+abbrev pub add_listed : Place → Dependency → (by real file : List ℕ) → (name : Option (List ℕ)) → Step
 add_listed place dependency by real file (Some name) = ruled (link_at file) (dependency_slot place dependency by name)
-add_listed place dependency by real file None = over (Err (NeedsInstance real))
+add_listed place dependency by real file None = refuse (NeedsInstance real)
 
--- a unit that was found is listed by another
-unfoldable pub add_file : Place → Dependency → (by real file : List ℕ) → Search Verdict
+-- a unit that was found, by its own name and its file
+unfoldable pub add_file : Place → Dependency → (by real file : List ℕ) → Step
 add_file place dependency by real file = do
   there ← look file
   add_listed place dependency by real file (listed_name by real (default_of there))
 
--- one unit is listed by another
-unfoldable pub add_unit : Place → Dependency → (by unit : List ℕ) → Search Verdict
+-- one unit
+unfoldable pub add_unit : Place → Dependency → (by unit : List ℕ) → Step
 add_unit place dependency by unit = with_unit unit (add_file place dependency by)
 
--- units are listed by another
-abbrev pub add_units : Place → Dependency → List (List ℕ) → (by : List ℕ) → Search Verdict
-add_units place dependency units by = each_in_turn (add_unit place dependency by) units []
+-- each of the units
+abbrev pub add_units : Place → Dependency → (units : List (List ℕ)) → (by : List ℕ) → Step
+add_units place dependency units by = each_in_turn (add_unit place dependency by) units
+
+-- the target is looked up first, and its own name is that of the directory
+abbrev pub add_steps : AddTo → Step
+add_steps add = with_unit add.target (λ real file. add_units (scope_place add.scope) add.dependency add.units real)
+
+-- What the command asks of a tree, and what effect that has.
+abbrev pub add_meaning : AddTo → Inquiry Effect
+add_meaning add = carried_out (add_steps add)
+
+-- An entry is a link in a unit's directory of dependencies.
+abbrev pub IsDependency : Place → Dependency → (by : List ℕ) → List ℕ → Entry → Type 0
+IsDependency place dependency by path entry = (name : List ℕ) × (file : List ℕ) × ((path ≡ dependency_slot place dependency by name) × (entry ≡ Link file))
+
+-- Links fill empty slots in the one directory of the target that is found, and all else stays.
+pub record AddsDependencies (add : AddTo) (t u : Entries) : Type 0 where
+  pub by : List ℕ
+  pub file : List ℕ
+  pub found : IsFound t add.target by file
+  pub kept : Keeps t u
+  pub only : AddsOnly (IsDependency (scope_place add.scope) add.dependency by) t u
+
+-- The law of add-wants and add-requires, where they are accepted.
+abbrev pub DependenciesAreAdded : Type 0
+DependenciesAreAdded = (add : AddTo) (t : Entries) → ((add_meaning add).conclusion t).answer ≡ Done map.empty → AddsDependencies add t (after_changes ((add_meaning add).conclusion t).changes t)

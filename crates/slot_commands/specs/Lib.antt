@@ -1,10 +1,8 @@
-pub mod Masks
+pub mod Effects
 pub mod Links
-pub mod LinkUnits
 pub mod Units
+pub mod Masks
+pub mod LinkUnits
 pub mod AddTo
 pub mod SetDefault
 pub mod ByHand
-pub mod Looked
-pub mod Commands
-pub mod Laws

@@ -1,39 +1,75 @@
--- link: systemctl(1).
-use Rattle.std.specs.Prelude.{ℕ, Bool, true, false, if◌then◌else◌, List, [], Option, Some, Ok, Err}
+-- link: systemctl(1), "Unit File Commands".
+use Rattle.std.specs.FinMap as map
+use Rattle.std.specs.Prelude.{◌≡◌, ℕ, Bool, true, false, if◌then◌else◌, List, [], All, Contains, ◌⊎◌, Option, Some}
 use Rattle.unit_name.specs.Name.{is_unit_name}
-use Rattle.link_tree.specs.declared.slot.Place.{Place}
-use Rattle.link_tree.specs.declared.slot.Slot.{Slot}
-use Rattle.link_tree.specs.declared.slot.Slot.TheVariants as slots
-use Rattle.link_tree.specs.Slots.{unit_slot, name_at, slot_of}
+use Rattle.link_tree.specs.declared.entry.Entry.{Entry}
+use Rattle.link_tree.specs.declared.entry.Entry.TheVariants.{Link}
+use Rattle.unit_paths.specs.declared.place.Place.{Place}
+use Rattle.unit_paths.specs.declared.slot.Slot.{Slot}
+use Rattle.unit_paths.specs.declared.slot.Slot.TheVariants as slots
+use Rattle.unit_paths.specs.Slots.{unit_slot, slot_of}
+use Rattle.unit_paths.specs.Places.{scope_place}
+use Rattle.unit_paths.specs.Paths.{name_at}
+use Rattle.link_tree.specs.Trees.{Entries, after_changes}
 use Rattle.load_path.specs.declared.following.End.{End}
 use Rattle.load_path.specs.declared.following.End.TheVariants as ends
-use Rattle.load_path.specs.Search.{Search, over, ◌>>=◌}
 use Rattle.load_path.specs.Follow.{follow}
+use Rattle.footprint.specs.declared.answer.Answer.TheVariants.{Done}
 use Rattle.footprint.specs.declared.refusal.Subject.TheVariants.{Path}
 use Rattle.footprint.specs.declared.refusal.Refusal.TheVariants.{NotFound, Masked, Dangling, BadType}
-use Rattle.footprint.specs.Steps.{Verdict, ruled}
-use Rattle.slot_commands.specs.Links.{link_at}
+use Rattle.footprint.specs.Inquiry.{Inquiry}
+use Rattle.footprint.specs.Operations.{Effect}
+use Rattle.footprint.specs.Steps.{Step, nothing, refuse, ruled, each_in_turn, carried_out, ◌>>=◌}
+use Rattle.slot_commands.specs.declared.link_units.LinkUnits.{LinkUnits}
+use Rattle.slot_commands.specs.Effects.{Keeps, AddsOnly}
+use Rattle.slot_commands.specs.Links.{link_at, LeadsAs}
 
 -- whether a slot is that of a unit
 abbrev pub is_of_unit : Option Slot → Bool
 is_of_unit (Some (slots.Unit place)) = true
 is_of_unit other = false
 
--- a file is linked under its own name, unless it stands among the units
-abbrev pub link_file : Place → (path : List ℕ) → Search Verdict
+-- a file is linked under its own name, unless it stands in a directory of units
+abbrev pub link_file : Place → (path : List ℕ) → Step
 link_file place path =
-    if is_unit_name (name_at path) then (if is_of_unit (slot_of path) then over (Ok []) else ruled (link_at path) (unit_slot place (name_at path)))
-    else over (Err (BadType (Path path)))
+    if is_unit_name (name_at path) then (if is_of_unit (slot_of path) then nothing else ruled (link_at path) (unit_slot place (name_at path)))
+    else refuse (BadType (Path path))
 
--- by where the path leads
-abbrev pub link_end : Place → (path : List ℕ) → End → Search Verdict
-link_end place path ends.Missing = over (Err (NotFound (Path path)))
-link_end place path ends.Null = over (Err (Masked (Path path)))
-link_end place path (ends.Dangling link) = over (Err (Dangling link))
+-- by where the links from the path end
+abbrev pub link_end : Place → (path : List ℕ) → End → Step
+link_end place path ends.Missing = refuse (NotFound (Path path))
+link_end place path ends.Null = refuse (Masked (Path path))
+link_end place path (ends.Dangling link) = refuse (Dangling link)
 link_end place path (ends.File file) = link_file place path
 
--- one path is linked
-unfoldable pub link_unit : Place → (path : List ℕ) → Search Verdict
+-- one path
+unfoldable pub link_unit : Place → (path : List ℕ) → Step
 link_unit place path = do
   end ← follow path
   link_end place path end
+
+-- each of the paths
+abbrev pub link_steps : LinkUnits → Step
+link_steps link = each_in_turn (link_unit (scope_place link.scope)) link.paths
+
+-- What the command asks of a tree, and what effect that has.
+abbrev pub link_meaning : LinkUnits → Inquiry Effect
+link_meaning link = carried_out (link_steps link)
+
+-- One of the files is linked under its name.
+abbrev pub IsLinkToOne : Place → (files : List (List ℕ)) → List ℕ → Entry → Type 0
+IsLinkToOne place files path entry = (file : List ℕ) × Contains files file × ((path ≡ unit_slot place (name_at file)) × (entry ≡ Link file))
+
+-- A file stands in a directory of units, or a link under its name leads to it.
+abbrev pub IsLinked : Place → Entries → (file : List ℕ) → Type 0
+IsLinked place t file = (is_of_unit (slot_of file) ≡ true) ⊎ LeadsAs t (unit_slot place (name_at file)) file
+
+-- Links to the files fill empty slots, all else stays, and each file is linked then.
+pub record LinksFiles (place : Place) (files : List (List ℕ)) (t u : Entries) : Type 0 where
+  pub kept : Keeps t u
+  pub only : AddsOnly (IsLinkToOne place files) t u
+  pub linked : All (IsLinked place u) files
+
+-- The law of link, where it is accepted.
+abbrev pub FilesAreLinked : Type 0
+FilesAreLinked = (link : LinkUnits) (t : Entries) → ((link_meaning link).conclusion t).answer ≡ Done map.empty → LinksFiles (scope_place link.scope) link.paths t (after_changes ((link_meaning link).conclusion t).changes t)

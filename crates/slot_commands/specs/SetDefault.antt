@@ -1,16 +1,23 @@
--- set-default: systemctl(1).
-use Rattle.std.specs.Prelude.{ℕ, Bool, true, false, if◌then◌else◌, List, Option, Some, Err, codes}
+-- set-default: systemctl(1), "Unit File Commands"; the link is default.target of systemd.special(7).
+use Rattle.std.specs.Prelude.{◌≡◌, ℕ, Bool, true, false, if◌then◌else◌, List, [], Option, Some, codes}
+use Rattle.std.specs.Str.{bytes_eq}
+use Rattle.std.specs.FinMap as map
 use Rattle.unit_name.specs.declared.kind.UnitType.{UnitType}
 use Rattle.unit_name.specs.declared.kind.UnitType.TheVariants.{Target}
 use Rattle.unit_name.specs.Name.{type_of}
-use Rattle.load_path.specs.Search.{Search, over}
+use Rattle.link_tree.specs.Trees.{Entries, after_changes}
+use Rattle.footprint.specs.declared.answer.Answer.TheVariants.{Done}
 use Rattle.footprint.specs.declared.refusal.Subject.TheVariants.{Unit}
 use Rattle.footprint.specs.declared.refusal.Refusal.TheVariants.{BadType, NeedsInstance}
-use Rattle.footprint.specs.Steps.{Verdict, ruled}
-use Rattle.slot_commands.specs.Links.{relink_at}
+use Rattle.footprint.specs.Inquiry.{Inquiry}
+use Rattle.footprint.specs.Operations.{Effect}
+use Rattle.footprint.specs.Steps.{Step, refuse, ruled, carried_out}
+use Rattle.slot_commands.specs.declared.set_default.SetDefault.{SetDefault}
 use Rattle.slot_commands.specs.AddTo.{is_template_name}
+use Rattle.slot_commands.specs.Links.{relink_at, LeadsAs}
+use Rattle.slot_commands.specs.Units.{with_unit, IsFound}
 
--- where the link stands that names the default target
+-- the path of the link that names the default target
 abbrev pub default_slot : List ℕ
 default_slot = codes "/etc/systemd/system/default.target"
 
@@ -18,8 +25,25 @@ abbrev pub is_target_type : Option UnitType → Bool
 is_target_type (Some Target) = true
 is_target_type other = false
 
--- by the name as it was given, and the unit's own
-abbrev pub default_file : (name real file : List ℕ) → Search Verdict
+-- by the name as it was given, and the own name and the file of the unit that was found
+abbrev pub default_file : (name real file : List ℕ) → Step
 default_file name real file =
-    if is_target_type (type_of name) then (if is_template_name real then over (Err (NeedsInstance real)) else ruled (relink_at file) default_slot)
-    else over (Err (BadType (Unit name)))
+    if is_target_type (type_of name) then (if is_template_name real then refuse (NeedsInstance real) else ruled (relink_at file) default_slot)
+    else refuse (BadType (Unit name))
+
+abbrev pub default_steps : SetDefault → Step
+default_steps set_default = with_unit set_default.unit (default_file set_default.unit)
+
+-- What the command asks of a tree, and what effect that has.
+abbrev pub default_meaning : SetDefault → Inquiry Effect
+default_meaning set_default = carried_out (default_steps set_default)
+
+-- The link of default.target leads to the file of the unit that is found, and all else stays.
+abbrev pub SetsDefault : SetDefault → (t u : Entries) → Type 0
+SetsDefault set_default t u =
+    (real : List ℕ) × (file : List ℕ) × IsFound t set_default.unit real file × LeadsAs u default_slot file
+    × ((path : List ℕ) → bytes_eq path default_slot ≡ false → map.get u path ≡ map.get t path)
+
+-- The law of set-default, where it is accepted.
+abbrev pub DefaultIsSet : Type 0
+DefaultIsSet = (set_default : SetDefault) (t : Entries) → ((default_meaning set_default).conclusion t).answer ≡ Done map.empty → SetsDefault set_default t (after_changes ((default_meaning set_default).conclusion t).changes t)

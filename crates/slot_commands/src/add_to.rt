@@ -3,10 +3,9 @@ ghost use Rattle.std.specs.Prelude.{◌≡◌, IfOk};
 ghost use Rattle.std.specs.Option.{option_copied};
 ghost use Rattle.unit_file.specs.Identity.{identity_of};
 ghost use Rattle.unit_file.specs.Reading.{text_of};
-ghost use Rattle.link_tree.specs.Slots.{scope_place};
+ghost use Rattle.unit_paths.specs.Places.{scope_place};
 ghost use Rattle.footprint.specs.Edits.{GoesOn};
-ghost use Rattle.slot_commands.specs.AddTo.{is_template_name, default_of, listed_name, add_file, add_unit, add_units};
-ghost use Rattle.slot_commands.specs.Commands.{add_search};
+ghost use Rattle.slot_commands.specs.AddTo.{is_template_name, default_of, listed_name, add_file, add_unit, add_units, add_steps};
 
 use crate::found::find_unit;
 use crate::link::link_at;
@@ -18,7 +17,10 @@ use unit_file::{InstallError, InstallFault, InstallText, identity, install_of};
 use unit_name::{Kind, UnitName};
 
 /// systemctl(1), `add-wants` and `add-requires`: the target is to want or to require each unit, by a link in its
-/// directory of the scope.
+/// directory of the scope, which has the target's own name. The target is looked up first, and then the units, one after another,
+/// each in the tree that the earlier ones left; the first refusal refuses the whole command. Each may be refused by `NotFound`,
+/// `Masked` or `Dangling`, a unit also by `NeedsInstance`, where it is a template without a `DefaultInstance=` that serves, and
+/// by `Exists`, where anything but a link to the same path stands at the slot.
 #[derive(Debug, Drop)]
 pub struct AddTo {
     pub scope: Scope,
@@ -152,7 +154,7 @@ impl AddTo {
         tree: &'a Tree,
         cells: &mut Cells,
     ) -> Result<Result<Edit<'a>, Refusal>, AllocError>
-        ensures { IfOk result (GoesOn (add_search self.now) (tree.now, tree.now) cells.old cells.new) }
+        ensures { IfOk result (GoesOn (add_steps self.now) (tree.now, tree.now) cells.old cells.new) }
     {
         match find_unit(alloc, tree, &self.target, cells)? {
             Ok((by, _file)) => self.add_units(alloc, &by, self.units.as_slice(), tree, cells),
@@ -163,7 +165,8 @@ impl AddTo {
 
 impl Operation for AddTo {
     ghost use Rattle.std.specs.Prelude.{false};
-    ghost use Rattle.slot_commands.specs.Commands.{add_meaning, add_laws};
+    ghost use Rattle.footprint.proofs.Carried.{laws_of};
+    ghost use Rattle.slot_commands.specs.AddTo.{add_steps, add_meaning};
 
     ghost meaning = { add_meaning };
 
@@ -195,5 +198,5 @@ impl Operation for AddTo {
             && self.units.same(&other.units)
     }
 
-    ghost laws = { add_laws };
+    ghost laws = { laws_of add_steps };
 }

@@ -2,22 +2,23 @@
 ghost use Rattle.std.specs.Prelude.{◌≡◌, IfOk};
 ghost use Rattle.std.specs.Option.{option_copied};
 ghost use Rattle.footprint.specs.Edits.{GoesOn};
-ghost use Rattle.slot_commands.specs.ByHand.{place_at, remove_at};
-ghost use Rattle.slot_commands.specs.Commands.{place_search, remove_search};
+ghost use Rattle.slot_commands.specs.ByHand.{place_at, remove_at, place_steps, remove_steps};
 
 use footprint::{Edit, Operation, Outcome, Refusal};
 use link_tree::{Entry, Slot, Tree, TreePath};
 use load_path::Cells;
 use std::alloc::{AllocError, Global};
 
-/// Puts a file or a link into an empty slot.
+/// Puts a file or a link into an empty slot. It is refused by `NotASlot`, where the path is none, and then by `Exists`, where
+/// anything stands there, an equal entry too.
 #[derive(Debug, Drop)]
 pub struct PlaceEntry {
     pub path: TreePath,
     pub entry: Entry,
 }
 
-/// Takes the entry of a slot away.
+/// Takes the entry of a slot away. It is refused by `NotASlot`, where the path is none, and then by `Absent`, where nothing stands
+/// there.
 #[derive(Debug, Drop)]
 pub struct RemoveEntry {
     pub path: TreePath,
@@ -55,7 +56,7 @@ impl PlaceEntry {
         tree: &'a Tree,
         cells: &mut Cells,
     ) -> Result<Result<Edit<'a>, Refusal>, AllocError>
-        ensures { IfOk result (GoesOn (place_search self.now) (tree.now, tree.now) cells.old cells.new) }
+        ensures { IfOk result (GoesOn (place_steps self.now) (tree.now, tree.now) cells.old cells.new) }
     {
         if Slot::of(&self.path).is_none() {
             return Ok(Err(Refusal::NotASlot(self.path.copy()?)));
@@ -68,7 +69,8 @@ impl PlaceEntry {
 
 impl Operation for PlaceEntry {
     ghost use Rattle.std.specs.Prelude.{false};
-    ghost use Rattle.slot_commands.specs.Commands.{place_meaning, place_laws};
+    ghost use Rattle.footprint.proofs.Carried.{laws_of};
+    ghost use Rattle.slot_commands.specs.ByHand.{place_steps, place_meaning};
 
     ghost meaning = { place_meaning };
 
@@ -95,7 +97,7 @@ impl Operation for PlaceEntry {
         self.path == other.path && self.entry.same(&other.entry)
     }
 
-    ghost laws = { place_laws };
+    ghost laws = { laws_of place_steps };
 }
 
 impl RemoveEntry {
@@ -105,7 +107,7 @@ impl RemoveEntry {
         tree: &'a Tree,
         cells: &mut Cells,
     ) -> Result<Result<Edit<'a>, Refusal>, AllocError>
-        ensures { IfOk result (GoesOn (remove_search self.now) (tree.now, tree.now) cells.old cells.new) }
+        ensures { IfOk result (GoesOn (remove_steps self.now) (tree.now, tree.now) cells.old cells.new) }
     {
         if Slot::of(&self.path).is_none() {
             return Ok(Err(Refusal::NotASlot(self.path.copy()?)));
@@ -118,7 +120,8 @@ impl RemoveEntry {
 
 impl Operation for RemoveEntry {
     ghost use Rattle.std.specs.Prelude.{false};
-    ghost use Rattle.slot_commands.specs.Commands.{remove_meaning, remove_laws};
+    ghost use Rattle.footprint.proofs.Carried.{laws_of};
+    ghost use Rattle.slot_commands.specs.ByHand.{remove_steps, remove_meaning};
 
     ghost meaning = { remove_meaning };
 
@@ -144,5 +147,5 @@ impl Operation for RemoveEntry {
         self.path == other.path
     }
 
-    ghost laws = { remove_laws };
+    ghost laws = { laws_of remove_steps };
 }

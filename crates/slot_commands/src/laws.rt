@@ -1,5 +1,9 @@
 //! What holds of the commands on all trees: each function does nothing, and its contract is the law.
-ghost use Rattle.slot_commands.specs.Laws.{MaskFills, UnmaskEmpties, FilesAreLinked, DependenciesAreAdded, DefaultIsSet, PlaceFills, RemoveEmpties};
+ghost use Rattle.slot_commands.specs.Masks.{MaskFills, UnmaskEmpties};
+ghost use Rattle.slot_commands.specs.LinkUnits.{FilesAreLinked};
+ghost use Rattle.slot_commands.specs.AddTo.{DependenciesAreAdded};
+ghost use Rattle.slot_commands.specs.SetDefault.{DefaultIsSet};
+ghost use Rattle.slot_commands.specs.ByHand.{PlaceFills, RemoveEmpties};
 
 /// Links to `/dev/null` fill empty slots. The command is refused for the first slot where anything else stands, a file
 /// too.

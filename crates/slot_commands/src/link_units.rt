@@ -1,6 +1,7 @@
 //! link.
 ghost use Rattle.std.specs.Prelude.{◌≡◌, [], IfOk};
-ghost use Rattle.link_tree.specs.Slots.{name_at, slot_of, unit_slot};
+ghost use Rattle.unit_paths.specs.Paths.{name_at};
+ghost use Rattle.unit_paths.specs.Slots.{slot_of, unit_slot};
 ghost use Rattle.load_path.specs.RealNames.{named};
 ghost use Rattle.footprint.specs.Steps.{each_in_turn, ruled};
 ghost use Rattle.footprint.specs.Edits.{GoesOn};
@@ -16,7 +17,11 @@ use std::alloc::{AllocError, Global};
 use unit_name::{NameError, UnitName};
 
 /// systemctl(1), `link`: links each unit file that is given by its path into the directory of the scope, under its own
-/// name. A path in one of the directories of units changes nothing.
+/// name. A path in one of the directories of units changes nothing. The paths are taken one after another, each in the tree that
+/// the earlier ones left, and the first refusal refuses the whole command. Links from the path are followed first: `NotFound`,
+/// where nothing stands at the path; `Masked`, where they lead to `/dev/null` or an empty file; `Dangling`, with the last link,
+/// where they lead nowhere. Then `BadType`, where the path's own name is no unit's, and `Exists`, where anything but a link to the
+/// same path stands at the slot.
 #[derive(Debug, Drop)]
 pub struct LinkUnits {
     pub scope: Scope,
@@ -105,7 +110,7 @@ fn link_each<'a>(
     tree: &'a Tree,
     cells: &mut Cells,
 ) -> Result<Result<Edit<'a>, Refusal>, AllocError>
-    ensures { IfOk result (GoesOn (each_in_turn (link_unit place) paths.now []) (tree.now, tree.now) cells.old cells.new) }
+    ensures { IfOk result (GoesOn (each_in_turn (link_unit place) paths.now) (tree.now, tree.now) cells.old cells.new) }
 {
     let mut edit = Edit::new(alloc, tree)?;
     for path in paths {
@@ -119,7 +124,8 @@ fn link_each<'a>(
 
 impl Operation for LinkUnits {
     ghost use Rattle.std.specs.Prelude.{false};
-    ghost use Rattle.slot_commands.specs.Commands.{link_meaning, link_laws};
+    ghost use Rattle.footprint.proofs.Carried.{laws_of};
+    ghost use Rattle.slot_commands.specs.LinkUnits.{link_steps, link_meaning};
 
     ghost meaning = { link_meaning };
 
@@ -152,5 +158,5 @@ impl Operation for LinkUnits {
         self.scope == other.scope && self.paths.same(&other.paths)
     }
 
-    ghost laws = { link_laws };
+    ghost laws = { laws_of link_steps };
 }

@@ -10,16 +10,16 @@ use load_path::Cells;
 use std::alloc::{AllocError, Global};
 use unit_name::UnitName;
 
-/// systemctl(1), `mask`: links each unit to `/dev/null`, where nothing stands. A link to there stays; anything else that
-/// stands there, an empty file too, refuses the whole command.
+/// systemctl(1), `mask`: links each unit to `/dev/null` in the scope, where nothing stands. A link to there stays. Anything else that
+/// stands there, an empty file too, refuses the whole command (`Exists`, for the first such slot). No unit is looked up.
 #[derive(Debug, Drop)]
 pub struct Mask {
     pub scope: Scope,
     pub units: Units,
 }
 
-/// systemctl(1), `unmask`: takes the mask of each unit away, a link to `/dev/null` or an empty file. Anything else
-/// stays.
+/// systemctl(1), `unmask`: takes the mask of each unit away in the scope, a link to `/dev/null` or an empty file. Anything else
+/// stays. It is never refused, and no unit is looked up.
 #[derive(Debug, Drop)]
 pub struct Unmask {
     pub scope: Scope,
@@ -143,7 +143,8 @@ impl Rule {
 
 impl Operation for Mask {
     ghost use Rattle.std.specs.Prelude.{false};
-    ghost use Rattle.slot_commands.specs.Commands.{mask_meaning, mask_laws};
+    ghost use Rattle.footprint.proofs.Carried.{laws_of};
+    ghost use Rattle.slot_commands.specs.Masks.{mask_steps, mask_meaning};
 
     ghost meaning = { mask_meaning };
 
@@ -170,12 +171,13 @@ impl Operation for Mask {
         self.scope == other.scope && self.units.same(&other.units)
     }
 
-    ghost laws = { mask_laws };
+    ghost laws = { laws_of mask_steps };
 }
 
 impl Operation for Unmask {
     ghost use Rattle.std.specs.Prelude.{false};
-    ghost use Rattle.slot_commands.specs.Commands.{unmask_meaning, unmask_laws};
+    ghost use Rattle.footprint.proofs.Carried.{laws_of};
+    ghost use Rattle.slot_commands.specs.Masks.{unmask_steps, unmask_meaning};
 
     ghost meaning = { unmask_meaning };
 
@@ -202,5 +204,5 @@ impl Operation for Unmask {
         self.scope == other.scope && self.units.same(&other.units)
     }
 
-    ghost laws = { unmask_laws };
+    ghost laws = { laws_of unmask_steps };
 }

@@ -20,7 +20,7 @@ impl Model for Paths {
 }
 
 impl Paths {
-    /// No paths.
+    /// No paths. Takes no memory.
     pub fn none(alloc: Global) -> Paths
         ensures { result ≡ [] }
     {
@@ -29,7 +29,7 @@ impl Paths {
         }
     }
 
-    /// One path more.
+    /// Adds a path. Where memory runs out the list stays as it was.
     pub fn push(&mut self, path: TreePath) -> Result<(), AllocError>
         ensures ok { OnOk result (self.new ≡ self.old ++ path ∷ []) }
         ensures err { OnErr result (self.new ≡ self.old) }
@@ -37,20 +37,21 @@ impl Paths {
         Ok(self.paths.push(path)?)
     }
 
+    /// The paths, in order.
     pub fn as_slice(&self) -> &[TreePath]
         ensures { result.now ≡ self.now }
     {
         &self.paths
     }
 
-    /// Whether the paths are equal, in their order.
+    /// Whether these are the same paths, in the same order.
     pub fn same(&self, other: &Paths) -> bool
         ensures { IsTrue result ↔ (self.now ≡ other.now) }
     {
         self.as_slice() == other.as_slice()
     }
 
-    /// Equal paths.
+    /// A copy of the paths. Fails only where memory runs out.
     pub fn copy(&self) -> Result<Paths, AllocError>
         ensures { IfOk result (λ paths. paths ≡ self.now) }
     {

@@ -1,10 +1,9 @@
 //! set-default.
 ghost use Rattle.std.specs.Prelude.{◌≡◌, true, IfOk};
 ghost use Rattle.unit_name.specs.Name.{type_of};
-ghost use Rattle.link_tree.specs.Slots.{is_slot};
+ghost use Rattle.unit_paths.specs.Slots.{is_slot};
 ghost use Rattle.footprint.specs.Edits.{GoesOn};
-ghost use Rattle.slot_commands.specs.SetDefault.{default_slot, is_target_type, default_file};
-ghost use Rattle.slot_commands.specs.Commands.{default_search};
+ghost use Rattle.slot_commands.specs.SetDefault.{default_slot, is_target_type, default_file, default_steps};
 
 use crate::add_to::is_template;
 use crate::found::find_unit;
@@ -15,7 +14,10 @@ use load_path::Cells;
 use std::alloc::{AllocError, Global};
 use unit_name::{UnitName, UnitType};
 
-/// systemctl(1), `set-default`: `default.target` becomes a link to the file of a target.
+/// systemctl(1), `set-default`: `/etc/systemd/system/default.target` becomes a link to the file of a target, in place of any other
+/// link there. The faults, in this order: `NotFound`, `Masked` or `Dangling`, where the unit isn't found; `BadType`, where the name
+/// that was given is no target's; `NeedsInstance`, where the unit's own name is that of a template; `Exists`, where a file stands
+/// there.
 #[derive(Debug, Drop)]
 pub struct SetDefault {
     pub unit: UnitName,
@@ -71,7 +73,7 @@ impl SetDefault {
         tree: &'a Tree,
         cells: &mut Cells,
     ) -> Result<Result<Edit<'a>, Refusal>, AllocError>
-        ensures { IfOk result (GoesOn (default_search self.now) (tree.now, tree.now) cells.old cells.new) }
+        ensures { IfOk result (GoesOn (default_steps self.now) (tree.now, tree.now) cells.old cells.new) }
     {
         match find_unit(alloc, tree, &self.unit, cells)? {
             Ok((real, file)) => self.default_file(alloc, real, &file, tree, cells),
@@ -82,7 +84,8 @@ impl SetDefault {
 
 impl Operation for SetDefault {
     ghost use Rattle.std.specs.Prelude.{false};
-    ghost use Rattle.slot_commands.specs.Commands.{default_meaning, default_laws};
+    ghost use Rattle.footprint.proofs.Carried.{laws_of};
+    ghost use Rattle.slot_commands.specs.SetDefault.{default_steps, default_meaning};
 
     ghost meaning = { default_meaning };
 
@@ -108,5 +111,5 @@ impl Operation for SetDefault {
         self.unit == other.unit
     }
 
-    ghost laws = { default_laws };
+    ghost laws = { laws_of default_steps };
 }

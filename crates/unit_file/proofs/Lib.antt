@@ -6,3 +6,4 @@ pub mod Endings
 pub mod Additions
 pub mod Returns
 pub mod Sizes
+pub mod NoticeMaps

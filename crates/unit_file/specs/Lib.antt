@@ -4,3 +4,5 @@ pub mod Reading
 pub mod Steps
 pub mod Identity
 pub mod Laws
+pub mod Notices
+pub mod NoticeLaws

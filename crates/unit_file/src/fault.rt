@@ -4,7 +4,7 @@ ghost use Rattle.unit_file.specs.declared.fault.InstallError.TheVariants as erro
 use std::alloc::AllocError;
 use thiserror::Error;
 
-/// The longest logical line, in bytes, before it is stripped.
+/// How many bytes a logical line may have, as it is joined and before it is stripped: systemd.syntax(7), "currently 1 MB".
 pub const MAX_LINE: usize = 1_048_576;
 
 /// What is wrong with the bytes of a unit file.

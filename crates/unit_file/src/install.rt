@@ -5,17 +5,22 @@ use crate::line::{assignment, opens_section, stripped};
 use crate::word::{Word, Words};
 use std::alloc::{AllocError, Global};
 
-/// What the [Install] section of a unit file asks for: its words as they stand there, nothing of them expanded
-/// or tested.
+/// What the [Install] section of a unit file asks for. Its words stand as they are written: no specifier is expanded, and
+/// none is tested for being a unit's name.
 ///
 /// systemd.unit(5), "[Install] Section Options".
 #[derive(Clone, Debug, Drop)]
 pub struct InstallText {
+    /// The words of `WantedBy=`, of all its lines since the last empty value.
     pub wanted_by: Words,
+    /// Those of `RequiredBy=`, likewise.
     pub required_by: Words,
+    /// Those of `Alias=`, likewise.
     pub alias: Words,
+    /// The words of all lines of `Also=`, which an empty value doesn't empty.
     pub also: Words,
-    /// None where the last `DefaultInstance=` is empty, too.
+    /// The last value of `DefaultInstance=`, valid or not. `None` where there is no such line, or where the last one is
+    /// empty.
     pub default_instance: Option<Word>,
 }
 
@@ -35,15 +40,15 @@ impl InstallText {
         }
     }
 
-    /// An equal value.
+    /// An equal value. The only error is `AllocError`, where memory runs out.
     pub fn copy(&self) -> Result<InstallText, AllocError>
         ensures { IfOk result (λ text. text ≡ self.now) }
     {
         self.clone()
     }
 
-    /// Takes the next logical line, where `inside` says whether it stands in [Install]; and whether the lines
-    /// after it do.
+    /// Takes the next logical line, and answers whether the lines after it stand in [Install]. `inside` says whether this
+    /// one does.
     #[tactic(auto, unfolding(crate::specs::Steps::inside_after, crate::specs::Steps::text_after))]
     pub(crate) fn take_line(
         &mut self,
@@ -66,7 +71,7 @@ impl InstallText {
         Ok(inside)
     }
 
-    /// Takes an assignment of [Install].
+    /// Takes a line `KEY=VALUE` of [Install]. A key that doesn't count changes nothing.
     #[tactic(auto, unfolding(crate::specs::Steps::with_assignment))]
     fn assign(&mut self, alloc: Global, key: &[u8], value: &[u8]) -> Result<(), AllocError>
         ensures { OnOk result (self.new ≡ with_assignment self.old key.now value.now) }

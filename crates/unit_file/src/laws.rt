@@ -1,5 +1,6 @@
-//! What holds of all unit files: each function does nothing, and its contract is the law.
+//! What holds of all unit files and of all notices: each function does nothing, and its contract is the law.
 ghost use Rattle.unit_file.specs.Laws.{LastLineFeed, LastReturn, CommentsSayNothing, ValuesAddUp, ListsAddUp};
+ghost use Rattle.unit_file.specs.NoticeLaws.{AddInAnyOrder, AddOnce, JoinByLine, JoinInSteps, JoinNone};
 
 /// A line feed at the end of a file says nothing, unless it makes a CR before it a part of the line's end.
 pub fn last_line_ends_itself()
@@ -16,4 +17,14 @@ pub fn comments_say_nothing()
 pub fn files_add_up()
     ensures values { ValuesAddUp }
     ensures lists { ListsAddUp }
+{}
+
+/// Notices are a set: each is told once, in whatever order they were added, and of notices that are joined in steps it
+/// doesn't count which are joined first.
+pub fn notices_are_a_set()
+    ensures any_order { AddInAnyOrder }
+    ensures once { AddOnce }
+    ensures by_line { JoinByLine }
+    ensures in_steps { JoinInSteps }
+    ensures none { JoinNone }
 {}

@@ -1,4 +1,6 @@
-//! One line: its blanks, and what it is.
+//! One line: the blanks at its ends, and whether it is a comment, opens a section or gives a key a value.
+//!
+//! systemd.syntax(7), "Introduction".
 ghost use Rattle.std.specs.Prelude.{◌≡◌, ◌<◌, true, false, not, length, IsTrue, MatchOption, IfSome, Some, None};
 ghost use Rattle.std.specs.List.{find, position};
 ghost use Rattle.unit_file.specs.Lines.{is_blank, begins_with, ends_with, without_leading, without_trailing, stripped, is_comment, is_continued, without_last};
@@ -78,7 +80,7 @@ fn ends_with(text: &[u8], b: u8) -> bool
     }
 }
 
-/// What stands before the backslash at the end of a line.
+/// What stands before the backslash at the end of a line that continues on the next one.
 pub(crate) fn before_backslash(line: &[u8]) -> Option<&[u8]>
     ensures { MatchOption result (is_continued line.now ≡ false) (λ front. (is_continued line.now ≡ true) × (front.now ≡ without_last line.now)) }
 {
@@ -89,7 +91,7 @@ pub(crate) fn before_backslash(line: &[u8]) -> Option<&[u8]>
     }
 }
 
-/// Whether the line is `[NAME]`.
+/// Whether the line is `[NAME]`, whatever the bytes of NAME.
 #[tactic(auto, unfolding(crate::specs::Install::opens_section))]
 pub(crate) fn opens_section(line: &[u8]) -> bool
     ensures { result ≡ opens_section line.now }
@@ -104,7 +106,7 @@ fn equals_sign(line: &[u8]) -> Option<usize>
     line.iter().position(|b| *b == b'=')
 }
 
-/// The key and the value of a line `KEY=VALUE`.
+/// The key and the value of a line `KEY=VALUE`, without the blanks around the first `=`.
 #[tactic(auto, unfolding(crate::specs::Install::assignment))]
 pub(crate) fn assignment(line: &[u8]) -> Option<(&[u8], &[u8])>
     ensures { MatchOption result (assignment line.now ≡ None) (λ pair. assignment line.now ≡ Some (pair.0.now, pair.1.now)) }

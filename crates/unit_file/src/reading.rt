@@ -8,11 +8,15 @@ use crate::line::{before_backslash, is_comment};
 use bstr::ByteSlice;
 use std::alloc::{AllocError, Global};
 
-/// What the [Install] section of a unit file asks for, whatever its bytes are.
+/// Reads what the [Install] section of a unit file asks for. Any bytes are a unit file: a line that says nothing that counts
+/// is skipped, and no line of over `MAX_LINE` bytes may be in it.
 ///
-/// A file with a logical line of over `MAX_LINE` bytes is refused as `LineTooLong`, before memory is asked for.
+/// Errors:
+/// - `Bad(LineTooLong)`: a logical line, comments apart, has over `MAX_LINE` bytes once it is joined and before it is
+///   stripped. The whole file is looked through for such a line first, before memory is asked for.
+/// - `OutOfMemory`: there is no memory for the words, or for a line that is joined.
 ///
-/// systemd.syntax(7); systemd.unit(5), "[Install] Section Options".
+/// systemd.syntax(7), "Introduction"; systemd.unit(5), "[Install] Section Options".
 pub fn install_of(alloc: Global, bytes: &[u8]) -> Result<InstallText, InstallError>
     ensures read { Reads bytes.now result }
     // A file of no more bytes has no such line.
@@ -28,7 +32,7 @@ pub fn install_of(alloc: Global, bytes: &[u8]) -> Result<InstallText, InstallErr
 fn has_long_line(bytes: &[u8]) -> bool
     ensures { result ≡ has_long_line bytes.now }
 {
-    // How many bytes stand before the next line.
+    // How many bytes the lines before this one give to its logical line, because they end in a backslash.
     let mut carried = 0;
     for line in bytes.lines() {
         if !is_comment(line) {
@@ -44,12 +48,13 @@ fn has_long_line(bytes: &[u8]) -> bool
     false
 }
 
+/// What the [Install] section asks for, however long the lines are.
 fn read_lines(alloc: Global, bytes: &[u8]) -> Result<InstallText, AllocError>
     ensures { IfOk result (λ text. text ≡ text_of bytes.now) }
 {
     let mut text = InstallText::new(alloc);
     let mut inside = false;
-    // What stands before the next line.
+    // What the lines before this one give to its logical line, because they end in a backslash.
     let mut carried = Vec::new(alloc);
     for line in bytes.lines() {
         if is_comment(line) {
@@ -68,7 +73,7 @@ fn read_lines(alloc: Global, bytes: &[u8]) -> Result<InstallText, AllocError>
     Ok(text)
 }
 
-/// Puts what stood before a backslash, and a space for that, behind what is carried.
+/// Appends a line that continues on the next one: what stood before its backslash, and a space in place of that.
 fn carry(carried: &mut Vec<u8>, front: &[u8]) -> Result<(), AllocError>
     ensures { OnOk result (carried.new.items ≡ (carried.old.items ++ front.now) ++ codes " ") }
 {

@@ -1,4 +1,5 @@
 mod files;
+mod notices;
 
 use crate::{InstallError, InstallFault, InstallText, MAX_LINE, Word, Words, identity, install_of};
 use files::FILES;

@@ -7,7 +7,7 @@ use crate::line::is_blank;
 use std::alloc::{AllocError, Global};
 use std::marker::Model;
 
-/// Some bytes of a unit file as they stand there: a word of a list, or the value of a key. Contracts see the bytes.
+/// Some bytes of a unit file as they are written: a word of a list, or the value of a key. Contracts see the bytes.
 #[derive(Clone, Debug, Drop)]
 pub struct Word {
     bytes: Vec<u8>,
@@ -22,7 +22,7 @@ impl Model for Word {
 }
 
 impl Word {
-    /// Copies some bytes.
+    /// The word of these bytes, whatever they are. The only error is `AllocError`, where memory runs out.
     pub fn from_slice(alloc: Global, bytes: &[u8]) -> Result<Word, AllocError>
         ensures { IfOk result (λ word. word ≡ bytes.now) }
     {
@@ -31,13 +31,14 @@ impl Word {
         })
     }
 
+    /// The bytes as they are written. A word of a list has at least one, and no space, TAB or CR; a value may have any.
     pub fn bytes(&self) -> &[u8]
         ensures { result.now ≡ self.now }
     {
         &self.bytes
     }
 
-    /// An equal word.
+    /// An equal word. The only error is `AllocError`, where memory runs out.
     pub fn copy(&self) -> Result<Word, AllocError>
         ensures { IfOk result (λ word. word ≡ self.now) }
     {
@@ -45,7 +46,9 @@ impl Word {
     }
 }
 
-/// The words of a list of [Install], in the order of the file. Contracts see them as a list.
+/// The words of a list of [Install] in the order of the file, repeated ones too. Contracts see them as a list.
+///
+/// systemd.unit(5), "[Install] Section Options": "a space-separated list of unit names".
 #[derive(Clone, Debug, Drop)]
 pub struct Words {
     items: Vec<Word>,
@@ -68,12 +71,14 @@ impl Words {
         }
     }
 
+    /// The words in the order of the file.
     pub fn as_slice(&self) -> &[Word]
         ensures { result.now ≡ self.now }
     {
         &self.items
     }
 
+    /// Whether there is no word.
     pub fn is_empty(&self) -> bool
         ensures { result ≡ (length self.now == 0) }
     {

@@ -4,10 +4,23 @@ use crate::{
 };
 use std::alloc::{AllocError, AllocFailed, Global};
 use std::collections::{BTreeSet, HashSet};
+use std::process::Abort;
 use std::test::Fail;
 
 fn named(alloc: Global, text: &[u8]) -> Result<UnitName, NameError> {
     ample!(UnitName::parse(alloc, text), NameError::OutOfMemory)
+}
+
+fn has_text(rt: &impl Abort, name: &UnitName, text: &[u8]) {
+    assert_eq!(rt; name.text(), text);
+    assert!(rt; is_unit_name(text));
+}
+
+fn has_parts(rt: &impl Abort, name: &UnitName, kind: Kind, unit_type: UnitType, instance: &[u8]) {
+    assert_eq!(rt; name.kind(), kind);
+    assert_eq!(rt; name.unit_type(), unit_type);
+    assert_eq!(rt; name.instance().unwrap_or(b""), instance);
+    assert_eq!(rt; name.instance().is_some(), kind != Kind::Plain);
 }
 
 #[test]
@@ -35,13 +48,9 @@ fn names_have_their_parts(rt: HostRuntime) -> Result<(), Fail> {
     ];
     for (text, kind, unit_type, instance) in names {
         let name = named(rt.alloc(), text)?;
-        assert_eq!(rt; name.text(), text);
-        assert_eq!(rt; name.kind(), kind);
-        assert_eq!(rt; name.unit_type(), unit_type);
-        assert_eq!(rt; name.instance().unwrap_or(b""), instance);
-        assert_eq!(rt; name.instance().is_some(), kind != Kind::Plain);
-        assert!(rt; is_unit_name(text));
-        assert_eq!(rt; ample!(name.copy(), AllocError)?, name);
+        has_parts(&rt, &name, kind, unit_type, instance);
+        has_text(&rt, &name, text);
+        has_text(&rt, &ample!(name.copy(), AllocError)?, text);
     }
     Ok(())
 }
@@ -120,35 +129,72 @@ fn these_bytes_may_stand_in_a_name(rt: HostRuntime) {
     }
 }
 
+fn template_of(rt: &impl Abort, alloc: Global, name: &UnitName) -> Result<UnitName, AllocError> {
+    assert_ne!(rt; name.kind(), Kind::Plain);
+    ample!(name.template(alloc), AllocError)
+}
+
+fn changed(
+    rt: &impl Abort,
+    alloc: Global,
+    name: &UnitName,
+    instance: &[u8],
+) -> Result<UnitName, InstanceError> {
+    assert_ne!(rt; name.kind(), Kind::Plain);
+    ample!(
+        name.with_instance(alloc, instance),
+        InstanceError::OutOfMemory
+    )
+}
+
+fn template_of_text(rt: &impl Abort, alloc: Global, text: &[u8]) -> Result<UnitName, Fail> {
+    Ok(template_of(rt, alloc, &named(alloc, text)?)?)
+}
+
+fn changed_text(
+    rt: &impl Abort,
+    alloc: Global,
+    text: &[u8],
+    instance: &[u8],
+) -> Result<UnitName, Fail> {
+    Ok(changed(rt, alloc, &named(alloc, text)?, instance)?)
+}
+
+#[test]
+fn instances_have_a_template(rt: HostRuntime) -> Result<(), Fail> {
+    for text in [b"getty@tty1.service".as_slice(), b"getty@.service"] {
+        let template = template_of_text(&rt, rt.alloc(), text)?;
+        assert_eq!(rt; template.kind(), Kind::Template);
+        assert_eq!(rt; template.text(), b"getty@.service".as_slice());
+    }
+    Ok(())
+}
+
 #[test]
 fn instances_change(rt: HostRuntime) -> Result<(), Fail> {
-    let alloc = rt.alloc();
-    let tty = named(alloc, b"getty@tty1.service")?;
-    assert_eq!(rt; tty.kind(), Kind::Instance);
-    let template = ample!(tty.template(alloc), AllocError)?;
-    assert_eq!(rt; template.kind(), Kind::Template);
-    assert_eq!(rt; template.text(), b"getty@.service".as_slice());
-    assert_eq!(rt; ample!(template.template(alloc), AllocError)?, template);
+    let instances: [(&[u8], &[u8], &[u8]); 3] = [
+        (b"getty@.service", b"tty1", b"getty@tty1.service"),
+        (b"getty@tty1.service", b"", b"getty@.service"),
+        (b"getty@tty1.service", b"a@b.c", b"getty@a@b.c.service"),
+    ];
+    for (text, instance, expected) in instances {
+        let name = changed_text(&rt, rt.alloc(), text, instance)?;
+        assert_eq!(rt; name.text(), expected);
+    }
+    Ok(())
+}
 
-    let again = ample!(
-        template.with_instance(alloc, b"tty1"),
-        InstanceError::OutOfMemory
-    )?;
-    assert_eq!(rt; again, tty);
-    let none = ample!(tty.with_instance(alloc, b""), InstanceError::OutOfMemory)?;
-    assert_eq!(rt; none, template);
-    let other = ample!(
-        tty.with_instance(alloc, b"a@b.c"),
-        InstanceError::OutOfMemory
-    )?;
-    assert_eq!(rt; other.text(), b"getty@a@b.c.service".as_slice());
-
+#[test]
+fn an_instance_fills_a_name(rt: HostRuntime) -> Result<(), Fail> {
     // 241 bytes and the 14 of the template are as many as a name may have.
-    let longest = ample!(
-        template.with_instance(alloc, &[b'x'; 241]),
-        InstanceError::OutOfMemory
-    )?;
+    let longest = changed_text(&rt, rt.alloc(), b"getty@.service", &[b'x'; 241])?;
     assert_eq!(rt; longest.text().len(), 255);
+    Ok(())
+}
+
+#[test]
+fn some_instances_are_refused(rt: HostRuntime) -> Result<(), Fail> {
+    let template = named(rt.alloc(), b"getty@.service")?;
     let faults: [(&[u8], InstanceFault); 5] = [
         (b"a/b", InstanceFault::BadCharacter),
         (b" ", InstanceFault::BadCharacter),
@@ -157,15 +203,22 @@ fn instances_change(rt: HostRuntime) -> Result<(), Fail> {
         (&[b'x'; 1000], InstanceFault::TooLong),
     ];
     for (instance, fault) in faults {
-        let refused = template.with_instance(alloc, instance);
+        let refused = changed(&rt, rt.alloc(), &template, instance);
         assert_eq!(rt; refused, Err(InstanceError::Bad(fault)));
     }
     Ok(())
 }
 
+fn expanded(alloc: Global, word: &[u8], name: &UnitName) -> Result<Vec<u8>, ExpandError> {
+    ample!(expand(alloc, word, name), ExpandError::OutOfMemory)
+}
+
+fn expanded_by(alloc: Global, text: &[u8], word: &[u8]) -> Result<Vec<u8>, Fail> {
+    Ok(expanded(alloc, word, &named(alloc, text)?)?)
+}
+
 #[test]
 fn words_are_expanded(rt: HostRuntime) -> Result<(), Fail> {
-    let alloc = rt.alloc();
     let words: [(&[u8], &[u8], &[u8]); 9] = [
         (b"foo-bar@x.service", b"%p-%i-%j-%%", b"foo-bar-x-bar-%"),
         (b"foo-bar@x.service", b"%N", b"foo-bar@x"),
@@ -177,36 +230,55 @@ fn words_are_expanded(rt: HostRuntime) -> Result<(), Fail> {
         (b"a.service", b"%%%%n", b"%%n"),
         (b"a.service", b"plain/ \xff", b"plain/ \xff"),
     ];
-    for (text, word, expanded) in words {
-        let name = named(alloc, text)?;
-        let found = ample!(expand(alloc, word, &name), ExpandError::OutOfMemory)?;
-        assert_eq!(rt; found.as_slice(), expanded);
-    }
-
-    let name = named(alloc, b"a.service")?;
-    for word in [b"%z".as_slice(), b"a%", b"%", b"%%%", b"%I", b"x% y"] {
-        let refused = ample!(expand(alloc, word, &name), ExpandError::OutOfMemory);
-        assert_eq!(rt; refused, Err(ExpandError::UnknownSpecifier));
+    for (text, word, expected) in words {
+        assert_eq!(rt; expanded_by(rt.alloc(), text, word)?.as_slice(), expected);
     }
     Ok(())
 }
 
 #[test]
-fn names_are_keys(rt: HostRuntime) -> Result<(), Fail> {
-    let alloc = rt.alloc();
-    let texts: [&[u8]; 4] = [b"b.service", b"a.service", b"a-b.service", b"b.service"];
-    let mut sorted = BTreeSet::new(alloc);
-    let mut hashed = HashSet::new(alloc);
-    for text in texts {
-        ample!(sorted.insert(named(alloc, text)?), AllocFailed { .. })?;
-        ample!(hashed.insert(named(alloc, text)?), AllocFailed { .. })?;
+fn unknown_specifiers_are_refused(rt: HostRuntime) -> Result<(), Fail> {
+    let name = named(rt.alloc(), b"a.service")?;
+    for word in [b"%z".as_slice(), b"a%", b"%", b"%%%", b"%I", b"x% y"] {
+        let refused = expanded(rt.alloc(), word, &name);
+        assert_eq!(rt; refused, Err(ExpandError::UnknownSpecifier));
     }
-    let mut order = Vec::new(alloc);
+    Ok(())
+}
+
+fn add_sorted(alloc: Global, names: &mut BTreeSet<UnitName>, text: &[u8]) -> Result<(), Fail> {
+    ample!(names.insert(named(alloc, text)?), AllocFailed { .. })?;
+    Ok(())
+}
+
+fn add_hashed(alloc: Global, names: &mut HashSet<UnitName>, text: &[u8]) -> Result<(), Fail> {
+    ample!(names.insert(named(alloc, text)?), AllocFailed { .. })?;
+    Ok(())
+}
+
+const KEYS: [&[u8]; 4] = [b"b.service", b"a.service", b"a-b.service", b"b.service"];
+
+#[test]
+fn names_are_sorted_by_their_bytes(rt: HostRuntime) -> Result<(), Fail> {
+    let mut sorted = BTreeSet::new(rt.alloc());
+    for text in KEYS {
+        add_sorted(rt.alloc(), &mut sorted, text)?;
+    }
+    let mut order = Vec::new(rt.alloc());
     for name in sorted.iter() {
         ample!(order.push(name.text()), AllocFailed { .. })?;
     }
-    assert_eq!(rt; order.as_slice(), [texts[2], texts[1], texts[0]].as_slice());
+    assert_eq!(rt; order.as_slice(), [KEYS[2], KEYS[1], KEYS[0]].as_slice());
+    Ok(())
+}
+
+#[test]
+fn names_are_hashed_by_their_bytes(rt: HostRuntime) -> Result<(), Fail> {
+    let mut hashed = HashSet::new(rt.alloc());
+    for text in KEYS {
+        add_hashed(rt.alloc(), &mut hashed, text)?;
+    }
     assert_eq!(rt; hashed.len(), 3);
-    assert!(rt; hashed.contains(&named(alloc, b"a-b.service")?));
+    assert!(rt; hashed.contains(&named(rt.alloc(), b"a-b.service")?));
     Ok(())
 }

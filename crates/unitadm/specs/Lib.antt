@@ -1,11 +1,1 @@
-pub mod Actions
-pub mod Escapes
-pub mod Laws
-pub mod Machine
-pub mod Requests
-pub mod Runs
-pub mod Script
-pub mod ScriptReads
 pub mod Statuses
-pub mod Texts
-pub mod Words

@@ -1,25 +1,10 @@
 //! Runs unit-file commands from a script on an inventory.
 #![tactic(auto)]
 
-mod action;
-mod call;
-mod escapes;
-mod laws;
-mod lines;
 mod program;
-mod reason;
-mod reply;
-mod requests;
-mod run_fault;
-mod running;
-mod script;
-mod words;
 
 use program::run_program;
 use std::process::ExitCode;
-
-#[cfg(test)]
-mod tests;
 
 fn main(rt: HostRuntime) -> ExitCode {
     match run_program(&rt) {

@@ -2,12 +2,12 @@
 ghost use Rattle.std.specs.Prelude.{◌≡◌};
 ghost use Rattle.unitadm.specs.Statuses.{failure_status};
 
-use crate::run_fault::RunFault;
-use crate::running::run;
 use arguments::{ArgumentError, arguments_of};
-use link_tree::{FromRead, ToWrite};
+use byte_streams::{FromRead, ToWrite};
+use std::io::BufReader;
 use std::{env, io};
 use thiserror::Error;
+use unit_script::{RunFault, run};
 
 /// Why the program failed.
 #[derive(Clone, Copy, Debug, PartialEq, Eq, Error)]
@@ -47,12 +47,18 @@ fn read_arguments(rt: &HostRuntime) -> Result<(), ArgumentError> {
     Ok(())
 }
 
+/// How many bytes of standard input are asked for at a time.
+const READ_ROOM: usize = 32768;
+
 /// Runs what standard input holds, and writes to standard output.
 fn run_standard(rt: &HostRuntime) -> Result<(), RunFault> {
+    let Ok(reader) = BufReader::with_capacity(rt.alloc(), READ_ROOM, rt.reader()) else {
+        return Err(RunFault::OutOfMemory);
+    };
     // No buffer around the writer: the output comes whole, and a fault is to tell how much of it went out.
     run(
         rt.alloc(),
-        &mut FromRead::new(rt.reader()),
+        &mut FromRead::new(reader),
         &mut ToWrite::new(io::writer(rt)),
     )
 }

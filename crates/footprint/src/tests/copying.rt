@@ -75,7 +75,7 @@ fn notice(alloc: Global) -> Result<Notice, Fail> {
 fn answers_are_copied(rt: HostRuntime) -> Result<(), Fail> {
     let alloc = rt.alloc();
     let mut notices = Notices::none(alloc);
-    ample!(notices.push(notice(alloc)?), AllocError)?;
+    ample!(notices.add(notice(alloc)?), AllocError)?;
     assert_copied(&rt, alloc, &Answer::Done(notices))?;
     assert_copied(&rt, alloc, &Answer::State(StateWord::LinkedRuntime))?;
     assert_copied(&rt, alloc, &Answer::Name(name(alloc, b"a.target")?))?;

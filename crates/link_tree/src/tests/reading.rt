@@ -1,11 +1,8 @@
-ghost use Rattle.std.specs.Prelude.{None};
-
 use crate::{
-    Entry, FromRead, InventoryError, InventoryFault, Line, PathError, ReadError, Source, Stop,
-    Tree, TreePath, read_inventory, read_line,
+    Entry, FromRead, InventoryError, InventoryFault, Line, PathError, Tree, TreePath,
+    read_inventory, read_line,
 };
 use std::alloc::{AllocError, Global};
-use std::process::Abort;
 use std::test::Fail;
 use unit_name::ample;
 
@@ -27,7 +24,7 @@ fn read(alloc: Global, input: &[u8]) -> Result<Tree, InventoryError> {
 fn read_on(alloc: Global, input: &[u8]) -> Result<(Tree, Line), InventoryError> {
     let mut source = FromRead::new(input);
     let tree = read_inventory(alloc, &mut source)?;
-    match read_line(alloc, &mut source, 80) {
+    match read_line(alloc, &mut source, 80, InventoryFault::BadLine) {
         Ok(line) => Ok((tree, line)),
         Err(_) => Err(InventoryError::OutOfMemory),
     }
@@ -329,7 +326,7 @@ fn read_many(alloc: Global, rest: &[u8]) -> Result<Tree, InventoryError> {
     read(alloc, text.as_slice())
 }
 
-/// Links come into the tree sixteen at a time: `7.path` stands there when what follows is read, and `25.path` waits.
+/// Links come into the tree sixteen at a time: `7.path` stands there when what follows is read, and `25.path` is pending.
 #[test]
 fn the_first_fault_behind_many_links_is_named(rt: HostRuntime) {
     let inputs: [(&[u8], InventoryFault, u32); 10] = [
@@ -428,122 +425,4 @@ fn a_line_has_at_most_16384_bytes(rt: HostRuntime) {
             Ok(_) => panic!(rt; "accepted"),
         }
     }
-}
-
-/// Gives bytes one at a time alone.
-#[derive(Drop)]
-struct OneByOne<'a> {
-    left: &'a [u8],
-}
-
-impl<'a> Source for OneByOne<'a> {
-    ghost left = { λ _. None };
-
-    ghost failures = { λ _. 0 };
-
-    ghost interruptions = { λ _. 0 };
-
-    fn byte(&mut self) -> Result<Option<u8>, Stop> {
-        match self.left {
-            [byte, rest @ ..] => {
-                self.left = rest;
-                Ok(Some(*byte))
-            }
-            [] => Ok(None),
-        }
-    }
-}
-
-/// A line in few words: whether its end came, and its text. A line that is too long has neither.
-fn seen(line: &Line) -> (Option<bool>, &[u8]) {
-    match line {
-        Line::Whole(text) => (Some(true), text.as_slice()),
-        Line::Last(text) => (Some(false), text.as_slice()),
-        Line::Long => (None, b""),
-    }
-}
-
-/// Asserts what the first line of `input` is, read in pieces and byte by byte: `text`, unless that is too long.
-fn assert_line(
-    rt: &impl Abort,
-    alloc: Global,
-    input: &[u8],
-    limit: usize,
-    text: &[u8],
-    ended: bool,
-) -> Result<(), Fail> {
-    let line: (Option<bool>, &[u8]) = if text.len() <= limit {
-        (Some(ended), text)
-    } else {
-        (None, b"")
-    };
-    let in_pieces = ample!(
-        read_line(alloc, &mut FromRead::new(input), limit),
-        ReadError::OutOfMemory
-    )?;
-    assert_eq!(rt; seen(&in_pieces), line);
-    let byte_by_byte = ample!(
-        read_line(alloc, &mut OneByOne { left: input }, limit),
-        ReadError::OutOfMemory
-    )?;
-    assert_eq!(rt; seen(&byte_by_byte), line);
-    Ok(())
-}
-
-/// Lines are read in pieces of 128 bytes: one may end with a piece, or have more than one.
-#[test]
-fn lines_have_several_pieces(rt: HostRuntime) -> Result<(), Fail> {
-    for len in [0, 127, 128, 129, 300] {
-        let mut input = [b'x'; 304];
-        if let Some(end) = input.get_mut(len) {
-            *end = b'\n';
-        }
-        let text = input.get(..len).unwrap_or(&[]);
-        for limit in [127, 128, 129, 300] {
-            assert_line(&rt, rt.alloc(), &input, limit, text, true)?;
-            assert_line(&rt, rt.alloc(), text, limit, text, false)?;
-        }
-    }
-    Ok(())
-}
-
-/// Asserts that the source has twelve lines of 3,000 bytes left, and no more.
-fn assert_lines<S: Source>(
-    rt: &impl Abort,
-    alloc: Global,
-    source: &mut S,
-) -> Result<(), ReadError> {
-    let text = [b'x'; 3000];
-    for _number in 0..12 {
-        assert_eq!(rt;
-            seen(&read_line(alloc, source, 3000)?),
-            (Some(true), text.as_slice())
-        );
-    }
-    assert_eq!(rt;
-        seen(&read_line(alloc, source, 3000)?),
-        (Some(false), b"".as_slice())
-    );
-    Ok(())
-}
-
-/// Up to 32,768 bytes are read ahead, and a line may begin before their end.
-#[test]
-fn lines_follow_one_another(rt: HostRuntime) -> Result<(), Fail> {
-    let mut input = [b'x'; 36012];
-    for line in input.chunks_mut(3001) {
-        if let Some(end) = line.get_mut(3000) {
-            *end = b'\n';
-        }
-    }
-    let input = input.as_slice();
-    ample!(
-        assert_lines(&rt, rt.alloc(), &mut FromRead::new(input)),
-        ReadError::OutOfMemory
-    )?;
-    ample!(
-        assert_lines(&rt, rt.alloc(), &mut OneByOne { left: input }),
-        ReadError::OutOfMemory
-    )?;
-    Ok(())
 }

@@ -1,6 +1,6 @@
 ghost use Rattle.std.specs.Prelude.{◌≡◌, All, true};
 ghost use Rattle.std.specs.FinMap as map;
-ghost use Rattle.link_tree.specs.Slots.{is_slot};
+ghost use Rattle.unit_paths.specs.Slots.{is_slot};
 ghost use Rattle.link_tree.specs.Trees.{AreFrom};
 
 use crate::{
@@ -61,7 +61,7 @@ fn entries_are_written_in_order(rt: HostRuntime) -> Result<(), Fail> {
     Ok(())
 }
 
-/// An inventory of one file, which is longer than what is ever held back.
+/// An inventory of one file, which is longer than the write buffer.
 fn long_file(alloc: Global) -> Result<Vec<u8>, AllocError> {
     let mut text = Vec::from_slice(alloc, b"unitadm-inventory 1\nF\t70000\t/a/b\n")?;
     text.extend_from_slice(&[b'a'; 70000])?;

@@ -1,5 +1,5 @@
 use Rattle.link_tree.specs.EntryLines.{is_tab}
-use Rattle.link_tree.proofs.FirstBytes.{first_place}
+use Rattle.byte_streams.proofs.FirstBytes.{first_place}
 use Rattle.link_tree.proofs.entry_line.find_tab.Goals as goal
 
 pub returns-clause-place : goal.returns-clause-place

@@ -1,6 +1,6 @@
 use Rattle.std.proofs.Common.{ap, ◌∙◌, sym, Err}
 use Rattle.std.proofs.lemmas.Bool.{false≢true}
-use Rattle.link_tree.specs.Paths.{is_target}
+use Rattle.unit_paths.specs.Paths.{is_target}
 use Rattle.slot_commands.proofs.Targets.{path_target}
 use Rattle.slot_commands.proofs.link.link_to.Goals as goal
 

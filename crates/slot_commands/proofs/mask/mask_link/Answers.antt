@@ -1,6 +1,6 @@
 use Rattle.std.proofs.Common.{ap, ◌∙◌, sym, Err}
 use Rattle.std.proofs.lemmas.Bool.{false≢true}
-use Rattle.link_tree.specs.Paths.{is_target, is_text_byte}
+use Rattle.unit_paths.specs.Paths.{is_target, is_text_byte}
 use Rattle.slot_commands.proofs.mask.mask_link.Goals as goal
 
 pub unreachable-requires : goal.unreachable-requires

@@ -1,6 +1,6 @@
 use Rattle.std.proofs.Common.{ap, ◌∙◌, sym, Err}
 use Rattle.std.proofs.lemmas.Bool.{false≢true}
-use Rattle.link_tree.specs.Slots.{is_slot}
+use Rattle.unit_paths.specs.Slots.{is_slot}
 use Rattle.slot_commands.proofs.Targets.{default_path, default_is_slot}
 use Rattle.slot_commands.proofs.set_default.default_slot.Goals as goal
 

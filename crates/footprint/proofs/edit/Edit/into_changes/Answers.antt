@@ -1,11 +1,11 @@
 use Rattle.std.proofs.Common.{ap, ◌∙◌, sym, subst, true, All, ◌≡◌}
 use Rattle.std.specs.FinMap as map
 use Rattle.std.proofs.lemmas.Result.{IfOk-weaker}
-use Rattle.link_tree.specs.Slots.{is_slot}
+use Rattle.unit_paths.specs.Slots.{is_slot}
 use Rattle.link_tree.specs.Trees.{Entries}
 use Rattle.link_tree.specs.Differences.{changes_between}
 use Rattle.link_tree.proofs.Leads.{changes_at_slots}
-use Rattle.footprint.specs.Steps.{placed_in}
+use Rattle.footprint.specs.Placing.{placed_in}
 use Rattle.footprint.proofs.edit.Edit.into_changes.Goals as goal
 
 pub returns : goal.returns

@@ -2,8 +2,8 @@ use Rattle.std.proofs.Common.{◌≡◌, true, All, refl, sym, ap, subst, ◌∙
 use Rattle.std.specs.Vec.Iter.{into_iter_items}
 use Rattle.std.proofs.lemmas.List.{nil_from_length}
 use Rattle.std.proofs.lemmas.List.Elements.{All-rest}
-use Rattle.link_tree.specs.Slots.{is_slot}
-use Rattle.footprint.specs.Steps.{Placed, placed_in}
+use Rattle.unit_paths.specs.Slots.{is_slot}
+use Rattle.footprint.specs.Placing.{Placed, placed_in}
 use Rattle.footprint.proofs.HeldBack.{all_placed}
 use Rattle.footprint.proofs.edit.Edit.settled.Goals as goal
 

@@ -1,7 +1,7 @@
 use Rattle.std.proofs.Common.{◌≡◌, true, All}
 use Rattle.std.specs.Vec.Iter.{into_iter_items}
-use Rattle.link_tree.specs.Slots.{is_slot}
-use Rattle.footprint.specs.Steps.{placed_in}
+use Rattle.unit_paths.specs.Slots.{is_slot}
+use Rattle.footprint.specs.Placing.{placed_in}
 use Rattle.footprint.proofs.edit.Edit.settled.Given as goal
 
 -- what is left to be placed leaves the tree that all of it leaves, and is at slots

@@ -1,7 +1,7 @@
 use Rattle.std.proofs.Common.{ap, ◌∙◌, [], ◌∷◌, ◌++◌, ◌≡◌}
 use Rattle.link_tree.specs.Trees.{Entries, set_entry}
 use Rattle.link_tree.specs.Differences.{with_change}
-use Rattle.footprint.specs.Steps.{placed_in}
+use Rattle.footprint.specs.Placing.{placed_in}
 use Rattle.footprint.proofs.HeldBack.{placed_in-append, one_more}
 use Rattle.footprint.proofs.edit.Edit.with.Goals as goal
 

@@ -1,5 +1,4 @@
-use Rattle.std.proofs.Common.{ap, ◌∙◌, sym, ◌++◌}
-use Rattle.std.proofs.Common.{map as list_map}
+use Rattle.std.proofs.Common.{ap, ◌∙◌, sym, ◌++◌, map as list_map}
 use Rattle.std.specs.FinMap as map
 use Rattle.std.proofs.lemmas.List.{append-nil}
 use Rattle.link_tree.proofs.Maps.{entries_again}

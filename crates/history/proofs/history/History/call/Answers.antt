@@ -1,5 +1,5 @@
 use Rattle.std.proofs.Common.{◌≡◌, ◌<◌, All, true, List, [], ◌∷◌, ◌++◌, length, ap, ◌∙◌, subst, sym, arith}
-use Rattle.link_tree.specs.Slots.{is_slot}
+use Rattle.unit_paths.specs.Slots.{is_slot}
 use Rattle.link_tree.specs.Trees.{Entries}
 use Rattle.footprint.specs.Operations.{outcome_of}
 use Rattle.footprint.specs.declared.outcome.Outcome.{Outcome}

@@ -1,7 +1,7 @@
 use Rattle.std.proofs.Common.{◌≡◌, [], ◌∷◌, ◌++◌, All, true, length, length-append, ap, ◌∙◌, arith}
-use Rattle.link_tree.specs.Slots.{is_slot}
-use Rattle.link_tree.specs.declared.entry.Change.{Change}
-use Rattle.link_tree.proofs.Changed.{turned_slots}
+use Rattle.unit_paths.specs.Slots.{is_slot}
+use Rattle.link_tree.specs.declared.change.Change.{Change}
+use Rattle.link_tree.proofs.Changed.{inverse_slots}
 use Rattle.history.specs.declared.row.RowReply.TheVariants.{Undid}
 use Rattle.history.specs.Logs.{Log}
 use Rattle.history.specs.Rows.{row_of_undo}
@@ -11,7 +11,7 @@ use Rattle.history.proofs.history.History.take_back.Goals as goal
 pub make_changes-requires-clause-slots : goal.make_changes-requires-clause-slots
 make_changes-requires-clause-slots g c =
     let may = undo_seen g.met.O.Operation.laws c.args.operator _ _ _ _ _ _ _ c.self.view_is c.requires.room c.requires.free c.self.invariant c.index.ensures in
-    let slots : All (λ (change : Change). is_slot change.path ≡ true) c.as_slice.result.now = rw (c.as_slice.ensures, c.in_ok-back.ensures) (turned_slots _ may.2.slots) in
+    let slots : All (λ (change : Change). is_slot change.path ≡ true) c.as_slice.result.now = rw (c.as_slice.ensures, c.in_ok-back.ensures) (inverse_slots _ may.2.slots) in
     slots
 
 pub make_changes-requires-clause-from : goal.make_changes-requires-clause-from

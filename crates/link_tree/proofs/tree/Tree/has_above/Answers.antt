@@ -2,7 +2,7 @@ use Rattle.std.proofs.Common.{◌≡◌, ap, ◌∙◌, sym, false, rules, tests
 use Rattle.std.specs.Prelude.{is_some}
 use Rattle.std.specs.List.{list_any}
 use Rattle.std.specs.FinMap as map
-use Rattle.link_tree.specs.Shape.{is_beneath}
+use Rattle.unit_paths.specs.Shape.{is_beneath}
 use Rattle.link_tree.proofs.Aboves.{found_above, found-parent}
 use Rattle.link_tree.proofs.tree.Tree.has_above.Goals as goal
 

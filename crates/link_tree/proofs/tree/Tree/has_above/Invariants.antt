@@ -2,7 +2,7 @@ use Rattle.std.proofs.Common.{◌≡◌, ℕ, ◌+◌, List, length}
 use Rattle.std.specs.List.{list_any}
 use Rattle.std.specs.Option.{option_map_or}
 use Rattle.std.specs.FinMap as map
-use Rattle.link_tree.specs.Shape.{is_beneath}
+use Rattle.unit_paths.specs.Shape.{is_beneath}
 use Rattle.link_tree.proofs.Aboves.{found_above}
 use Rattle.link_tree.proofs.tree.Tree.has_above.Given as goal
 

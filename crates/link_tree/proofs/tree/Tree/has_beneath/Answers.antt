@@ -1,6 +1,6 @@
 use Rattle.std.proofs.Common.{sym, ap, ◌∙◌, map}
 use Rattle.std.specs.FinMap as maps
-use Rattle.link_tree.specs.Shape.{is_beneath}
+use Rattle.unit_paths.specs.Shape.{is_beneath}
 use Rattle.link_tree.proofs.Aboves.{key_path}
 use Rattle.link_tree.proofs.Beneaths.{first_is, first_found, none_beneath}
 use Rattle.link_tree.proofs.Maps.{entries_again}
@@ -18,7 +18,7 @@ returns-in-Some-next c =
     let es = c.entries.result.now.entries in
     let keys = ap (λ t. maps.keys t) (sym c.entries.ensures) ∙ ap (map (λ e. e.0)) (entries_again es c.range.ensures.ordered) in
     let found = first_found c.args.path.now c.in-Some.first m es c.range.result c.requires keys c.range.ensures.ordered (sym c.in_ok-first.ensures.first ∙ c.in-Some.is) (c.range.ensures.between tt) in
-    c.is_beneath.ensures ∙ (λ i. is_beneath (c.text.ensures.text i) (c.text-in-Some-next.ensures.text i)) ∙ ap (first_is c.args.path.now) (sym c.in-Some-next.ensures.steps) ∙ found
+    c.is_beneath.ensures ∙ ap (first_is c.args.path.now) (sym c.in-Some-next.ensures.steps) ∙ found
 
 pub returns-in-None : goal.returns-in-None
 unfolding first_is

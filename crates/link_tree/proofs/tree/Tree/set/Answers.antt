@@ -1,7 +1,8 @@
 use Rattle.std.proofs.Common.{◌≡◌, true, ap, ◌∙◌}
-use Rattle.link_tree.specs.Slots.{is_slot}
+use Rattle.unit_paths.specs.Slots.{is_slot}
 use Rattle.link_tree.proofs.Shapes.{fits_from}
-use Rattle.link_tree.proofs.Slots.{slot_shape, slot_free}
+use Rattle.unit_paths.proofs.Slots.{slot_shape}
+use Rattle.link_tree.proofs.Free.{slot_free}
 use Rattle.link_tree.proofs.tree.Tree.set.Goals as goal
 
 pub insert-requires-clause-fits : goal.insert-requires-clause-fits

@@ -1,5 +1,5 @@
 use Rattle.std.proofs.Common.{sym, ◌∙◌}
-use Rattle.link_tree.specs.Slots.{scope_place}
+use Rattle.unit_paths.specs.Places.{scope_place}
 use Rattle.slot_commands.specs.AddTo.{add_unit}
 use Rattle.slot_commands.proofs.Turns.{next_turn, refused_turn, last_turn}
 use Rattle.slot_commands.proofs.add_to.AddTo.add_units.Goals as goal

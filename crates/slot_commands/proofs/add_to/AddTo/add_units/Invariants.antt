@@ -1,4 +1,4 @@
-use Rattle.link_tree.specs.Slots.{scope_place}
+use Rattle.unit_paths.specs.Places.{scope_place}
 use Rattle.slot_commands.specs.AddTo.{add_unit}
 use Rattle.slot_commands.proofs.Turns.{HasCome}
 use Rattle.slot_commands.proofs.add_to.AddTo.add_units.Given as goal

@@ -1,14 +1,13 @@
 use Rattle.std.proofs.Common.{◌≡◌, subst}
 use Rattle.std.specs.Result.{IfOk}
 use Rattle.footprint.specs.Edits.{GoesOn}
-use Rattle.slot_commands.specs.Masks.{mask_at, each_ruled}
-use Rattle.slot_commands.specs.Commands.{mask_search, mask_looked}
+use Rattle.slot_commands.specs.Masks.{mask_at, each_ruled, mask_steps}
 use Rattle.slot_commands.proofs.Outcomes.{comes_to}
 use Rattle.slot_commands.proofs.mask.MaskOperation.run.Goals as goal
 
 pub returns-clause-outcome : goal.returns-clause-outcome
 returns-clause-outcome c =
     let tree = c.args.tree.now in
-    let goes : GoesOn (mask_search c.args.self.now) (tree, tree) c.new-cells.result c.each.new.cells c.in_ok-done.done =
+    let goes : GoesOn (mask_steps c.args.self.now) (tree, tree) c.new-cells.result c.each.new.cells c.in_ok-done.done =
     subst (λ units. GoesOn (each_ruled mask_at c.args.self.now.scope units) (tree, tree) c.new-cells.result c.each.new.cells c.in_ok-done.done) c.as_slice.ensures c.in_ok-done.ensures in
-    subst (λ outcome. IfOk c.of.result (λ done. done ≡ outcome)) (comes_to mask_search mask_looked c.args.self.now tree _ _ c.in_ok-done.done c.new-cells.ensures goes) c.of.ensures.outcome
+    subst (λ outcome. IfOk c.of.result (λ done. done ≡ outcome)) (comes_to mask_steps c.args.self.now tree _ _ c.in_ok-done.done c.new-cells.ensures goes) c.of.ensures.outcome

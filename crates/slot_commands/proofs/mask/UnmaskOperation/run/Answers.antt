@@ -1,14 +1,13 @@
 use Rattle.std.proofs.Common.{◌≡◌, subst}
 use Rattle.std.specs.Result.{IfOk}
 use Rattle.footprint.specs.Edits.{GoesOn}
-use Rattle.slot_commands.specs.Masks.{unmask_at, each_ruled}
-use Rattle.slot_commands.specs.Commands.{unmask_search, unmask_looked}
+use Rattle.slot_commands.specs.Masks.{unmask_at, each_ruled, unmask_steps}
 use Rattle.slot_commands.proofs.Outcomes.{comes_to}
 use Rattle.slot_commands.proofs.mask.UnmaskOperation.run.Goals as goal
 
 pub returns-clause-outcome : goal.returns-clause-outcome
 returns-clause-outcome c =
     let tree = c.args.tree.now in
-    let goes : GoesOn (unmask_search c.args.self.now) (tree, tree) c.new-cells.result c.each.new.cells c.in_ok-done.done =
+    let goes : GoesOn (unmask_steps c.args.self.now) (tree, tree) c.new-cells.result c.each.new.cells c.in_ok-done.done =
     subst (λ units. GoesOn (each_ruled unmask_at c.args.self.now.scope units) (tree, tree) c.new-cells.result c.each.new.cells c.in_ok-done.done) c.as_slice.ensures c.in_ok-done.ensures in
-    subst (λ outcome. IfOk c.of.result (λ done. done ≡ outcome)) (comes_to unmask_search unmask_looked c.args.self.now tree _ _ c.in_ok-done.done c.new-cells.ensures goes) c.of.ensures.outcome
+    subst (λ outcome. IfOk c.of.result (λ done. done ≡ outcome)) (comes_to unmask_steps c.args.self.now tree _ _ c.in_ok-done.done c.new-cells.ensures goes) c.of.ensures.outcome

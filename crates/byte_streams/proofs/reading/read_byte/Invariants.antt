@@ -1,0 +1,11 @@
+use Rattle.std.proofs.Common.{◌≡◌, ◌≤◌}
+use Rattle.std.specs.Io.KnownBytes.{Keeps}
+use Rattle.byte_streams.proofs.reading.read_byte.Given as goal
+
+-- it was interrupted each time so far
+abbrev pub invariant-loop-tried : goal.invariant-loop-tried
+invariant-loop-tried g l = record {
+  bytes : Keeps (g.S.Source.left l.fn.source) (g.S.Source.left l.source);
+  failures : (g.S.Source.counters l.source).failures ≡ (g.S.Source.counters l.fn.source).failures;
+  interruptions : l._tried ≤ (g.S.Source.counters l.source).interruptions;
+}

@@ -1,0 +1,11 @@
+use Rattle.std.proofs.Common.{◌≡◌, ◌≤◌}
+use Rattle.std.specs.Io.KnownBytes.{Keeps}
+use Rattle.byte_streams.proofs.reading.read_some.Given as goal
+
+-- it was interrupted each time so far
+abbrev pub invariant-loop-turn : goal.invariant-loop-turn
+invariant-loop-turn g l = record {
+  bytes : Keeps (g.S.Source.left l.fn.source) (g.S.Source.left l.source);
+  failures : (g.S.Source.counters l.source).failures ≡ (g.S.Source.counters l.fn.source).failures;
+  interruptions : l._turn ≤ (g.S.Source.counters l.source).interruptions;
+}

@@ -1,0 +1,40 @@
+-- What reading gives: a value or a fault, which the bytes decide, unless the source failed or memory ran out.
+use Rattle.std.specs.Prelude.{◌≡◌, ℕ, List, Option, Some, Result, Ok, Err}
+use Rattle.byte_streams.specs.declared.counters.Counters.{Counters}
+use Rattle.byte_streams.specs.declared.read_error.ReadError.{ReadError}
+use Rattle.byte_streams.specs.declared.read_error.ReadError.TheVariants as errors
+use Rattle.byte_streams.specs.Streams.{HasCause, IsCalm}
+
+-- What is made of a text, without a source, fails with this fault, unless memory ran out.
+abbrev pub IsFaultOf : {Y F : Type 0} → ReadError F → Result Y F → Type 0
+IsFaultOf (errors.Fault fault) read = read ≡ Err fault
+IsFaultOf errors.ReadFault read = ⊥
+IsFaultOf errors.OutOfMemory read = Unit {0}
+
+-- What is made of a text is this: the value as it is seen, or the fault.
+abbrev pub Gives : {X Y F : Type 0} → (X → Y) → Result X (ReadError F) → Result Y F → Type 0
+Gives view (Ok x) read = read ≡ Ok (view x)
+Gives view (Err e) read = IsFaultOf e read
+
+-- The fault is that of the bytes.
+abbrev pub FailsAs : {Y F : Type 0} → ReadError F → Result Y F → Type 0
+FailsAs (errors.Fault fault) read = read ≡ Err fault
+FailsAs errors.ReadFault read = Unit {0}
+FailsAs errors.OutOfMemory read = Unit {0}
+
+-- What is read to the end of the bytes is this: the value as it is seen, or the fault.
+abbrev pub ReadsWhole : {X Y F : Type 0} → (X → Y) → Result X (ReadError F) → Result Y F → Type 0
+ReadsWhole view (Ok x) read = read ≡ Ok (view x)
+ReadsWhole view (Err e) read = FailsAs e read
+
+-- What is read from the front of the bytes is this, and the bytes after it are left.
+abbrev pub ReadsFront : {X Y F : Type 0} → (X → Y) → Option (List ℕ) → Result X (ReadError F) → Result (Y × List ℕ) F → Type 0
+ReadsFront view left (Ok x) read = (rest : List ℕ) × (left ≡ Some rest) × (read ≡ Ok (view x, rest))
+ReadsFront view left (Err e) read = FailsAs e read
+
+-- A read fault has a cause, and what was read was read without a failure.
+abbrev pub AccountsRead : {X F : Type 0} → Result X (ReadError F) → Counters → Counters → Type 0
+AccountsRead (Ok x) old new = IsCalm old new
+AccountsRead (Err errors.ReadFault) old new = HasCause old new
+AccountsRead (Err (errors.Fault fault)) old new = Unit {0}
+AccountsRead (Err errors.OutOfMemory) old new = Unit {0}

@@ -1,0 +1,44 @@
+//! What a stream counts.
+ghost use Rattle.std.specs.Prelude.{◌≡◌, ℕ, Ok, Err};
+ghost use Rattle.byte_streams.specs.Streams.{counters_after};
+
+use crate::stream::Stop;
+use std::io::{Error, ErrorKind};
+
+/// How often a stream has failed, and how often it was interrupted since the last call that wasn't. Each stops at the largest value of
+/// its type.
+#[derive(Clone, Copy, Debug, Default, PartialEq, Eq)]
+pub struct Counters {
+    pub failures: u64,
+    pub interruptions: u64,
+}
+
+impl Counters {
+    /// Counts a call that went well.
+    pub(crate) fn count_success(&mut self)
+        ensures { self.new ≡ counters_after {T = ℕ} self.old (Ok 0) }
+    {
+        self.interruptions = 0;
+    }
+
+    /// Counts a failure.
+    pub(crate) fn count_failure(&mut self)
+        ensures { self.new ≡ counters_after {T = ℕ} self.old (Err Stop.Failed) }
+    {
+        self.failures = self.failures.saturating_add(1);
+        self.interruptions = 0;
+    }
+
+    /// Counts an error, and answers what it stops: an interrupted call may be made again.
+    pub(crate) fn count_error(&mut self, e: Error) -> Stop
+        ensures { self.new ≡ counters_after {T = ℕ} self.old (Err result) }
+    {
+        if e.kind() == ErrorKind::Interrupted {
+            self.interruptions = self.interruptions.saturating_add(1);
+            Stop::Interrupted
+        } else {
+            self.count_failure();
+            Stop::Failed
+        }
+    }
+}

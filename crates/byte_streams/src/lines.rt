@@ -1,0 +1,102 @@
+//! Reading lines.
+#![tactic(auto, using(crate::proofs::Known::known))]
+
+ghost use Rattle.std.specs.Prelude.{◌≡◌, ◌+◌, ◌-◌, ◌≤◌, length, take, IfOk};
+ghost use Rattle.std.specs.Vec.{vec_len};
+ghost use Rattle.byte_streams.specs.Lines.{ReadsLine};
+ghost use Rattle.byte_streams.specs.Pieces.{AddsPiece, IsPiece};
+ghost use Rattle.byte_streams.specs.Reads.{AccountsRead};
+ghost use Rattle.byte_streams.specs.Streams.{HasNoLineEnd};
+ghost use Rattle.byte_streams.specs.declared.lines.Growth.TheVariants.{Further};
+
+use crate::read_error::ReadError;
+use crate::reading::read_some_of_line;
+use crate::stream::Source;
+use std::alloc::{AllocError, Global};
+
+/// A line as it was read, without its end.
+#[derive(Debug, Drop)]
+pub enum Line {
+    /// A line end followed.
+    Whole(Vec<u8>),
+    /// The input ended.
+    Last(Vec<u8>),
+}
+
+/// Room for most lines, in bytes, taken at once.
+const LINE_ROOM: usize = 128;
+
+/// How many bytes of a line are read at once.
+const PIECE_ROOM: usize = 128;
+
+/// What one more piece makes of a line.
+#[derive(Clone, Copy)]
+enum Growth {
+    /// The line goes on.
+    Further,
+    /// The line end came.
+    Whole,
+    /// The line has more bytes than are allowed.
+    TooLong,
+}
+
+/// A piece of a line without the line end, and whether it had one.
+fn without_end(piece: &[u8]) -> (&[u8], bool)
+    requires { HasNoLineEnd (take (length piece.now - 1) piece.now) }
+    ensures { IsPiece piece.now result.0.now result.1 }
+{
+    match piece {
+        [line @ .., b'\n'] => (line, true),
+        _ => (piece, false),
+    }
+}
+
+/// Puts a piece of a line behind the text of the line.
+fn push_piece(text: &mut Vec<u8>, piece: &[u8], limit: usize) -> Result<Growth, AllocError>
+    requires within { vec_len text.old ≤ limit }
+    requires line { HasNoLineEnd (take (length piece.now - 1) piece.now) }
+    ensures line { IfOk result (AddsPiece limit text.old.items text.new.items piece.now) }
+    ensures within { vec_len text.new ≤ limit }
+    ensures more { IfOk result (λ growth. growth ≡ Further → vec_len text.new ≡ vec_len text.old + length piece.now) }
+{
+    let (line, ended) = without_end(piece);
+    if line.len() > limit - text.len() {
+        return Ok(Growth::TooLong);
+    }
+    text.extend_from_slice(line)?;
+    if ended {
+        Ok(Growth::Whole)
+    } else {
+        Ok(Growth::Further)
+    }
+}
+
+/// Reads up to the next LF, or to the end of the input: a line of at most `limit` bytes before its end.
+///
+/// # Errors
+///
+/// `too_long`, where more bytes than that come before an LF; a read fault where the source fails, or is interrupted 1,000 times in a
+/// row; want of memory.
+pub fn read_line<S: Source, F: Drop>(
+    alloc: Global,
+    source: &mut S,
+    limit: usize,
+    too_long: F,
+) -> Result<Line, ReadError<F>>
+    ensures line { ReadsLine limit too_long (S.left source.old) (S.left source.new) result }
+    ensures counters { AccountsRead result (S.counters source.old) (S.counters source.new) }
+{
+    let mut text = Vec::with_capacity(alloc, LINE_ROOM)?;
+    let mut room = [0; PIECE_ROOM];
+    loop {
+        let count = read_some_of_line(source, &mut room)?;
+        if count == 0 {
+            return Ok(Line::Last(text));
+        }
+        match push_piece(&mut text, &room[..count], limit)? {
+            Growth::Further => {}
+            Growth::Whole => return Ok(Line::Whole(text)),
+            Growth::TooLong => return Err(ReadError::Fault(too_long)),
+        }
+    }
+}

@@ -1,0 +1,45 @@
+//! Why something was not read.
+ghost use Rattle.std.specs.Prelude.{◌≡◌};
+ghost use Rattle.byte_streams.specs.declared.read_error.ReadError.TheVariants as errors;
+
+use std::alloc::{AllocError, AllocFailed};
+use thiserror::Error;
+
+/// The source failed, or was interrupted 1,000 times in a row.
+#[derive(Clone, Copy, Debug, PartialEq, Eq, Hash, Error)]
+#[error("read fault")]
+pub struct ReadFault;
+
+/// Why something was not read: what is wrong with the bytes is a fault `F`; the other two say nothing of the bytes.
+#[derive(Clone, Copy, Debug, PartialEq, Eq, Hash)]
+pub enum ReadError<F> {
+    /// The bytes are not what is read.
+    Fault(F),
+    /// The source failed, or was interrupted 1,000 times in a row.
+    ReadFault,
+    OutOfMemory,
+}
+
+impl<F> From<ReadFault> for ReadError<F> {
+    ghost from_gives = { λ _ e. e ≡ errors.ReadFault };
+
+    fn from(_e: ReadFault) -> ReadError<F> {
+        ReadError::ReadFault
+    }
+}
+
+impl<F> From<AllocError> for ReadError<F> {
+    ghost from_gives = { λ _ e. e ≡ errors.OutOfMemory };
+
+    fn from(_e: AllocError) -> ReadError<F> {
+        ReadError::OutOfMemory
+    }
+}
+
+impl<T: Drop, F> From<AllocFailed<T>> for ReadError<F> {
+    ghost from_gives = { λ _ e. e ≡ errors.OutOfMemory };
+
+    fn from(_e: AllocFailed<T>) -> ReadError<F> {
+        ReadError::OutOfMemory
+    }
+}

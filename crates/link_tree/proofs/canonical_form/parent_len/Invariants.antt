@@ -1,8 +1,0 @@
-use Rattle.std.proofs.Common.{◌≡◌, false, drop}
-use Rattle.std.specs.List.{list_any}
-use Rattle.link_tree.specs.Paths.{is_slash}
-use Rattle.link_tree.proofs.canonical_form.parent_len.Given as goal
-
--- no slash from here on
-abbrev pub invariant-loop-i : goal.invariant-loop-i
-invariant-loop-i l = list_any is_slash (drop l.i l.text) ≡ false

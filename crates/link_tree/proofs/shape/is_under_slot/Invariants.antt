@@ -1,7 +1,0 @@
-use Rattle.std.proofs.Common.{◌≡◌, [], take, drop}
-use Rattle.link_tree.specs.Shape.{is_under_slot}
-use Rattle.link_tree.proofs.shape.is_under_slot.Given as goal
-
--- no slot so far: what is left decides
-abbrev pub invariant-loop-i : goal.invariant-loop-i
-invariant-loop-i l = is_under_slot (take l.i l.path) (drop l.i l.path) ≡ is_under_slot [] l.path

@@ -1,7 +1,0 @@
-use Rattle.std.proofs.Common.{◌≡◌, drop}
-use Rattle.link_tree.specs.Waiting.{with_bytes}
-use Rattle.link_tree.proofs.waiting.with_bytes.Given as goal
-
--- the bytes to come behind the key so far make the key of all
-abbrev pub invariant-loop-byte : goal.invariant-loop-byte
-invariant-loop-byte l = with_bytes l.key (drop l.byte-index l.bytes) ≡ with_bytes l.fn.key l.fn.bytes

@@ -1,0 +1,52 @@
+-- Links: which lead to /dev/null, and which belong to a name. systemctl(1), mask and disable.
+use Rattle.std.specs.Prelude.{ℕ, Bool, true, false, not, ◌&&◌, ◌||◌, List, Option, Some, None}
+use Rattle.std.specs.List.{after_last}
+use Rattle.std.specs.Str.{bytes_eq}
+use Rattle.unit_name.specs.declared.kind.Kind.{Kind}
+use Rattle.unit_name.specs.declared.kind.Kind.TheVariants.{Plain, Template, Instance}
+use Rattle.unit_name.specs.Parts.{kind_of}
+use Rattle.unit_name.specs.Name.{instance_of}
+use Rattle.link_tree.specs.declared.entry.Entry.{Entry}
+use Rattle.link_tree.specs.declared.entry.Entry.TheVariants.{File, Link}
+use Rattle.unit_paths.specs.declared.place.Scope.{Scope}
+use Rattle.unit_paths.specs.declared.place.Scope.TheVariants as scopes
+use Rattle.unit_paths.specs.declared.place.Place.{Place}
+use Rattle.unit_paths.specs.declared.place.Place.TheVariants as places
+use Rattle.unit_paths.specs.declared.slot.Slot.{Slot}
+use Rattle.unit_paths.specs.declared.slot.Slot.TheVariants as slots
+use Rattle.unit_paths.specs.Paths.{is_slash, name_at}
+use Rattle.unit_paths.specs.Canonical.{is_null_target}
+use Rattle.unit_paths.specs.Slots.{slot_of}
+
+-- whether an entry at a path is a link to /dev/null
+abbrev pub is_null_link : List ℕ → Entry → Bool
+is_null_link path (File contents) = false
+is_null_link path (Link target) = is_null_target path target
+
+-- the directory of units of a scope
+abbrev pub is_place_of : Scope → Place → Bool
+is_place_of scopes.Etc places.Etc = true
+is_place_of scopes.Run places.Run = true
+is_place_of scope place = false
+
+-- the slots of units and of dependencies in a scope
+abbrev pub is_of_scope : Scope → Option Slot → Bool
+is_of_scope scope (Some (slots.Unit place)) = is_place_of scope place
+is_of_scope scope (Some (slots.Wants place)) = is_place_of scope place
+is_of_scope scope (Some (slots.Requires place)) = is_place_of scope place
+is_of_scope scope (Some (slots.Preset place)) = false
+is_of_scope scope None = false
+
+abbrev pub is_instance : Kind → Bool
+is_instance Plain = false
+is_instance Template = false
+is_instance Instance = true
+
+-- a link of this name, or one whose target ends with this name after its last slash, unless the name is an instance's
+abbrev pub is_named : (name path target : List ℕ) → Bool
+is_named name path target = bytes_eq (name_at path) name || (not (is_instance (kind_of (instance_of name))) && bytes_eq (after_last is_slash target) name)
+
+-- A link of a scope belongs to a name that it has, or with which its target ends; a link to /dev/null belongs to none.
+unfoldable pub belongs : Scope → (name path : List ℕ) → Entry → Bool
+belongs scope name path (File contents) = false
+belongs scope name path (Link target) = is_of_scope scope (slot_of path) && not (is_null_target path target) && is_named name path target

@@ -1,0 +1,16 @@
+//! Tests of `unit_script`, from outside it: with tests of its own it would be proved twice. Those of failing streams
+//! are of `link_tree`'s reader and writer too.
+#![tactic(auto)]
+
+#[cfg(test)]
+mod actions;
+#[cfg(test)]
+mod faults;
+#[cfg(test)]
+mod refusals;
+#[cfg(test)]
+mod replies;
+#[cfg(test)]
+mod streams;
+#[cfg(test)]
+mod verbs;

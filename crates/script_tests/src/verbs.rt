@@ -1,0 +1,329 @@
+//! Lines of scripts: what each verb asks for, and why a line is refused.
+
+use crate::streams::Faulty;
+use byte_streams::ReadError;
+use footprint::{Operation, Units};
+use history::Request;
+use link_tree::{Dependency, Entry, Scope};
+use slot_commands::{AddTo, PlaceEntry};
+use std::alloc::{AllocError, Global};
+use std::process::Abort;
+use unit_name::ample;
+use unit_script::{Action, Call, Reason, ScriptFault, read_script};
+
+/// More bytes than any of these scripts has.
+const ALL: usize = 1000;
+
+/// The script of one line.
+fn script_of(alloc: Global, line: &[u8]) -> Result<Vec<u8>, AllocError> {
+    let mut script = Vec::new(alloc);
+    script.extend_from_slice(b"== calls\n")?;
+    script.extend_from_slice(line)?;
+    Ok(script)
+}
+
+/// The call of a line, if it isn't skipped.
+fn read(alloc: Global, line: &[u8]) -> Result<Option<Call>, ReadError<ScriptFault>> {
+    let Ok(script) = ample!(script_of(alloc, line), AllocError) else {
+        return Err(ReadError::OutOfMemory);
+    };
+    let mut calls = ample!(
+        read_script(alloc, &mut Faulty::new(&script, ALL, 0)),
+        ReadError::OutOfMemory
+    )?;
+    Ok(calls.pop())
+}
+
+/// A word, in brackets that show where it ends.
+fn push_word(out: &mut Vec<u8>, word: &[u8]) -> Result<(), AllocError> {
+    out.extend_from_slice(b"[")?;
+    out.extend_from_slice(word)?;
+    out.extend_from_slice(b"]")
+}
+
+fn push_units(out: &mut Vec<u8>, units: &Units) -> Result<(), AllocError> {
+    for unit in units.as_slice() {
+        push_word(out, unit.text())?;
+    }
+    Ok(())
+}
+
+fn push_scope(out: &mut Vec<u8>, what: &[u8], scope: Scope) -> Result<(), AllocError> {
+    out.extend_from_slice(what)?;
+    match scope {
+        Scope::Etc => out.extend_from_slice(b" etc "),
+        Scope::Run => out.extend_from_slice(b" run "),
+    }
+}
+
+fn push_add(out: &mut Vec<u8>, add: &AddTo) -> Result<(), AllocError> {
+    match add.dependency {
+        Dependency::Wants => push_scope(out, b"wants", add.scope)?,
+        Dependency::Requires => push_scope(out, b"requires", add.scope)?,
+    }
+    push_word(out, add.target.text())?;
+    push_units(out, &add.units)
+}
+
+fn push_place(out: &mut Vec<u8>, place: &PlaceEntry) -> Result<(), AllocError> {
+    match place.entry {
+        Entry::File(_) => out.extend_from_slice(b"file ")?,
+        Entry::Link(_) => out.extend_from_slice(b"link ")?,
+    }
+    push_word(out, place.path.text())?;
+    push_word(out, place.entry.bytes())
+}
+
+fn push_action(out: &mut Vec<u8>, action: &Action) -> Result<(), AllocError> {
+    match action {
+        Action::Mask(mask) => {
+            push_scope(out, b"mask", mask.scope)?;
+            push_units(out, &mask.units)
+        }
+        Action::Unmask(unmask) => {
+            push_scope(out, b"unmask", unmask.scope)?;
+            push_units(out, &unmask.units)
+        }
+        Action::LinkUnits(link) => {
+            push_scope(out, b"units", link.scope)?;
+            for path in link.paths.as_slice() {
+                push_word(out, path.text())?;
+            }
+            Ok(())
+        }
+        Action::AddTo(add) => push_add(out, add),
+        Action::SetDefault(set) => {
+            out.extend_from_slice(b"default ")?;
+            push_word(out, set.unit.text())
+        }
+        Action::PlaceEntry(place) => push_place(out, place),
+        Action::RemoveEntry(remove) => {
+            out.extend_from_slice(b"remove ")?;
+            push_word(out, remove.path.text())
+        }
+    }
+}
+
+/// What a line asks for, by a copy of its action.
+fn text_of(alloc: Global, call: &Option<Call>) -> Result<Vec<u8>, AllocError> {
+    let mut out = Vec::new(alloc);
+    match call {
+        Some(call) => match &call.request {
+            Request::Do(action) => {
+                let copy = ample!(action.copy(), AllocError)?;
+                push_action(&mut out, &copy)?;
+            }
+            Request::Undo(_) => out.extend_from_slice(b"undo")?,
+        },
+        None => out.extend_from_slice(b"skipped")?,
+    }
+    Ok(out)
+}
+
+/// Each line asks for what stands beside it.
+fn assert_read(rt: &impl Abort, alloc: Global, rows: &[(&[u8], &[u8])]) {
+    for (line, asks) in rows {
+        match read(alloc, line) {
+            Ok(call) => match ample!(text_of(alloc, &call), AllocError) {
+                Ok(text) => assert_eq!(rt; text.as_slice(), *asks),
+                Err(AllocError) => panic!(rt; "out of memory"),
+            },
+            Err(_) => panic!(rt; "refused"),
+        }
+    }
+}
+
+#[test]
+fn each_verb_is_read(rt: HostRuntime) {
+    let alloc = rt.alloc();
+    let rows: [(&[u8], &[u8]); 19] = [
+        (b"a mask x.service", b"mask etc [x.service]"),
+        (b"a unmask --runtime x.service", b"unmask run [x.service]"),
+        (b"a link /a", b"units etc [/a]"),
+        (b"a link --runtime /b /a /b", b"units run [/b][/a][/b]"),
+        (
+            b"a add-wants b.target x.service",
+            b"wants etc [b.target][x.service]",
+        ),
+        (
+            b"a add-wants --runtime b.target x.service b.target",
+            b"wants run [b.target][x.service][b.target]",
+        ),
+        (
+            b"a add-requires b.target x.service",
+            b"requires etc [b.target][x.service]",
+        ),
+        (
+            b"a add-requires --runtime b.target x.service",
+            b"requires run [b.target][x.service]",
+        ),
+        (b"a set-default b.target", b"default [b.target]"),
+        (b"a place /a link /b", b"link [/a][/b]"),
+        (b"a place /link link link", b"link [/link][link]"),
+        (b"a place /a link \\s", b"link [/a][\\s]"),
+        (b"a place /a file", b"file [/a][]"),
+        (b"a place /a file file", b"file [/a][file]"),
+        (b"a place /a file --runtime", b"file [/a][--runtime]"),
+        (b"a remove /a", b"remove [/a]"),
+        (b"a undo 1", b"undo"),
+        (b"# a remove /a", b"skipped"),
+        (b"  a   remove   /a ", b"remove [/a]"),
+    ];
+    assert_read(&rt, alloc, &rows);
+}
+
+#[test]
+fn texts_are_escaped(rt: HostRuntime) {
+    let alloc = rt.alloc();
+    let rows: [(&[u8], &[u8]); 6] = [
+        (
+            b"a place /a file [Unit]\\nA=b\\n",
+            b"file [/a][[Unit]\nA=b\n]",
+        ),
+        (b"a place /a file \\n\\t\\s\\\\", b"file [/a][\n\t \\]"),
+        (b"a place /a file \\\\n", b"file [/a][\\n]"),
+        (b"a place /a file \\\\\\n", b"file [/a][\\\n]"),
+        (b"a place /a file \t\0\xff\r", b"file [/a][\t\0\xff\r]"),
+        (b"a place /a file nts", b"file [/a][nts]"),
+    ];
+    assert_read(&rt, alloc, &rows);
+}
+
+fn error(alloc: Global, line: &[u8]) -> Option<ReadError<ScriptFault>> {
+    match read(alloc, line) {
+        Ok(_) => None,
+        Err(e) => Some(e),
+    }
+}
+
+/// Each of the lines is refused for the reason.
+fn assert_refused(rt: &impl Abort, alloc: Global, why: Reason, lines: &[&[u8]]) {
+    for line in lines {
+        assert_eq!(rt;
+            error(alloc, line),
+            Some(ReadError::Fault(ScriptFault::Bad(1, why)))
+        );
+    }
+}
+
+#[test]
+fn operator_and_verb_come_first(rt: HostRuntime) {
+    let alloc = rt.alloc();
+    assert_refused(
+        &rt,
+        alloc,
+        Reason::BadOperator,
+        &[b"A", b"A fly", b"A link a"],
+    );
+    assert_refused(
+        &rt,
+        alloc,
+        Reason::UnknownVerb,
+        &[b"a", b"a fly", b"a Link /a", b"a link\t/a", b"a add a b"],
+    );
+}
+
+#[test]
+fn arguments_are_counted_first(rt: HostRuntime) {
+    let alloc = rt.alloc();
+    assert_refused(
+        &rt,
+        alloc,
+        Reason::WrongArguments,
+        &[
+            b"a mask",
+            b"a link",
+            b"a link --runtime",
+            b"a add-wants",
+            b"a add-wants x",
+            b"a add-wants --runtime",
+            b"a add-wants --runtime x",
+            b"a add-requires x",
+            b"a set-default",
+            b"a set-default x y",
+            b"a remove",
+            b"a remove x y",
+            b"a undo",
+            b"a undo x y",
+        ],
+    );
+    assert_refused(
+        &rt,
+        alloc,
+        Reason::WrongArguments,
+        &[
+            b"a place",
+            b"a place x",
+            b"a place x y",
+            b"a place x link",
+            b"a place x link \0 y",
+            b"a place x file \\ y",
+            b"a place x Link y",
+            b"a place x files",
+            b"a place --runtime x file",
+        ],
+    );
+}
+
+#[test]
+fn the_first_bad_argument_decides(rt: HostRuntime) {
+    let alloc = rt.alloc();
+    assert_refused(
+        &rt,
+        alloc,
+        Reason::BadName,
+        &[
+            b"a mask x.service x",
+            b"a mask --runtime --runtime",
+            b"a mask x.service --runtime",
+            b"a add-wants x y.service",
+            b"a add-wants x.target y.service y",
+            b"a add-requires x.target --runtime y.service",
+            b"a set-default x",
+            b"a set-default --runtime",
+        ],
+    );
+    assert_refused(
+        &rt,
+        alloc,
+        Reason::BadPath,
+        &[
+            b"a link x",
+            b"a link /x y /x",
+            b"a link /x --runtime",
+            b"a link --runtime --runtime",
+            b"a place x link \0",
+            b"a place x link y",
+            b"a place / file \\",
+            b"a place x file",
+            b"a remove /x/",
+            b"a remove --runtime",
+        ],
+    );
+}
+
+#[test]
+fn what_is_placed_comes_last(rt: HostRuntime) {
+    let alloc = rt.alloc();
+    assert_refused(
+        &rt,
+        alloc,
+        Reason::BadTarget,
+        &[b"a place /x link \0", b"a place /x link y\tz"],
+    );
+    assert_refused(
+        &rt,
+        alloc,
+        Reason::BadText,
+        &[
+            b"a place /x file \\",
+            b"a place /x file y\\",
+            b"a place /x file \\\\\\",
+            b"a place /x file \\x",
+            b"a place /x file \\N",
+            b"a place /x file \\\t",
+            b"a place /x file y\\0z",
+        ],
+    );
+    assert_refused(&rt, alloc, Reason::BadNumber, &[b"a undo x", b"a undo \\n"]);
+}

@@ -1,0 +1,24 @@
+-- What a command does to a tree, in the words of the laws.
+use Rattle.std.specs.Prelude.{◌≡◌, ℕ, List, [], Option, Some, None}
+use Rattle.std.specs.FinMap as map
+use Rattle.link_tree.specs.declared.entry.Entry.{Entry}
+use Rattle.link_tree.specs.Trees.{Entries, after_changes}
+use Rattle.footprint.specs.declared.answer.Answer.TheVariants.{Done, Refused}
+use Rattle.footprint.specs.declared.refusal.Refusal.{Refusal}
+use Rattle.footprint.specs.Operations.{Effect}
+
+-- A command is refused, and changes nothing.
+abbrev pub Refuses : Effect → Refusal → Type 0
+Refuses done refusal = (done.answer ≡ Refused refusal) × (done.changes ≡ [])
+
+-- A command is accepted, and its changes leave a tree in which this stands at each path.
+abbrev pub Leaves : Effect → Entries → (List ℕ → Option Entry) → Type 0
+Leaves done t there = (done.answer ≡ Done map.empty) × ((path : List ℕ) → map.get (after_changes done.changes t) path ≡ there path)
+
+-- What stands in the one tree stands in the other.
+abbrev pub Keeps : Entries → Entries → Type 0
+Keeps t u = (path : List ℕ) (entry : Entry) → map.get t path ≡ Some entry → map.get u path ≡ Some entry
+
+-- What stands in the other alone is such an entry.
+abbrev pub AddsOnly : (List ℕ → Entry → Type 0) → Entries → Entries → Type 0
+AddsOnly IsNew t u = (path : List ℕ) (entry : Entry) → map.get t path ≡ None → map.get u path ≡ Some entry → IsNew path entry

@@ -1,0 +1,11 @@
+pub mod PathFacts
+pub mod Slashes
+pub mod Nulls
+pub mod Unders
+pub mod Shapes
+pub mod Aboves
+pub mod Beneaths
+pub mod Slots
+pub mod Lying
+pub mod UnitSlots
+pub mod DependencySlots

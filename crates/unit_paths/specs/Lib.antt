@@ -1,0 +1,6 @@
+pub mod Paths
+pub mod Canonical
+pub mod Places
+pub mod Slots
+pub mod Shape
+pub mod Laws

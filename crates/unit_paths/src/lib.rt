@@ -1,0 +1,26 @@
+//! The paths of unit files and links: which texts are paths and targets, where a link leads, and which paths are slots,
+//! where commands place entries. systemd.unit(5), "Unit File Load Path".
+#![tactic(auto)]
+
+mod canonical_form;
+mod compare;
+mod fault;
+mod laws;
+mod part;
+mod path;
+mod place;
+mod shape;
+mod slot;
+mod target;
+mod text;
+
+pub use canonical_form::{canonical, is_null_target};
+pub use fault::{MAX_PATH, PathError, TargetError};
+pub use laws::{links_lead_to_paths, paths_lie_beneath};
+pub use path::TreePath;
+pub use place::{Place, Scope};
+pub use slot::{Dependency, Slot};
+pub use target::Target;
+
+#[cfg(test)]
+mod tests;

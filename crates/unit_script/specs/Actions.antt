@@ -1,0 +1,24 @@
+-- What each command of a script means: what it asks of a tree, and the effect that it has.
+use Rattle.std.specs.Prelude.{Bool, false}
+use Rattle.footprint.specs.Inquiry.{Inquiry}
+use Rattle.footprint.specs.Operations.{Effect}
+use Rattle.slot_commands.specs.Masks.{mask_meaning, unmask_meaning}
+use Rattle.slot_commands.specs.LinkUnits.{link_meaning}
+use Rattle.slot_commands.specs.AddTo.{add_meaning}
+use Rattle.slot_commands.specs.SetDefault.{default_meaning}
+use Rattle.slot_commands.specs.ByHand.{place_meaning, remove_meaning}
+use Rattle.unit_script.specs.declared.action.Action.{Action}
+use Rattle.unit_script.specs.declared.action.Action.TheVariants.{Mask, Unmask, LinkUnits, AddTo, SetDefault, PlaceEntry, RemoveEntry}
+
+abbrev pub meaning : Action → Inquiry Effect
+meaning (Mask mask) = mask_meaning mask
+meaning (Unmask unmask) = unmask_meaning unmask
+meaning (LinkUnits link) = link_meaning link
+meaning (AddTo add) = add_meaning add
+meaning (SetDefault set) = default_meaning set
+meaning (PlaceEntry place) = place_meaning place
+meaning (RemoveEntry remove) = remove_meaning remove
+
+-- no action is a question yet
+abbrev pub asks : Action → Bool
+asks action = false

@@ -1,0 +1,11 @@
+pub mod Actions
+pub mod ActionLaws
+pub mod Escapes
+pub mod Laws
+pub mod Machine
+pub mod Requests
+pub mod Runs
+pub mod Script
+pub mod ScriptReads
+pub mod Texts
+pub mod Words

@@ -1,0 +1,36 @@
+-- For the proofs of this crate: what each step of reading a script returns, beside what the bytes say. No public contract cites it.
+use Rattle.std.specs.Prelude.{◌≡◌, ℕ, Bool, MatchBool, List, Option, Some, None, Result, Ok, Err}
+use Rattle.byte_streams.specs.Lines.{front_line}
+use Rattle.byte_streams.specs.Reads.{FailsAs}
+use Rattle.byte_streams.specs.declared.read_error.ReadError.{ReadError}
+use Rattle.byte_streams.specs.declared.read_error.ReadError.TheVariants as errors
+use Rattle.unit_script.specs.declared.call.Call.{Call}
+use Rattle.unit_script.specs.declared.reason.Reason.{Reason}
+use Rattle.unit_script.specs.declared.reason.ScriptFault.{ScriptFault}
+use Rattle.unit_script.specs.declared.reason.ScriptFault.TheVariants.{Bad}
+use Rattle.unit_script.specs.declared.script.TheConstants.{MAX_LINE}
+use Rattle.unit_script.specs.declared.script.ReadCall.{ReadCall}
+use Rattle.unit_script.specs.Script.{call_of_front}
+
+-- the call that was read, and whether its line had an end: then the source has the bytes behind it left
+abbrev pub IsCall : Option (List ℕ) → ReadCall → Result (Option Call × Option (List ℕ)) Reason → Type 0
+IsCall left found read = MatchBool found.has_end ((rest : List ℕ) × (left ≡ Some rest) × (read ≡ Ok (found.call, Some rest))) (read ≡ Ok (found.call, None))
+
+-- what was read is what the first line gives, unless the source failed or memory ran out
+abbrev pub CallOf : Option (List ℕ) → Result ReadCall (ReadError Reason) → Result (Option Call × Option (List ℕ)) Reason → Type 0
+CallOf left (Ok found) read = IsCall left found read
+CallOf left (Err e) read = FailsAs e read
+
+abbrev pub ReadsCall : Option (List ℕ) → Option (List ℕ) → Result ReadCall (ReadError Reason) → Type 0
+ReadsCall old new r = (bytes : List ℕ) → old ≡ Some bytes → CallOf new r (call_of_front (front_line MAX_LINE bytes))
+
+-- the error of reading the line of this number, as that of the script
+abbrev pub script_error_of : ℕ → ReadError Reason → ReadError ScriptFault
+script_error_of number (errors.Fault reason) = errors.Fault (Bad number reason)
+script_error_of number errors.ReadFault = errors.ReadFault
+script_error_of number errors.OutOfMemory = errors.OutOfMemory
+
+-- the line before all calls was there, and what follows it is left if it had an end
+abbrev pub CallsLineOf : Option (List ℕ) → Result Bool (ReadError ScriptFault) → Result (Option (List ℕ)) ScriptFault → Type 0
+CallsLineOf left (Ok has_end) read = MatchBool has_end ((rest : List ℕ) × (left ≡ Some rest) × (read ≡ Ok (Some rest))) (read ≡ Ok None)
+CallsLineOf left (Err e) read = FailsAs e read

@@ -1,0 +1,82 @@
+//! The commands that a script can give, as one type of operation.
+
+use footprint::{Operation, Outcome};
+use link_tree::Tree;
+use slot_commands::{AddTo, LinkUnits, Mask, PlaceEntry, RemoveEntry, SetDefault, Unmask};
+use std::alloc::{AllocError, Global};
+
+/// A command of a script with its arguments. systemctl(1), "Unit File Commands".
+///
+/// Each variant is an operation of `slot_commands`, and does as that does: its meaning, and so its answer, its changes
+/// and what it looks at, are that operation's. No action is a question, so each that is accepted counts as a command.
+///
+/// `run` and `copy` fail only for want of memory, and then nothing has changed.
+#[derive(Debug, Drop)]
+pub enum Action {
+    /// `mask`
+    Mask(Mask),
+    /// `unmask`
+    Unmask(Unmask),
+    /// `link`
+    LinkUnits(LinkUnits),
+    /// `add-wants` and `add-requires`
+    AddTo(AddTo),
+    /// `set-default`
+    SetDefault(SetDefault),
+    /// `place`, which systemctl doesn't have: an entry is put at an empty slot.
+    PlaceEntry(PlaceEntry),
+    /// `remove`, which systemctl doesn't have: the entry at a slot is taken away.
+    RemoveEntry(RemoveEntry),
+}
+
+impl Operation for Action {
+    ghost use Rattle.unit_script.specs.Actions as actions;
+    ghost use Rattle.unit_script.specs.ActionLaws.{action_laws};
+
+    ghost meaning = { actions.meaning };
+
+    ghost asks = { actions.asks };
+
+    ghost laws = { action_laws };
+
+    fn run(&self, alloc: Global, tree: &Tree) -> Result<Outcome, AllocError> {
+        match self {
+            Action::Mask(mask) => mask.run(alloc, tree),
+            Action::Unmask(unmask) => unmask.run(alloc, tree),
+            Action::LinkUnits(link) => link.run(alloc, tree),
+            Action::AddTo(add) => add.run(alloc, tree),
+            Action::SetDefault(set) => set.run(alloc, tree),
+            Action::PlaceEntry(place) => place.run(alloc, tree),
+            Action::RemoveEntry(remove) => remove.run(alloc, tree),
+        }
+    }
+
+    fn asks_only(&self) -> bool {
+        false
+    }
+
+    fn copy(&self) -> Result<Action, AllocError> {
+        match self {
+            Action::Mask(mask) => Ok(Action::Mask(mask.copy()?)),
+            Action::Unmask(unmask) => Ok(Action::Unmask(unmask.copy()?)),
+            Action::LinkUnits(link) => Ok(Action::LinkUnits(link.copy()?)),
+            Action::AddTo(add) => Ok(Action::AddTo(add.copy()?)),
+            Action::SetDefault(set) => Ok(Action::SetDefault(set.copy()?)),
+            Action::PlaceEntry(place) => Ok(Action::PlaceEntry(place.copy()?)),
+            Action::RemoveEntry(remove) => Ok(Action::RemoveEntry(remove.copy()?)),
+        }
+    }
+
+    fn same(&self, other: &Action) -> bool {
+        match (self, other) {
+            (Action::Mask(one), Action::Mask(other)) => one.same(other),
+            (Action::Unmask(one), Action::Unmask(other)) => one.same(other),
+            (Action::LinkUnits(one), Action::LinkUnits(other)) => one.same(other),
+            (Action::AddTo(one), Action::AddTo(other)) => one.same(other),
+            (Action::SetDefault(one), Action::SetDefault(other)) => one.same(other),
+            (Action::PlaceEntry(one), Action::PlaceEntry(other)) => one.same(other),
+            (Action::RemoveEntry(one), Action::RemoveEntry(other)) => one.same(other),
+            _ => false,
+        }
+    }
+}

@@ -1,0 +1,24 @@
+//! Scripts of unit-file commands: from an inventory and a script to a reply for each call and the inventory that is left.
+#![tactic(auto)]
+
+mod action;
+mod call;
+mod escapes;
+mod laws;
+mod lines;
+mod reason;
+mod reply;
+mod requests;
+mod run_fault;
+mod running;
+mod script;
+mod words;
+
+pub use action::Action;
+pub use call::Call;
+pub use laws::{a_script_is_its_lines, any_text_is_a_word};
+pub use reason::{Reason, ScriptFault};
+pub use reply::{push_changes, push_refusal, push_rows};
+pub use run_fault::{InputFault, RunFault};
+pub use running::run;
+pub use script::{MAX_LINE, MAX_LINES, read_script};

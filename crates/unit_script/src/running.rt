@@ -1,0 +1,190 @@
+//! A run: from an inventory and a script to the replies and the inventory that is left.
+ghost use Rattle.std.specs.Prelude.{◌≡◌, ◌<◌, ◌≤◌, ◌++◌, ◌⊎◌, ℕ, List, length, Some, true, OnOk, IfOk, IfErr, IsErrOf};
+ghost use Rattle.std.specs.Io.KnownBytes.{Appends};
+ghost use Rattle.link_tree.specs.Reads.{AccountsWrite, SentBefore};
+ghost use Rattle.byte_streams.specs.Streams.{IsCalm};
+ghost use Rattle.byte_streams.specs.declared.counters.Counters.{Counters};
+ghost use Rattle.link_tree.specs.Trees.{inventory_text};
+ghost use Rattle.link_tree.specs.Inventory.{inventory_of};
+ghost use Rattle.history.specs.Rows.{rows_after};
+ghost use Rattle.history.specs.declared.history.TheConstants.{MAX_ROWS};
+ghost use Rattle.unit_script.specs.Actions.{asks, meaning};
+ghost use Rattle.unit_script.specs.Machine.{asked, replay, rows_of};
+ghost use Rattle.unit_script.specs.Script.{script_of};
+ghost use Rattle.unit_script.specs.Texts.{text_of};
+ghost use Rattle.unit_script.specs.Runs.{TreeOfInput, outcome_of, text_of_calls, in_inventory, in_script, GivesInput, InputCause, WritesAll, FaultOf, Silent, FaultCause};
+
+use crate::action::Action;
+use crate::call::Call;
+use crate::reply::push_rows;
+use crate::run_fault::{InputError, InputFault, RunFault};
+use crate::script::read_script;
+use byte_streams::{ReadError, Sink, Source};
+use history::{CallError, History, Request};
+use link_tree::{InventoryError, Tree, WriteError, read_inventory, write_before_inventory};
+use std::alloc::{AllocError, Global};
+use std::mem::forget;
+
+/// Makes one call, which adds one row to the history.
+fn make(history: &mut History<Action>, alloc: Global, call: Call) -> Result<(), CallError>
+    ensures first { history.new.first ≡ history.old.first }
+    ensures limit { history.new.limit ≡ history.old.limit }
+    ensures rows { OnOk result (history.new.rows ≡ rows_after asks meaning history.old.first history.old.rows (asked call)) }
+    ensures full { IsErrOf result CallError.Full → length history.old.rows ≡ history.old.limit }
+    ensures room { OnOk result (length history.old.rows < history.old.limit) }
+{
+    let Call { operator, request } = call;
+    match request {
+        Request::Do(action) => match history.call(alloc, operator, action) {
+            Ok(_) => Ok(()),
+            Err(unrun) => Err(unrun.why),
+        },
+        Request::Undo(n) => match history.undo(alloc, operator, n) {
+            Ok(_) => Ok(()),
+            Err(why) => Err(why),
+        },
+    }
+}
+
+/// The history of the calls, made one after another on the tree.
+fn history_of(alloc: Global, tree: Tree, calls: Vec<Call>) -> Result<History<Action>, CallError>
+    ensures first { IfOk result (λ history. history.first ≡ tree) }
+    ensures limit { IfOk result (λ history. history.limit ≡ MAX_ROWS) }
+    ensures rows { IfOk result (λ history. history.rows ≡ rows_of tree calls.items) }
+    ensures room { OnOk result (length calls.items ≤ MAX_ROWS) }
+    ensures full { IsErrOf result CallError.Full → MAX_ROWS < length calls.items }
+{
+    let mut history = History::new(alloc, tree)?;
+    for call in calls {
+        make(&mut history, alloc, call)?;
+    }
+    Ok(history)
+}
+
+#[tactic(auto, unfolding(crate::specs::Runs::text_of_calls))]
+fn history_of_calls(
+    alloc: Global,
+    tree: Tree,
+    calls: Vec<Call>,
+) -> Result<History<Action>, InputError>
+    ensures text { GivesInput (λ history. text_of history.first history.rows) result (text_of_calls tree calls.items) }
+    ensures limit { IfOk result (λ history. history.limit ≤ MAX_ROWS) }
+    ensures cause { IfErr result (λ e. (old new : Counters) → InputCause e old new) }
+{
+    match history_of(alloc, tree, calls) {
+        Ok(history) => Ok(history),
+        Err(CallError::Full) => Err(InputError::Fault(InputFault::Full)),
+        Err(CallError::OutOfMemory) => Err(InputError::OutOfMemory),
+    }
+}
+
+fn read_tree<S: Source>(alloc: Global, source: &mut S) -> Result<Tree, InputError>
+    ensures tree { (input : List ℕ) → S.left source.old ≡ Some input → TreeOfInput (S.left source.new) result (in_inventory (inventory_of input)) }
+    ensures calm { OnOk result (IsCalm (S.counters source.old) (S.counters source.new)) }
+    ensures cause { IfErr result (λ e. InputCause e (S.counters source.old) (S.counters source.new)) }
+{
+    match read_inventory(alloc, source) {
+        Ok(tree) => Ok(tree),
+        Err(InventoryError::Fault(fault, n)) => {
+            Err(InputError::Fault(InputFault::Inventory(fault, n)))
+        }
+        Err(InventoryError::ReadFault(n)) => Err(InputError::InventoryRead(n)),
+        Err(InventoryError::OutOfMemory) => Err(InputError::OutOfMemory),
+    }
+}
+
+fn read_calls<S: Source>(alloc: Global, source: &mut S) -> Result<Vec<Call>, InputError>
+    ensures calls { (bytes : List ℕ) → S.left source.old ≡ Some bytes → GivesInput (λ calls. calls.items) result (in_script (script_of bytes)) }
+    ensures cause { IfErr result (λ e. InputCause e (S.counters source.old) (S.counters source.new)) }
+{
+    match read_script(alloc, source) {
+        Ok(calls) => Ok(calls),
+        Err(ReadError::Fault(fault)) => Err(InputError::Fault(InputFault::Script(fault))),
+        Err(ReadError::ReadFault) => Err(InputError::ReadFault),
+        Err(ReadError::OutOfMemory) => Err(InputError::OutOfMemory),
+    }
+}
+
+/// Reads the whole input, and makes its calls.
+fn history_of_input<S: Source>(alloc: Global, source: &mut S) -> Result<History<Action>, InputError>
+    ensures text { (input : List ℕ) → S.left source.old ≡ Some input → GivesInput (λ history. text_of history.first history.rows) result (outcome_of input) }
+    ensures limit { IfOk result (λ history. history.limit ≤ MAX_ROWS) }
+    ensures cause { IfErr result (λ e. InputCause e (S.counters source.old) (S.counters source.new)) }
+{
+    let tree = read_tree(alloc, source)?;
+    let calls = read_calls(alloc, source)?;
+    history_of_calls(alloc, tree, calls)
+}
+
+/// The replies and the line `== tree`: the output up to the inventory.
+fn text_of_replies(alloc: Global, history: &History<Action>) -> Result<Vec<u8>, AllocError>
+    requires { history.now.limit ≤ MAX_ROWS }
+    ensures { IfOk result (λ text. text.items ++ inventory_text (replay history.now.first history.now.rows) ≡ text_of history.now.first history.now.rows) }
+{
+    let mut out = Vec::new(alloc);
+    push_rows(&mut out, history.rows())?;
+    out.extend_from_slice(b"== tree\n")?;
+    Ok(out)
+}
+
+/// Writes the replies and the inventory of the tree that the calls leave. Only the replies and a buffer take memory.
+fn write_history<K: Sink>(
+    alloc: Global,
+    history: &History<Action>,
+    sink: &mut K,
+) -> Result<(), WriteError>
+    requires { history.now.limit ≤ MAX_ROWS }
+    ensures ok { OnOk result (Appends (K.written sink.old) (K.written sink.new) (text_of history.now.first history.now.rows)) }
+    ensures flushed { OnOk result (K.flushed sink.new ≡ true) }
+    ensures fault { IfErr result (λ e. SentBefore e (K.written sink.old) (K.written sink.new) (text_of history.now.first history.now.rows)) }
+    ensures counters { AccountsWrite result (K.counters sink.old) (K.counters sink.new) }
+{
+    let Ok(replies) = text_of_replies(alloc, history) else {
+        return Err(WriteError::OutOfMemory);
+    };
+    write_before_inventory(alloc, &replies, history.tree(), sink)
+}
+
+/// Reads an inventory and a script up to the end of the source, makes the script's calls one after another, and writes
+/// to the sink a reply to each call and the inventory of the tree that they leave. systemctl(1), "Unit File Commands".
+///
+/// A call that is refused is no error: its reply says why, and the next call is made. All lines are read before the
+/// first call is made, and all memory is taken before the first byte is written; so but for a sink that fails, the
+/// output is written whole and flushed, or nothing is written. The process is to end next: the history is left to it,
+/// and not freed.
+///
+/// # Errors
+///
+/// The first of these in the order of reading:
+///
+/// - `Inventory`: what `read_inventory` refuses, with the number of the entry.
+/// - `InventoryRead`: the source failed in the inventory, or was interrupted 1,000 times in a row.
+/// - `NoCalls`: the line after the inventory isn't `== calls`.
+/// - `BadCall`: the first bad line of the script, numbered from 1 after `== calls`, with its `Reason`.
+/// - `ReadFault`: the source failed in the script, or was interrupted 1,000 times in a row.
+/// - `Full`: the script has over 1,000,000 calls (`MAX_ROWS`).
+/// - `WriteFault`: the sink failed, was interrupted 1,000 times in a row or wasn't flushed, when it had taken just
+///   the first so many bytes of the output.
+///
+/// `OutOfMemory` may come before any of them but `WriteFault`; nothing was written then.
+pub fn run<S: Source, K: Sink>(alloc: Global, source: &mut S, sink: &mut K) -> Result<(), RunFault>
+    ensures ok { OnOk result ((input : List ℕ) → S.left source.old ≡ Some input → WritesAll (K.written sink.old) (K.written sink.new) (outcome_of input)) }
+    ensures flushed { OnOk result (K.flushed sink.new ≡ true) }
+    ensures fault { IfErr result (λ e. (input : List ℕ) → S.left source.old ≡ Some input → FaultOf e (K.written sink.old) (K.written sink.new) (outcome_of input)) }
+    ensures silent { IfErr result (λ e. Silent e (K.written sink.old) (K.written sink.new)) }
+    ensures cause { IfErr result (λ e. FaultCause e (S.counters source.old) (S.counters source.new) (K.counters sink.old) (K.counters sink.new)) }
+{
+    match history_of_input(alloc, source) {
+        Ok(history) => {
+            let written = write_history(alloc, &history, sink);
+            // A process gives its memory back whole: entry by entry it would take a tenth of the time.
+            forget(history);
+            match written {
+                Ok(()) => Ok(()),
+                Err(WriteError::Fault(sent)) => Err(RunFault::WriteFault(sent)),
+                Err(WriteError::OutOfMemory) => Err(RunFault::OutOfMemory),
+            }
+        }
+        Err(e) => Err(e.run_fault()),
+    }
+}

@@ -1,0 +1,150 @@
+//! Single words of a script, and lists of them.
+ghost use Rattle.std.specs.Prelude.{◌≡◌, ◌∷◌, [], map};
+ghost use Rattle.unit_script.specs.Words.{number_from, number_of, name_of, names_of, units_of, path_of, paths_of, given_paths, link_of, file_with, file_of};
+ghost use Rattle.byte_streams.specs.Reads.{Gives};
+
+use crate::escapes::unescaped;
+use crate::reason::Reason;
+use byte_streams::ReadError;
+use footprint::Units;
+use link_tree::{Entry, FileError, PathError, TargetError, TreePath};
+use slot_commands::Paths;
+use std::alloc::Global;
+use unit_name::{NameError, UnitName};
+
+#[tactic(auto, unfolding(crate::specs::Words::number_from))]
+fn with_digit(number: u32, b: u8) -> Option<u32>
+    ensures { result ≡ number_from number (b ∷ []) }
+{
+    if !b.is_ascii_digit() {
+        return None;
+    }
+    number.checked_mul(10)?.checked_add(u32::from(b - b'0'))
+}
+
+fn number_of_digits(word: &[u8]) -> Option<u32>
+    ensures { result ≡ number_from 0 word.now }
+{
+    let mut number: u32 = 0;
+    for b in word {
+        match with_digit(number, *b) {
+            Some(next) => number = next,
+            None => return None,
+        }
+    }
+    Some(number)
+}
+
+/// The number that a word of digits makes, if it is below 2^32.
+#[tactic(auto, unfolding(crate::specs::Words::number_of))]
+pub(crate) fn number_of(word: &[u8]) -> Option<u32>
+    ensures { result ≡ number_of word.now }
+{
+    match word {
+        [] => None,
+        _ => number_of_digits(word),
+    }
+}
+
+/// The name of a unit.
+pub(crate) fn name_of(alloc: Global, word: &[u8]) -> Result<UnitName, ReadError<Reason>>
+    ensures { Gives (λ x. x) result (name_of word.now) }
+{
+    match UnitName::parse(alloc, word) {
+        Ok(name) => Ok(name),
+        Err(NameError::Bad(_)) => Err(ReadError::Fault(Reason::BadName)),
+        Err(NameError::OutOfMemory) => Err(ReadError::OutOfMemory),
+    }
+}
+
+/// Words that are all names of units.
+pub(crate) fn names_of(alloc: Global, words: &[&[u8]]) -> Result<Units, ReadError<Reason>>
+    ensures { Gives (λ x. x) result (names_of (map (λ word. word.now) words.now)) }
+{
+    let mut units = Units::none(alloc);
+    for word in words {
+        match name_of(alloc, word) {
+            Ok(name) => units.push(name)?,
+            Err(e) => return Err(e),
+        }
+    }
+    Ok(units)
+}
+
+/// The names of units, of which one at least is given.
+pub(crate) fn units_of(alloc: Global, words: &[&[u8]]) -> Result<Units, ReadError<Reason>>
+    ensures { Gives (λ x. x) result (units_of (map (λ word. word.now) words.now)) }
+{
+    match words {
+        [] => Err(ReadError::Fault(Reason::WrongArguments)),
+        _ => names_of(alloc, words),
+    }
+}
+
+/// A path.
+#[tactic(auto, unfolding(crate::specs::Words::path_of))]
+pub(crate) fn path_of(alloc: Global, word: &[u8]) -> Result<TreePath, ReadError<Reason>>
+    ensures { Gives (λ x. x) result (path_of word.now) }
+{
+    match TreePath::parse(alloc, word) {
+        Ok(path) => Ok(path),
+        Err(PathError::BadPath) => Err(ReadError::Fault(Reason::BadPath)),
+        Err(PathError::OutOfMemory) => Err(ReadError::OutOfMemory),
+    }
+}
+
+fn paths_of(alloc: Global, words: &[&[u8]]) -> Result<Paths, ReadError<Reason>>
+    ensures { Gives (λ x. x) result (paths_of (map (λ word. word.now) words.now)) }
+{
+    let mut paths = Paths::none(alloc);
+    for word in words {
+        match path_of(alloc, word) {
+            Ok(path) => paths.push(path)?,
+            Err(e) => return Err(e),
+        }
+    }
+    Ok(paths)
+}
+
+/// Paths, of which one at least is given.
+pub(crate) fn given_paths(alloc: Global, words: &[&[u8]]) -> Result<Paths, ReadError<Reason>>
+    ensures { Gives (λ x. x) result (given_paths (map (λ word. word.now) words.now)) }
+{
+    match words {
+        [] => Err(ReadError::Fault(Reason::WrongArguments)),
+        _ => paths_of(alloc, words),
+    }
+}
+
+/// The link to a target.
+#[tactic(auto, unfolding(crate::specs::Words::link_of))]
+pub(crate) fn link_of(alloc: Global, word: &[u8]) -> Result<Entry, ReadError<Reason>>
+    ensures { Gives (λ x. x) result (link_of word.now) }
+{
+    match Entry::link(alloc, word) {
+        Ok(entry) => Ok(entry),
+        Err(TargetError::BadTarget) => Err(ReadError::Fault(Reason::BadTarget)),
+        Err(TargetError::OutOfMemory) => Err(ReadError::OutOfMemory),
+    }
+}
+
+#[tactic(auto, unfolding(crate::specs::Words::file_with))]
+fn file_with(alloc: Global, bytes: &[u8]) -> Result<Entry, ReadError<Reason>>
+    ensures { Gives (λ x. x) result (file_with bytes.now) }
+{
+    match Entry::file(alloc, bytes) {
+        Ok(entry) => Ok(entry),
+        Err(FileError::TooLarge) => Err(ReadError::Fault(Reason::BadText)),
+        Err(FileError::OutOfMemory) => Err(ReadError::OutOfMemory),
+    }
+}
+
+/// The file that holds the bytes that a word stands for.
+pub(crate) fn file_of(alloc: Global, word: &[u8]) -> Result<Entry, ReadError<Reason>>
+    ensures { Gives (λ x. x) result (file_of word.now) }
+{
+    match unescaped(alloc, word)? {
+        Some(bytes) => file_with(alloc, &bytes),
+        None => Err(ReadError::Fault(Reason::BadText)),
+    }
+}

@@ -1,8 +1,0 @@
-use Rattle.std.proofs.Common.{◌≡◌, ◌++◌, drop}
-use Rattle.std.specs.List.{flat_map}
-use Rattle.unitadm.specs.Texts.{change_text}
-use Rattle.unitadm.proofs.reply.push_changes.Given as goal
-
--- the text so far, and that of what is left
-abbrev pub invariant-loop-change : goal.invariant-loop-change
-invariant-loop-change l = l.out.items ++ flat_map change_text (drop l.change-index l.changes) ≡ l.fn.out.items ++ flat_map change_text l.changes

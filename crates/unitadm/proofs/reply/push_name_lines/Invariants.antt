@@ -1,8 +1,0 @@
-use Rattle.std.proofs.Common.{◌≡◌, ◌++◌, drop}
-use Rattle.std.specs.List.{flat_map}
-use Rattle.unitadm.specs.Texts.{name_line}
-use Rattle.unitadm.proofs.reply.push_name_lines.Given as goal
-
--- the text so far, and that of what is left
-abbrev pub invariant-loop-name : goal.invariant-loop-name
-invariant-loop-name l = l.out.items ++ flat_map name_line (drop l.name-index l.names) ≡ l.fn.out.items ++ flat_map name_line l.names

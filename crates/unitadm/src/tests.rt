@@ -1,6 +1,0 @@
-mod actions;
-mod faults;
-mod refusals;
-mod replies;
-mod streams;
-mod verbs;
