@@ -5,3 +5,4 @@ pub mod Remain
 pub mod Kept
 pub mod AtOnce
 pub mod Blockers
+pub mod Blocking

@@ -21,7 +21,7 @@ module _ {O : Type 0} where
   get_push-old (r ∷ rows) last zero row h = h
   get_push-old (r ∷ rows) last (suc k) row h = get_push-old rows last k row h
 
-  get_push-new : (rows : List (Row O)) (last : Row O) → slice_get (rows ++ last ∷ []) (length rows) ≡ Some last
+  pub get_push-new : (rows : List (Row O)) (last : Row O) → slice_get (rows ++ last ∷ []) (length rows) ≡ Some last
   get_push-new [] last = refl
   get_push-new (r ∷ rows) last = get_push-new rows last
 

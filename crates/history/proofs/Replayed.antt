@@ -18,7 +18,7 @@ use Rattle.history.specs.declared.row.UndoRefusal.{UndoRefusal}
 use Rattle.history.specs.declared.row.Row.{Row}
 use Rattle.history.specs.declared.row.Request.TheVariants.{Do, Undo}
 use Rattle.history.specs.declared.row.RowReply.TheVariants.{Answered, Undid, UndoRefused}
-use Rattle.history.specs.Rows.{Call, calls_of, unless_undone, meets, answered, row_of_undo, mark, undone, rows_undone, or_blocked, row_refusal, accepted, survivor, first_met, blocker_at, refusal_at, undo_refusal, after, replay, AnswersHere, AnswersAlike, rows_after, run}
+use Rattle.history.specs.Rows.{Call, calls_of, unless_undone, meets, answered, row_of_undo, mark, undone, rows_undone, or_blocked, row_refusal, accepted, with_command, survivor, survivors, first_met, blocker_at, refusal_at, undo_refusal, after, after_commands, replay, AnswersHere, AnswersAlike, rows_after, run}
 
 module _ {O : Type 0} where
   calls-push : (rows : List (Row O)) (row : Row O) → calls_of (rows ++ row ∷ []) ≡ calls_of rows ++ (row.operator, row.request) ∷ []
@@ -97,6 +97,16 @@ module _ {O : Type 0} (asks : O → Bool) where
   free_row rows k h = free_at rows k (slice_get rows k) refl h
 
   module _ (meaning : O → Inquiry Effect) where
+    -- the replay runs the commands of the survivors
+    replay_command : (command : Option O) (commands : List O) (t : Entries) → after_commands meaning commands (after asks meaning command t) ≡ after_commands meaning (with_command command commands) t
+    replay_command None commands t = refl
+    replay_command (Some c) commands t = refl
+
+    pub replay_survivors : (t : Entries) (rows : List (Row O)) → replay asks meaning t rows ≡ after_commands meaning (survivors asks rows) t
+    replay_survivors t [] = refl
+    replay_survivors t (row ∷ rows) =
+        replay_survivors (after asks meaning (survivor asks row) t) rows ∙ replay_command (survivor asks row) (survivors asks rows) t
+
     calls-after : (first : Entries) (rows : List (Row O)) (call : Call O) → calls_of (rows_after asks meaning first rows call) ≡ calls_of rows ++ call ∷ []
     calls-after first rows (operator, Do c) = calls-push rows (answered operator c (outcome_of meaning c (replay asks meaning first rows)))
     calls-after first rows (operator, Undo n) = calls-rows_undone operator rows n (undo_refusal asks rows n)

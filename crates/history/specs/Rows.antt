@@ -37,6 +37,11 @@ abbrev pub unless_undone : {O : Type 0} → Option ℕ → Option O → Option O
 unless_undone None command = command
 unless_undone (Some by) command = None
 
+-- with a command before the others, if there is one
+abbrev pub with_command : {O : Type 0} → Option O → List O → List O
+with_command None commands = commands
+with_command (Some c) commands = c ∷ commands
+
 -- whether one of these changes touches a key of the reading
 abbrev pub meets : List Change → List Observation → Bool
 meets changes reading = list_any (λ observation. list_any (λ change. touches change observation.key) changes) reading
@@ -90,6 +95,11 @@ row_refusal (Some c) (Some by) = Some (AlreadyUndone by)
 abbrev pub ChangesSlots : {O : Type 0} → Row O → Type 0
 ChangesSlots row = All (λ change. is_slot change.path ≡ true) row.changes
 
+-- the tree with some commands run on it, in order
+abbrev pub after_commands : {O : Type 0} → (O → Inquiry Effect) → List O → Entries → Entries
+after_commands meaning [] t = t
+after_commands meaning (c ∷ commands) t = after_commands meaning commands (after_changes (outcome_of meaning c t).changes t)
+
 module _ {O : Type 0} (asks : O → Bool) where
   -- an operation that was accepted and doesn't only ask
   abbrev pub command_of : O → Answer → Option O
@@ -105,6 +115,11 @@ module _ {O : Type 0} (asks : O → Bool) where
   -- the command of a row that survives: it was accepted and isn't undone
   abbrev pub survivor : Row O → Option O
   survivor row = unless_undone row.undone_by (accepted row.request row.reply)
+
+  -- the commands of the rows that survive, in order
+  abbrev pub survivors : List (Row O) → List O
+  survivors [] = []
+  survivors (row ∷ rows) = with_command (survivor row) (survivors rows)
 
   -- the number, from `at` on, of the first survivor of whose reading these changes touch a key
   abbrev pub first_met : List Change → List (Row O) → ℕ → Option ℕ
@@ -143,7 +158,7 @@ module _ {O : Type 0} (asks : O → Bool) where
     after None t = t
     after (Some c) t = after_changes (outcome_of meaning c t).changes t
 
-    -- the tree with the surviving commands alone run on it, in order
+    -- the tree with the commands of the rows that survive run on it, in order
     abbrev pub replay : Entries → List (Row O) → Entries
     replay t [] = t
     replay t (row ∷ rows) = replay (after (survivor row) t) rows

@@ -6,7 +6,8 @@ ghost use Rattle.link_tree.specs.Trees.{after_changes};
 ghost use Rattle.footprint.specs.Keys.{touches};
 ghost use Rattle.footprint.specs.Operations.{outcome_of};
 ghost use Rattle.history.specs.Logs.{Log};
-ghost use Rattle.history.specs.Rows.{meets, first_met, blocker, undo_refusal, rows_undone, rows_after, replay, run, calls_of, AnswersAlike, AreMarked, IdleStays, GivesBack};
+ghost use Rattle.history.specs.Blocks.{IsFirstToBlock, TellsRefusal};
+ghost use Rattle.history.specs.Rows.{meets, first_met, blocker, undo_refusal, rows_undone, rows_after, survivors, after_commands, replay, run, calls_of, AnswersAlike, AreMarked, IdleStays, GivesBack};
 ghost use Rattle.history.specs.declared.row.Request.TheVariants.{Do, Undo};
 ghost use Rattle.history.specs.declared.history.CallError.TheVariants.{OutOfMemory};
 
@@ -112,7 +113,8 @@ impl<O: Operation> History<O> {
 
     /// The tree as it is: the first tree with the surviving commands alone run on it.
     pub fn tree(&self) -> &Tree
-        ensures { result.now ≡ replay O.asks O.meaning self.now.first self.now.rows }
+        ensures tree { result.now ≡ replay O.asks O.meaning self.now.first self.now.rows }
+        ensures survivors { result.now ≡ after_commands O.meaning (survivors O.asks self.now.rows) self.now.first }
     {
         &self.tree
     }
@@ -131,7 +133,8 @@ impl<O: Operation> History<O> {
 
     /// The first later survivor that looked at what the surviving row n changed.
     pub fn blocker(&self, n: u32) -> Option<u32>
-        ensures { result ≡ blocker O.asks self.now.rows n }
+        ensures found { result ≡ blocker O.asks self.now.rows n }
+        ensures first { IsFirstToBlock O.asks self.now.rows n result }
     {
         blocker(&self.rows, n)
     }
@@ -174,6 +177,7 @@ impl<O: Operation> History<O> {
         ensures rows { OnOk result (self.new.rows ≡ rows_after O.asks O.meaning self.old.first self.old.rows (operator, Undo n)) }
         ensures number { IfOk result (λ m. m ≡ length self.new.rows) }
         ensures idle { OnOk result (IdleStays O.asks O.meaning self.old.first self.old.rows self.new.rows) }
+        ensures why { OnOk result (TellsRefusal O.asks self.old.rows self.new.rows n) }
         ensures at_once { OnOk result (GivesBack O.asks O.meaning self.old.first self.old.rows n self.new.rows) }
         ensures err { OnErr result (self.new ≡ self.old) }
         ensures full { IfErr result (λ why. (why ≡ CallError.Full) ↔ (length self.old.rows ≡ self.old.limit)) }

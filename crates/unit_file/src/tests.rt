@@ -8,48 +8,54 @@ use std::process::Abort;
 use std::test::Fail;
 use unit_name::{NameError, UnitName, ample};
 
-/// A file, and the words of WantedBy=, RequiredBy=, Alias= and Also= with spaces between them, then DefaultInstance=.
-pub type Row<'a> = (&'a [u8], [&'a [u8]; 4], Option<&'a [u8]>);
+/// A file, and its `[Install]` section as lines `KEY=WORD WORD..`, one for each key that has a value.
+pub type Row<'a> = (&'a [u8], &'a [u8]);
 
 fn read(alloc: Global, bytes: &[u8]) -> Result<InstallText, InstallError> {
     ample!(install_of(alloc, bytes), InstallError::OutOfMemory)
 }
 
-/// The words are the expected ones, which have a space between each two.
-fn assert_words(rt: &impl Abort, words: &Words, expected: &[u8], file: &[u8]) {
-    let mut found = words.as_slice().iter();
-    for word in expected.split(|b| *b == b' ') {
-        if word.is_empty() {
-            continue;
-        }
-        match found.next() {
-            Some(next) => assert_eq!(rt; next.bytes(), word, "{file:?}"),
-            None => assert!(rt; word.is_empty(), "{file:?}"),
-        }
+fn push_words(lines: &mut Vec<u8>, key: &[u8], words: &Words) -> Result<(), AllocError> {
+    let mut before = key;
+    for word in words.as_slice() {
+        lines.extend_from_slice(before)?;
+        lines.extend_from_slice(word.bytes())?;
+        before = b" ";
     }
-    assert!(rt; found.next().is_none(), "{file:?}");
-    assert_eq!(rt; words.is_empty(), expected.is_empty());
+    if !words.is_empty() {
+        lines.push(b'\n')?;
+    }
+    Ok(())
 }
 
-fn assert_text(rt: &impl Abort, text: &InstallText, row: &Row) {
-    let (file, lists, default_instance) = row;
-    assert_words(rt, &text.wanted_by, lists[0], file);
-    assert_words(rt, &text.required_by, lists[1], file);
-    assert_words(rt, &text.alias, lists[2], file);
-    assert_words(rt, &text.also, lists[3], file);
-    match (&text.default_instance, default_instance) {
-        (Some(found), Some(expected)) => assert_eq!(rt; found.bytes(), *expected),
-        (found, expected) => assert_eq!(rt; found.is_some(), expected.is_some()),
+fn lines_of(alloc: Global, text: &InstallText) -> Result<Vec<u8>, AllocError> {
+    let mut lines = Vec::new(alloc);
+    push_words(&mut lines, b"WantedBy=", &text.wanted_by)?;
+    push_words(&mut lines, b"RequiredBy=", &text.required_by)?;
+    push_words(&mut lines, b"Alias=", &text.alias)?;
+    push_words(&mut lines, b"Also=", &text.also)?;
+    if let Some(instance) = &text.default_instance {
+        lines.extend_from_slice(b"DefaultInstance=")?;
+        lines.extend_from_slice(instance.bytes())?;
+        lines.push(b'\n')?;
     }
+    Ok(lines)
+}
+
+fn assert_text(rt: &impl Abort, alloc: Global, text: &InstallText, row: Row) -> Result<(), Fail> {
+    let (file, expected) = row;
+    let lines = ample!(lines_of(alloc, text), AllocError)?;
+    assert_eq!(rt; lines.as_slice(), expected, "{file:?}");
+    Ok(())
 }
 
 #[test]
 fn files_are_read(rt: HostRuntime) -> Result<(), Fail> {
     for row in FILES {
         let text = read(rt.alloc(), row.0)?;
-        assert_text(&rt, &text, &row);
+        assert_text(&rt, rt.alloc(), &text, row)?;
         let copy = ample!(text.copy(), AllocError)?;
-        assert_text(&rt, &copy, &row);
+        assert_text(&rt, rt.alloc(), &copy, row)?;
     }
     Ok(())
 }
@@ -57,83 +63,62 @@ fn files_are_read(rt: HostRuntime) -> Result<(), Fail> {
 #[test]
 fn lines_are_joined_and_dropped(rt: HostRuntime) -> Result<(), Fail> {
     let rows: [Row; 20] = [
-        (b"", [b""; 4], None),
-        (b"\n\r\n\\", [b""; 4], None),
+        (b"", b""),
+        (b"\n\r\n\\", b""),
         (
             b"[Install]\nWantedBy=a.target \\\n# c\nb.target\nWantedBy=\nWantedBy=c.target\n[X]\nWantedBy=d.target",
-            [b"c.target", b"", b"", b""],
-            None,
+            b"WantedBy=c.target\n",
         ),
         (
             b"[Install]\nWantedBy=a.target \\\n# c\nb.target\nWantedBy=c.target\n[X]\nWantedBy=d.target",
-            [b"a.target b.target c.target", b"", b"", b""],
-            None,
+            b"WantedBy=a.target b.target c.target\n",
         ),
         // A backslash at the end of the file.
-        (b"[Install]\nWantedBy=a\\", [b"a", b"", b"", b""], None),
-        (b"[Install]\nWantedBy=a\\\n", [b"a", b"", b"", b""], None),
-        (b"[Install]\nWantedBy=a\\\n#", [b"a", b"", b"", b""], None),
+        (b"[Install]\nWantedBy=a\\", b"WantedBy=a\n"),
+        (b"[Install]\nWantedBy=a\\\n", b"WantedBy=a\n"),
+        (b"[Install]\nWantedBy=a\\\n#", b"WantedBy=a\n"),
         // A CR belongs to a line's end before a LF alone.
-        (b"[Install]\nWantedBy=a\\\r\n", [b"a", b"", b"", b""], None),
-        (b"[Install]\nWantedBy=a\\\r", [b"a\\", b"", b"", b""], None),
+        (b"[Install]\nWantedBy=a\\\r\n", b"WantedBy=a\n"),
+        (b"[Install]\nWantedBy=a\\\r", b"WantedBy=a\\\n"),
         (
             b"[Install]\r\nWantedBy=a\r\r\n\rAlias=b\rc\r",
-            [b"a", b"", b"b c", b""],
-            None,
+            b"WantedBy=a\nAlias=b c\n",
         ),
         (
             b"[Install]\nWantedBy=a\\\r\r\nAlias=b",
-            [b"a\\", b"", b"b", b""],
-            None,
+            b"WantedBy=a\\\nAlias=b\n",
         ),
         // After another backslash, too.
-        (
-            b"[Install]\nWantedBy=a\\\\\nb\n",
-            [b"a\\ b", b"", b"", b""],
-            None,
-        ),
+        (b"[Install]\nWantedBy=a\\\\\nb\n", b"WantedBy=a\\ b\n"),
         (
             b"[Install]\nWantedBy=a \\ \nAlias=b",
-            [b"a \\", b"", b"b", b""],
-            None,
+            b"WantedBy=a \\\nAlias=b\n",
         ),
         // An empty line ends a continuation, a comment doesn't.
         (
             b"[Install]\nWantedBy=a \\\n\nAlias=b\n",
-            [b"a", b"", b"b", b""],
-            None,
+            b"WantedBy=a\nAlias=b\n",
         ),
         (
             b"[Install]\nWantedBy=a \\\n\t # c \\\n;d\nAlias=b\n",
-            [b"a Alias=b", b"", b"", b""],
-            None,
+            b"WantedBy=a Alias=b\n",
         ),
         (
             b"[Install]\nWantedBy=a \\\n[X]\nAlias=b\n",
-            [b"a [X]", b"", b"b", b""],
-            None,
+            b"WantedBy=a [X]\nAlias=b\n",
         ),
         // A comment is one before its backslash is looked at, and begins a line.
-        (
-            b"[Install]\n# c \\\nWantedBy=a\n",
-            [b"a", b"", b"", b""],
-            None,
-        ),
-        (
-            b"[Install]\nWantedBy=a # b\n",
-            [b"a # b", b"", b"", b""],
-            None,
-        ),
-        (b"#[Install]\nWantedBy=a\n", [b"", b"", b"", b""], None),
+        (b"[Install]\n# c \\\nWantedBy=a\n", b"WantedBy=a\n"),
+        (b"[Install]\nWantedBy=a # b\n", b"WantedBy=a # b\n"),
+        (b"#[Install]\nWantedBy=a\n", b""),
         (
             b"[Install]\n\xff\n\x00\nWantedBy=\xff\xfe \x00\n",
-            [b"\xff\xfe \x00", b"", b"", b""],
-            None,
+            b"WantedBy=\xff\xfe \x00\n",
         ),
     ];
     for row in rows {
         let text = read(rt.alloc(), row.0)?;
-        assert_text(&rt, &text, &row);
+        assert_text(&rt, rt.alloc(), &text, row)?;
     }
     Ok(())
 }
@@ -142,83 +127,62 @@ fn lines_are_joined_and_dropped(rt: HostRuntime) -> Result<(), Fail> {
 fn sections_and_keys_are_exact(rt: HostRuntime) -> Result<(), Fail> {
     let rows: [Row; 22] = [
         // Sections
-        (b" \t[Install]\t \nWantedBy=a", [b"a", b"", b"", b""], None),
-        (b"[Install]x\nWantedBy=a", [b""; 4], None),
-        (b"[Install]\n[X]x\nWantedBy=a", [b"a", b"", b"", b""], None),
-        (b"[Install]\n[\nWantedBy=a", [b"a", b"", b"", b""], None),
-        (b"[Install]\n[]\nWantedBy=a", [b""; 4], None),
-        (b"[Install]\n[a]b]\nWantedBy=a", [b""; 4], None),
-        (b"[ Install ]\nWantedBy=a", [b""; 4], None),
-        (b"[install]\nWantedBy=a", [b""; 4], None),
-        (b"[Install\\\n]\nWantedBy=a", [b""; 4], None),
-        (b"\xef\xbb\xbf[Install]\nWantedBy=a", [b""; 4], None),
+        (b" \t[Install]\t \nWantedBy=a", b"WantedBy=a\n"),
+        (b"[Install]x\nWantedBy=a", b""),
+        (b"[Install]\n[X]x\nWantedBy=a", b"WantedBy=a\n"),
+        (b"[Install]\n[\nWantedBy=a", b"WantedBy=a\n"),
+        (b"[Install]\n[]\nWantedBy=a", b""),
+        (b"[Install]\n[a]b]\nWantedBy=a", b""),
+        (b"[ Install ]\nWantedBy=a", b""),
+        (b"[install]\nWantedBy=a", b""),
+        (b"[Install\\\n]\nWantedBy=a", b""),
+        (b"\xef\xbb\xbf[Install]\nWantedBy=a", b""),
         // Keys
         (
             b"[Install]\nwantedby=a\nWantedBy a\nAlso\n=b\nUpheldBy=c",
-            [b""; 4],
-            None,
+            b"",
         ),
         (
             b"[Install]\nWantedBy=a=b\nAlso==c",
-            [b"a=b", b"", b"", b"=c"],
-            None,
+            b"WantedBy=a=b\nAlso==c\n",
         ),
         (
             b"[Install]\n\tRequiredBy \t=\t a\t\tb \nRequiredBy=a",
-            [b"", b"a b a", b"", b""],
-            None,
+            b"RequiredBy=a b a\n",
         ),
         (
             b"[Install]\nAlias=\"a b\" 'c' a\x0cb\x0b",
-            [b"", b"", b"\"a b\" 'c' a\x0cb\x0b", b""],
-            None,
+            b"Alias=\"a b\" 'c' a\x0cb\x0b\n",
         ),
         // Empty values
         (
             b"[Install]\nWantedBy=a\nRequiredBy=b\nAlias=c\nWantedBy= \t",
-            [b"", b"b", b"c", b""],
-            None,
+            b"RequiredBy=b\nAlias=c\n",
         ),
-        (
-            b"[Install]\nAlias=a\nAlias=\nAlias=b",
-            [b"", b"", b"b", b""],
-            None,
-        ),
+        (b"[Install]\nAlias=a\nAlias=\nAlias=b", b"Alias=b\n"),
         (
             b"[Install]\nRequiredBy=a\nRequiredBy=\nRequiredBy=b c",
-            [b"", b"b c", b"", b""],
-            None,
+            b"RequiredBy=b c\n",
         ),
-        (
-            b"[Install]\nAlso=a\nAlso=\nAlso=b",
-            [b"", b"", b"", b"a b"],
-            None,
-        ),
+        (b"[Install]\nAlso=a\nAlso=\nAlso=b", b"Also=a b\n"),
         // The last value
         (
             b"[Install]\nDefaultInstance=a\nDefaultInstance= b  c ",
-            [b""; 4],
-            Some(b"b  c"),
+            b"DefaultInstance=b  c\n",
         ),
-        (
-            b"[Install]\nDefaultInstance=a\nDefaultInstance=",
-            [b""; 4],
-            None,
-        ),
+        (b"[Install]\nDefaultInstance=a\nDefaultInstance=", b""),
         (
             b"[Install]\nDefaultInstance=\nDefaultInstance=%i",
-            [b""; 4],
-            Some(b"%i"),
+            b"DefaultInstance=%i\n",
         ),
         (
             b"[Install]\nDefaultInstance=a\n[Unit]\nDefaultInstance=b",
-            [b""; 4],
-            Some(b"a"),
+            b"DefaultInstance=a\n",
         ),
     ];
     for row in rows {
         let text = read(rt.alloc(), row.0)?;
-        assert_text(&rt, &text, &row);
+        assert_text(&rt, rt.alloc(), &text, row)?;
     }
     Ok(())
 }

@@ -4,50 +4,31 @@ use super::Row;
 pub const FILES: [Row<'static>; 12] = [
     (
         SERVICE,
-        [b"multi-user.target", b"", b"sshd.service", b"ssh.socket"],
-        None,
+        b"WantedBy=multi-user.target\nAlias=sshd.service\nAlso=ssh.socket\n",
     ),
-    (SOCKET, [b"sockets.target", b"ssh.service", b"", b""], None),
-    (GETTY, [b"getty.target", b"", b"", b""], Some(b"tty1")),
+    (SOCKET, b"WantedBy=sockets.target\nRequiredBy=ssh.service\n"),
+    (GETTY, b"WantedBy=getty.target\nDefaultInstance=tty1\n"),
     (
         TARGET,
-        [
-            b"multi-user.target graphical.target rescue.target",
-            b"basic.target",
-            b"",
-            b"",
-        ],
-        None,
+        b"WantedBy=multi-user.target graphical.target rescue.target\nRequiredBy=basic.target\n",
     ),
     (
         CONTINUED,
-        [b"multi-user.target graphical.target", b"", b"", b"b.socket"],
-        None,
+        b"WantedBy=multi-user.target graphical.target\nAlso=b.socket\n",
     ),
-    (
-        WINDOWS,
-        [b"a.target b.target", b"", b"c.service", b""],
-        None,
-    ),
-    (TIMER, [b"timers.target", b"", b"", b"backup.service"], None),
-    (MOUNT, [b"", b"local-fs.target", b"", b""], None),
+    (WINDOWS, b"WantedBy=a.target b.target\nAlias=c.service\n"),
+    (TIMER, b"WantedBy=timers.target\nAlso=backup.service\n"),
+    (MOUNT, b"RequiredBy=local-fs.target\n"),
     (
         TEMPLATE,
-        [
-            b"multi-user.target",
-            b"container@%i.service",
-            b"web-%i.service",
-            b"web-helper@%i.service",
-        ],
-        None,
+        b"WantedBy=multi-user.target\nRequiredBy=container@%i.service\nAlias=web-%i.service\nAlso=web-helper@%i.service\n",
     ),
-    (STATIC, [b"", b"", b"", b""], None),
+    (STATIC, b""),
     (
         SECTIONS,
-        [b"c.target", b"a.service", b"", b"x.service y.service"],
-        None,
+        b"WantedBy=c.target\nRequiredBy=a.service\nAlso=x.service y.service\n",
     ),
-    (SLICE, [b"", b"", b"", b"machine.slice"], Some(b"not/valid")),
+    (SLICE, b"Also=machine.slice\nDefaultInstance=not/valid\n"),
 ];
 
 const SERVICE: &[u8] = b"[Unit]\n\
