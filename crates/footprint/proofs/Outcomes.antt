@@ -8,6 +8,7 @@ use Rattle.footprint.specs.declared.outcome.Outcome.{Outcome}
 use Rattle.footprint.specs.declared.reading.Observation.{Observation}
 use Rattle.footprint.specs.Inquiry.{Inquiry}
 use Rattle.footprint.specs.Keys.{seen, touches, Agree, AgreeOn, Untouched}
+use Rattle.footprint.specs.Laws.{ComesToTheSame}
 use Rattle.footprint.specs.Operations.{Effect, outcome_of}
 use Rattle.footprint.specs.Readings.{in_order, observed, reading_of, keys_of}
 use Rattle.footprint.proofs.KeySets.{All-in_order, in_order-All}
@@ -47,3 +48,10 @@ outcome_agrees meaning c t u agree =
     ap (λ (e : Effect). outcome_by e ((meaning c).keys t) t) same.0
     ∙ ap (λ (rs : List Observation). record { answer = ((meaning c).conclusion u).answer; changes = ((meaning c).conclusion u).changes; reading = rs }) (reading_alike ((meaning c).keys t) t u agree)
     ∙ ap (λ (ks : List Key). outcome_by ((meaning c).conclusion u) ks u) same.1
+
+-- So it does where they agree on the keys of its reading.
+pub comes_to_the_same : {O : Type 0} (meaning : O → Inquiry Effect) → ComesToTheSame meaning
+comes_to_the_same meaning c t u agree =
+    let keys = (meaning c).keys t in
+    let P : Key → Type 0 = λ key. Agree key t u in
+    outcome_agrees meaning c t u (in_order-All P keys (subst (All P) (keys_of_reading keys t) agree))

@@ -22,7 +22,10 @@ pub use changes::Changes;
 pub use edit::Edit;
 pub use key::Key;
 pub use keys::Keys;
-pub use laws::{commands_may_change_places, trees_agree_after_the_same_changes};
+pub use laws::{
+    commands_may_change_places, operations_are_taken_back, outcomes_follow_from_what_is_seen,
+    trees_agree_after_the_same_changes,
+};
 pub use operation::Operation;
 pub use outcome::Outcome;
 pub use reading::{Observation, Reading, Seen, agrees};
