@@ -9,3 +9,6 @@ pub mod Slots
 pub mod Lying
 pub mod UnitSlots
 pub mod DependencySlots
+pub mod Spelled
+pub mod NearSlots
+pub mod Leading

@@ -79,7 +79,7 @@ parent-at text i within here none = sym (ap parent (around text i within here) �
 pub name-at : (text : List ℕ) (i : ℕ) → i < length text → get_or text i 0 ≡ 47 → list_any is_slash (drop (suc i) text) ≡ false → drop (suc i) text ≡ name_at text
 name-at text i within here none = sym (ap name_at (around text i within here) ∙ name-seam (take i text) (drop (suc i) text) none)
 
-split-cons : (x : ℕ) (xs : List ℕ) (b : Bool) → is_slash x ≡ b → slice_split is_slash (x ∷ xs) ≡ cond b ([] ∷ slice_split is_slash xs) (onto_first x (slice_split is_slash xs))
+pub split-cons : (x : ℕ) (xs : List ℕ) (b : Bool) → is_slash x ≡ b → slice_split is_slash (x ∷ xs) ≡ cond b ([] ∷ slice_split is_slash xs) (onto_first x (slice_split is_slash xs))
 split-cons x xs b e = ap (λ b. cond b ([] ∷ slice_split is_slash xs) (onto_first x (slice_split is_slash xs))) e
 
 position-yes : (x : ℕ) (xs : List ℕ) → is_slash x ≡ true → position is_slash (x ∷ xs) ≡ Some 0

@@ -3,4 +3,5 @@ pub mod Canonical
 pub mod Places
 pub mod Slots
 pub mod Shape
+pub mod Spellings
 pub mod Laws

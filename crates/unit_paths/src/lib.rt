@@ -16,7 +16,10 @@ mod text;
 
 pub use canonical_form::{canonical, is_null_target};
 pub use fault::{MAX_PATH, PathError, TargetError};
-pub use laws::{links_lead_to_paths, paths_lie_beneath};
+pub use laws::{
+    bad_shapes_are_close_to_slots, links_lead_to_paths, paths_lie_beneath, slots_are_spelled,
+    targets_lead_part_by_part,
+};
 pub use path::TreePath;
 pub use place::{Place, Scope};
 pub use slot::{Dependency, Slot};
