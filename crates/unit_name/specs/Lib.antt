@@ -2,3 +2,4 @@ pub mod Parts
 pub mod Name
 pub mod Laws
 pub mod Specifiers
+pub mod Words

@@ -13,7 +13,9 @@ mod specifier;
 
 pub use fault::{ExpandError, InstanceError, InstanceFault, MAX_NAME, NameError, NameFault};
 pub use kind::{Kind, UnitType};
-pub use laws::{instances_keep_the_rest, names_have_no_fault, parts_are_read};
+pub use laws::{
+    instances_keep_the_rest, names_have_no_fault, parts_are_read, words_are_expanded_by_pieces,
+};
 pub use name::{UnitName, is_unit_name};
 pub use specifier::expand;
 
