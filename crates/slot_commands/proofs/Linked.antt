@@ -31,7 +31,7 @@ use Rattle.footprint.specs.Steps.{Step, ruled, unless_refused, each_in_turn}
 use Rattle.slot_commands.specs.Links.{is_same_path, leads_alike, link_at, relink_at, LeadsAs}
 use Rattle.slot_commands.specs.LinkUnits.{is_of_unit, link_file, link_end, link_unit, IsLinked, FilesAreLinked}
 use Rattle.slot_commands.specs.Units.{found_unit, IsFound}
-use Rattle.slot_commands.specs.AddTo.{is_template_name, default_of, listed_name, add_listed, add_file, add_unit, add_units, IsDependency, DependenciesAreAdded}
+use Rattle.slot_commands.specs.AddTo.{is_template_name, default_of, listed_name, add_listed, add_file, add_unit, add_units, IsListedBetween, DependenciesAreAdded}
 use Rattle.slot_commands.specs.SetDefault.{default_slot, is_target_type, default_file, DefaultIsSet}
 use Rattle.slot_commands.specs.Effects.{Keeps, AddsOnly}
 use Rattle.slot_commands.proofs.Turns.{left_by, leaves, goes_on, in_turn, all_turns}
@@ -105,44 +105,48 @@ module _ (slot target : List ℕ) (u : Entries) where
   linked : (v : Entries) → left_by ((ruled (link_at target) slot).conclusion u) u ≡ Ok v → Makes slot target u v
   linked v is = linked_at (map.get u slot) v refl is
 
--- what steps do that keep what stands, in turn
-module _ {A : Type 0} (step : A → Step) (IsNew : A → List ℕ → Entry → Type 0) (IsDone : Entries → A → Type 0)
+-- what steps do that keep what stands, in turn, from a first tree on
+module _ {A : Type 0} (first : Entries) (step : A → Step) (IsNew : Entries → A → List ℕ → Entry → Type 0) (IsDone : Entries → A → Type 0)
+    (stays_new : (a : A) (u v : Entries) (path : List ℕ) (entry : Entry) → Keeps u v → IsNew u a path entry → IsNew v a path entry)
     (stays_done : (a : A) (u v : Entries) → Keeps u v → IsDone u a → IsDone v a) where
   abbrev One : A → Entries → Entries → Type 0
-  One a u v = Keeps u v × (AddsOnly (IsNew a) u v × IsDone v a)
+  One a u v = Keeps u v × (AddsOnly (IsNew v a) u v × IsDone v a)
 
-  abbrev IsNewOfOne : List A → List ℕ → Entry → Type 0
-  IsNewOfOne args path entry = (a : A) × Contains args a × IsNew a path entry
+  abbrev IsNewOfOne : Entries → List A → List ℕ → Entry → Type 0
+  IsNewOfOne v args path entry = (a : A) × Contains args a × IsNew v a path entry
 
   abbrev Every : List A → Entries → Entries → Type 0
-  Every args u v = Keeps u v × (AddsOnly (IsNewOfOne args) u v × All (IsDone v) args)
+  Every args u v = Keeps u v × (AddsOnly (IsNewOfOne v args) u v × All (IsDone v) args)
 
-  new_of_one : (a : A) (rest : List A) (u w v : Entries) → One a u w → Every rest w v → (path : List ℕ) (entry : Entry) (there : Option Entry) → map.get w path ≡ there → map.get u path ≡ None → map.get v path ≡ Some entry → IsNewOfOne (a ∷ rest) path entry
-  new_of_one a rest u w v first later path entry None at none is =
+  new_of_one : (a : A) (rest : List A) (u w v : Entries) → One a u w → Every rest w v → (path : List ℕ) (entry : Entry) (there : Option Entry) → map.get w path ≡ there → map.get u path ≡ None → map.get v path ≡ Some entry → IsNewOfOne v (a ∷ rest) path entry
+  new_of_one a rest u w v one later path entry None at none is =
       let found = later.1.0 path entry at is in
       (found.0, Contains-append_right (a ∷ []) rest found.0 found.1, found.2)
-  new_of_one a rest u w v first later path entry (Some other) at none is =
+  new_of_one a rest u w v one later path entry (Some other) at none is =
       let same : other ≡ entry = (let both : Some other ≡ Some entry = sym (later.0 path other at) ∙ is in cc) in
-      (a, Contains-append_left (a ∷ []) rest a (Contains-push [] a), subst (IsNew a path) same (first.1.0 path other none at))
+      (a, Contains-append_left (a ∷ []) rest a (Contains-push [] a), stays_new a w v path entry later.0 (subst (IsNew w a path) same (one.1.0 path other none at)))
 
-  module _ (one : (a : A) (u v : Entries) → leaves (step a) u ≡ Ok v → One a u v) where
-    one_more : (a : A) (rest : List A) (u v : Entries) → ((w : Entries) → in_turn step rest w ≡ Ok v → Every rest w v) → (r : Result Entries Refusal) → leaves (step a) u ≡ r → goes_on (in_turn step rest) r ≡ Ok v → Every (a ∷ rest) u v
-    one_more a rest u v every_rest (Ok w) at is =
-        let first = one a u w at in
-        let later = every_rest w is in (
-          λ path entry there. later.0 path entry (first.0 path entry there),
+  module _ (one : (a : A) (u v : Entries) → Keeps first u → leaves (step a) u ≡ Ok v → One a u v) where
+    one_more : (a : A) (rest : List A) (u v : Entries) → Keeps first u → ((w : Entries) → Keeps first w → in_turn step rest w ≡ Ok v → Every rest w v) → (r : Result Entries Refusal) → leaves (step a) u ≡ r → goes_on (in_turn step rest) r ≡ Ok v → Every (a ∷ rest) u v
+    one_more a rest u v since every_rest (Ok w) at is =
+        let done = one a u w since at in
+        let later = every_rest w (λ path entry there. done.0 path entry (since path entry there)) is in (
+          λ path entry there. later.0 path entry (done.0 path entry there),
           (
-            λ path entry none there. new_of_one a rest u w v first later path entry (map.get w path) refl none there,
-            All-cons (IsDone v) a rest (stays_done a w v later.0 first.1.1) later.1.1,
+            λ path entry none there. new_of_one a rest u w v done later path entry (map.get w path) refl none there,
+            All-cons (IsDone v) a rest (stays_done a w v later.0 done.1.1) later.1.1,
           ),
         )
-    one_more a rest u v every_rest (Err refusal) at is = cc
+    one_more a rest u v since every_rest (Err refusal) at is = cc
 
-    every : (args : List A) (u v : Entries) → in_turn step args u ≡ Ok v → Every args u v
-    every [] u v is =
+    every_since : (args : List A) (u v : Entries) → Keeps first u → in_turn step args u ≡ Ok v → Every args u v
+    every_since [] u v since is =
         let same : u ≡ v = cc in
         subst (Every [] u) same (λ path entry there. there, (λ path entry none there. some_none entry (sym none ∙ there), All-nil (IsDone u)))
-    every (a ∷ rest) u v is = one_more a rest u v (λ w left. every rest w v left) (leaves (step a) u) refl is
+    every_since (a ∷ rest) u v since is = one_more a rest u v since (λ w kept left. every_since rest w v kept left) (leaves (step a) u) refl is
+
+    every : (args : List A) (v : Entries) → in_turn step args first ≡ Ok v → Every args first v
+    every args v is = every_since args first v (λ path entry there. there) is
 
 -- an accepted command leaves the tree in which something was placed
 left_tree : (t : Entries) (verdict : Verdict) → (effect t verdict).answer ≡ Done map.empty → left_by verdict t ≡ Ok (after_changes (effect t verdict).changes t)
@@ -189,40 +193,50 @@ pub files_are_linked : FilesAreLinked
 files_are_linked = λ link t done.
     let place = scope_place link.scope in
     let verdict = (each_in_turn (link_unit place) link.paths).conclusion t in
-    let all = every (link_unit place) (IsNewLink place) (IsLinked place) (linked_kept place) (one_linked place) link.paths t (after_changes (effect t verdict).changes t) (sym (all_turns (link_unit place) link.paths t) ∙ left_tree t verdict done) in
+    let all = every t (link_unit place) (λ u. IsNewLink place) (IsLinked place) (λ file u v path entry kept new. new) (linked_kept place) (λ file u v since is. one_linked place file u v is) link.paths (after_changes (effect t verdict).changes t) (sym (all_turns (link_unit place) link.paths t) ∙ left_tree t verdict done) in
     record { kept = all.0; only = all.1.0; linked = all.1.1 }
 
 -- one unit is listed by another
-module _ (place : Place) (dependency : Dependency) (by : List ℕ) where
-  abbrev IsNewListing : List ℕ → List ℕ → Entry → Type 0
-  IsNewListing unit path entry = IsDependency place dependency by path entry
+module _ (first : Entries) (place : Place) (dependency : Dependency) (by : List ℕ) where
+  abbrev IsNewListing : Entries → List ℕ → List ℕ → Entry → Type 0
+  IsNewListing v unit path entry = (name file : List ℕ) × IsListedBetween first v by unit name file × (path ≡ dependency_slot place dependency by name) × (entry ≡ Link file)
 
-  -- nothing more is asked of a unit that is through
-  abbrev IsThrough : Entries → List ℕ → Type 0
-  IsThrough t unit = Unit {0}
+  abbrev IsListing : Entries → List ℕ → Type 0
+  IsListing v unit = (name file : List ℕ) × IsListedBetween first v by unit name file × LeadsAs v (dependency_slot place dependency by name) file
+
+  between_kept : (unit name file : List ℕ) (u v : Entries) → Keeps u v → IsListedBetween first u by unit name file → IsListedBetween first v by unit name file
+  between_kept unit name file u v kept (m, since, until, listed) = (m, since, (λ path entry there. kept path entry (until path entry there)), listed)
+
+  new_kept : (unit : List ℕ) (u v : Entries) (path : List ℕ) (entry : Entry) → Keeps u v → IsNewListing u unit path entry → IsNewListing v unit path entry
+  new_kept unit u v path entry kept (name, file, between, at, is) = (name, file, between_kept unit name file u v kept between, at, is)
+
+  listing_kept : (unit : List ℕ) (u v : Entries) → Keeps u v → IsListing u unit → IsListing v unit
+  listing_kept unit u v kept (name, file, between, leads) = (name, file, between_kept unit name file u v kept between, leads_kept (dependency_slot place dependency by name) file u v kept leads)
 
   abbrev OneListing : List ℕ → Entries → Entries → Type 0
-  OneListing unit u v = Keeps u v × (AddsOnly (IsNewListing unit) u v × IsThrough v unit)
+  OneListing unit u v = Keeps u v × (AddsOnly (IsNewListing v unit) u v × IsListing v unit)
 
-  name_listed : (unit real file : List ℕ) (u v : Entries) (name : Option (List ℕ)) → left_by ((add_listed place dependency by real file name).conclusion u) u ≡ Ok v → OneListing unit u v
-  name_listed unit real file u v None is = cc
-  name_listed unit real file u v (Some name) is =
-      let makes = linked (dependency_slot place dependency by name) file u v is in
-      (makes.kept, (λ path entry none there. (let new = makes.only path entry none there in (name, file, new)), tt))
+  module _ (unit real file : List ℕ) (u : Entries) (since : Keeps first u) (found : IsFound u unit real file) where
+    name_listed : (v : Entries) (name : Option (List ℕ)) → listed_name by real (default_of (map.get u file)) ≡ name → left_by ((add_listed place dependency by real file name).conclusion u) u ≡ Ok v → OneListing unit u v
+    name_listed v None listed is = cc
+    name_listed v (Some name) listed is =
+        let makes = linked (dependency_slot place dependency by name) file u v is in
+        let between : IsListedBetween first v by unit name file = (u, since, makes.kept, (real, found, listed)) in
+        (makes.kept, (λ path entry none there. (let new = makes.only path entry none there in (name, file, between, new.0, new.1)), (name, file, between, makes.leads)))
 
-  file_listed : (unit real file : List ℕ) (u v : Entries) → leaves (add_file place dependency by real file) u ≡ Ok v → OneListing unit u v
-  unfolding add_file
-  file_listed unit real file u v is = name_listed unit real file u v (listed_name by real (default_of (map.get u file))) is
+    file_listed : (v : Entries) → leaves (add_file place dependency by real file) u ≡ Ok v → OneListing unit u v
+    unfolding add_file
+    file_listed v is = name_listed v (listed_name by real (default_of (map.get u file))) refl is
 
-  found_listed : (unit : List ℕ) (u v : Entries) (found : Found) → left_by ((unless_refused (λ (unit : List ℕ × List ℕ). add_file place dependency by unit.0 unit.1) (found_unit unit found)).conclusion u) u ≡ Ok v → OneListing unit u v
-  found_listed unit u v founds.Missing is = cc
-  found_listed unit u v (founds.Masked at) is = cc
-  found_listed unit u v (founds.Dangling link) is = cc
-  found_listed unit u v (founds.Unit real file at) is = file_listed unit real file u v is
+  found_listed : (unit : List ℕ) (u v : Entries) → Keeps first u → (found : Found) → (find unit).conclusion u ≡ found → left_by ((unless_refused (λ (unit : List ℕ × List ℕ). add_file place dependency by unit.0 unit.1) (found_unit unit found)).conclusion u) u ≡ Ok v → OneListing unit u v
+  found_listed unit u v since founds.Missing at is = cc
+  found_listed unit u v since (founds.Masked place) at is = cc
+  found_listed unit u v since (founds.Dangling link) at is = cc
+  found_listed unit u v since (founds.Unit real file where_is) at is = file_listed unit real file u since (where_is, at) v is
 
-  one_listed : (unit : List ℕ) (u v : Entries) → leaves (add_unit place dependency by unit) u ≡ Ok v → OneListing unit u v
+  one_listed : (unit : List ℕ) (u v : Entries) → Keeps first u → leaves (add_unit place dependency by unit) u ≡ Ok v → OneListing unit u v
   unfolding add_unit
-  one_listed unit u v is = found_listed unit u v ((find unit).conclusion u) is
+  one_listed unit u v since is = found_listed unit u v since ((find unit).conclusion u) refl is
 
 -- what is found
 module _ (name : List ℕ) (t : Entries) (on : (real file : List ℕ) → Step) where
@@ -245,8 +259,15 @@ dependencies_are_added = λ add t done.
     let by = unit.0 in
     let verdict = verdict_of add.target t on ((find add.target).conclusion t) in
     let left : left_by ((add_units place add.dependency add.units by).conclusion t) t ≡ Ok (after_changes (effect t verdict).changes t) = ap (λ v. left_by v t) (sym unit.3) ∙ left_tree t verdict done in
-    let all = every (add_unit place add.dependency by) (IsNewListing place add.dependency by) (IsThrough place add.dependency by) (λ a u v kept through. tt) (one_listed place add.dependency by) add.units t (after_changes (effect t verdict).changes t) (sym (all_turns (add_unit place add.dependency by) add.units t) ∙ left) in
-    record { by = by; file = unit.1; found = unit.2; kept = all.0; only = λ path entry none there. (all.1.0 path entry none there).2 }
+    let all = every t (add_unit place add.dependency by) (IsNewListing t place add.dependency by) (IsListing t place add.dependency by) (new_kept t place add.dependency by) (listing_kept t place add.dependency by) (one_listed t place add.dependency by) add.units (after_changes (effect t verdict).changes t) (sym (all_turns (add_unit place add.dependency by) add.units t) ∙ left) in
+    record {
+      by = by;
+      file = unit.1;
+      found = unit.2;
+      kept = all.0;
+      only = λ path entry none there. (let new = all.1.0 path entry none there in (new.0, new.2.0, new.2.1, new.1, new.2.2, new.2.3, new.2.4));
+      added = all.1.1;
+    }
 
 -- the link of default.target is made
 module _ (t : Entries) (file : List ℕ) where

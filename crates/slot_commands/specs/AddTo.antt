@@ -1,6 +1,6 @@
 -- add-wants and add-requires: systemctl(1), "Unit File Commands".
 use Rattle.std.specs.FinMap as map
-use Rattle.std.specs.Prelude.{◌≡◌, ℕ, Bool, not, ◌&&◌, if◌then◌else◌, List, [], Option, Some, None}
+use Rattle.std.specs.Prelude.{◌≡◌, ℕ, Bool, not, ◌&&◌, if◌then◌else◌, List, All, Contains, Option, Some, None}
 use Rattle.unit_name.specs.declared.kind.Kind.{Kind}
 use Rattle.unit_name.specs.declared.kind.Kind.TheVariants.{Instance}
 use Rattle.unit_name.specs.Parts.{kind_of}
@@ -22,7 +22,7 @@ use Rattle.footprint.specs.Operations.{Effect}
 use Rattle.footprint.specs.Steps.{Step, refuse, ruled, each_in_turn, carried_out, ◌>>=◌}
 use Rattle.slot_commands.specs.declared.add_to.AddTo.{AddTo}
 use Rattle.slot_commands.specs.Effects.{Keeps, AddsOnly}
-use Rattle.slot_commands.specs.Links.{link_at}
+use Rattle.slot_commands.specs.Links.{link_at, LeadsAs}
 use Rattle.slot_commands.specs.Units.{with_unit, IsFound}
 
 -- whether a name is that of a template: systemd.unit(5)
@@ -73,17 +73,34 @@ add_steps add = with_unit add.target (λ real file. add_units (scope_place add.s
 abbrev pub add_meaning : AddTo → Inquiry Effect
 add_meaning add = carried_out (add_steps add)
 
--- An entry is a link in a unit's directory of dependencies.
-abbrev pub IsDependency : Place → Dependency → (by : List ℕ) → List ℕ → Entry → Type 0
-IsDependency place dependency by path entry = (name : List ℕ) × (file : List ℕ) × ((path ≡ dependency_slot place dependency by name) × (entry ≡ Link file))
+-- In a tree a unit is found with this file, and this is the name of the link to it.
+abbrev pub IsListed : Entries → (by unit name file : List ℕ) → Type 0
+IsListed t by unit name file = (real : List ℕ) × IsFound t unit real file × (listed_name by real (default_of (map.get t file)) ≡ Some name)
 
--- Links fill empty slots in the one directory of the target that is found, and all else stays.
+-- So it is in a tree on the way from one to another, as the units before it left it.
+abbrev pub IsListedBetween : (t u : Entries) → (by unit name file : List ℕ) → Type 0
+IsListedBetween t u by unit name file = (m : Entries) × Keeps t m × Keeps m u × IsListed m by unit name file
+
+-- An entry is the link to one of the units, under the name by which it is listed.
+abbrev pub IsNewDependency : AddTo → (by : List ℕ) → (t u : Entries) → List ℕ → Entry → Type 0
+IsNewDependency add by t u path entry =
+    (unit name file : List ℕ) × Contains add.units unit × IsListedBetween t u by unit name file
+    × (path ≡ dependency_slot (scope_place add.scope) add.dependency by name) × (entry ≡ Link file)
+
+-- A unit was found, and a link under the name by which it is listed leads to its file.
+abbrev pub IsAdded : AddTo → (by : List ℕ) → (t u : Entries) → (unit : List ℕ) → Type 0
+IsAdded add by t u unit =
+    (name file : List ℕ) × IsListedBetween t u by unit name file × LeadsAs u (dependency_slot (scope_place add.scope) add.dependency by name) file
+
+-- The target is found, all that stands stays, links to the units fill empty slots in its one directory, and each unit has such a
+-- link then.
 pub record AddsDependencies (add : AddTo) (t u : Entries) : Type 0 where
   pub by : List ℕ
   pub file : List ℕ
   pub found : IsFound t add.target by file
   pub kept : Keeps t u
-  pub only : AddsOnly (IsDependency (scope_place add.scope) add.dependency by) t u
+  pub only : AddsOnly (IsNewDependency add by t u) t u
+  pub added : All (IsAdded add by t u) add.units
 
 -- The law of add-wants and add-requires, where they are accepted.
 abbrev pub DependenciesAreAdded : Type 0

@@ -1,6 +1,6 @@
 -- link: systemctl(1), "Unit File Commands".
 use Rattle.std.specs.FinMap as map
-use Rattle.std.specs.Prelude.{◌≡◌, ℕ, Bool, true, false, if◌then◌else◌, List, [], All, Contains, ◌⊎◌, Option, Some}
+use Rattle.std.specs.Prelude.{◌≡◌, ℕ, Bool, true, false, if◌then◌else◌, List, All, Contains, ◌⊎◌, Option, Some}
 use Rattle.unit_name.specs.Name.{is_unit_name}
 use Rattle.link_tree.specs.declared.entry.Entry.{Entry}
 use Rattle.link_tree.specs.declared.entry.Entry.TheVariants.{Link}

@@ -1,5 +1,5 @@
 -- set-default: systemctl(1), "Unit File Commands"; the link is default.target of systemd.special(7).
-use Rattle.std.specs.Prelude.{◌≡◌, ℕ, Bool, true, false, if◌then◌else◌, List, [], Option, Some, codes}
+use Rattle.std.specs.Prelude.{◌≡◌, ℕ, Bool, true, false, if◌then◌else◌, List, Option, Some, codes}
 use Rattle.std.specs.Str.{bytes_eq}
 use Rattle.std.specs.FinMap as map
 use Rattle.unit_name.specs.declared.kind.UnitType.{UnitType}

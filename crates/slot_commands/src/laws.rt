@@ -22,8 +22,8 @@ pub fn files_are_linked_under_their_names()
     ensures { FilesAreLinked }
 {}
 
-/// An accepted `add-wants` or `add-requires` has found its target, and fills empty slots in the one directory of that with
-/// links. All else stays.
+/// An accepted `add-wants` or `add-requires` has found its target and each of the units, and then a link in the one directory
+/// of the target, under the name by which each is listed, leads to its file. These alone are new, and all else stays.
 pub fn dependencies_are_links_of_the_target()
     ensures { DependenciesAreAdded }
 {}
