@@ -26,45 +26,56 @@ fn text_of(alloc: Global, refusal: &Refusal) -> Result<Vec<u8>, AllocError> {
     Ok(out)
 }
 
+const SAID: [&[u8]; 14] = [
+    b"x@.service not found",
+    b"/a/b not found",
+    b"x@.service is masked",
+    b"/a/b is masked",
+    b"/a/b leads nowhere",
+    b"x@.service has the wrong type",
+    b"/a/b has the wrong type",
+    b"x@.service needs an instance",
+    b"/a/b is not a slot",
+    b"/a/b is absent",
+    b"/a/b exists",
+    b"x@.service is an alias of x@.service",
+    b"too many units",
+    b"/a/b is wanted twice",
+];
+
+fn alias(alloc: Global) -> Result<Refusal, Fail> {
+    let real = unit(alloc)?;
+    Ok(Refusal::IsAlias {
+        unit: unit(alloc)?,
+        real,
+    })
+}
+
+/// The refusal of which this is said.
+fn refusal_of(alloc: Global, said: &[u8]) -> Result<Refusal, Fail> {
+    Ok(match said {
+        b"x@.service not found" => Refusal::NotFound(Subject::Unit(unit(alloc)?)),
+        b"/a/b not found" => Refusal::NotFound(Subject::Path(path(alloc)?)),
+        b"x@.service is masked" => Refusal::Masked(Subject::Unit(unit(alloc)?)),
+        b"/a/b is masked" => Refusal::Masked(Subject::Path(path(alloc)?)),
+        b"/a/b leads nowhere" => Refusal::Dangling(path(alloc)?),
+        b"x@.service has the wrong type" => Refusal::BadType(Subject::Unit(unit(alloc)?)),
+        b"/a/b has the wrong type" => Refusal::BadType(Subject::Path(path(alloc)?)),
+        b"x@.service needs an instance" => Refusal::NeedsInstance(unit(alloc)?),
+        b"/a/b is not a slot" => Refusal::NotASlot(path(alloc)?),
+        b"/a/b is absent" => Refusal::Absent(path(alloc)?),
+        b"/a/b exists" => Refusal::Exists(path(alloc)?),
+        b"x@.service is an alias of x@.service" => alias(alloc)?,
+        b"too many units" => Refusal::TooMany,
+        _ => Refusal::Clash(path(alloc)?),
+    })
+}
+
 #[test]
 fn each_refusal_names_its_subject(rt: HostRuntime) -> Result<(), Fail> {
-    let alloc = rt.alloc();
-    let rows: [(Refusal, &[u8]); 11] = [
-        (
-            Refusal::NotFound(Subject::Unit(unit(alloc)?)),
-            b"x@.service not found",
-        ),
-        (
-            Refusal::NotFound(Subject::Path(path(alloc)?)),
-            b"/a/b not found",
-        ),
-        (
-            Refusal::Masked(Subject::Unit(unit(alloc)?)),
-            b"x@.service is masked",
-        ),
-        (
-            Refusal::Masked(Subject::Path(path(alloc)?)),
-            b"/a/b is masked",
-        ),
-        (Refusal::Dangling(path(alloc)?), b"/a/b leads nowhere"),
-        (
-            Refusal::BadType(Subject::Unit(unit(alloc)?)),
-            b"x@.service has the wrong type",
-        ),
-        (
-            Refusal::BadType(Subject::Path(path(alloc)?)),
-            b"/a/b has the wrong type",
-        ),
-        (
-            Refusal::NeedsInstance(unit(alloc)?),
-            b"x@.service needs an instance",
-        ),
-        (Refusal::NotASlot(path(alloc)?), b"/a/b is not a slot"),
-        (Refusal::Absent(path(alloc)?), b"/a/b is absent"),
-        (Refusal::Exists(path(alloc)?), b"/a/b exists"),
-    ];
-    for (refusal, said) in rows {
-        let text = ample!(text_of(alloc, &refusal), AllocError)?;
+    for said in SAID {
+        let refusal = refusal_of(rt.alloc(), said)?;
+        let text = ample!(text_of(rt.alloc(), &refusal), AllocError)?;
         assert_eq!(rt; text.as_slice(), said);
     }
     Ok(())

@@ -2,7 +2,7 @@
 
 use crate::actions::units;
 use history::{CallError, History, MAX_ROWS, Operator};
-use link_tree::{Change, Entry, FileError, PathError, Scope, TargetError, Tree, TreePath};
+use link_tree::{Change, Entry, FileError, Scope, Slot, TargetError, Tree, TreePath};
 use slot_commands::Unmask;
 use std::alloc::{AllocError, Global};
 use std::test::Fail;
@@ -28,35 +28,39 @@ fn text_of_rows(alloc: Global, history: &History<Action>) -> Result<Vec<u8>, All
     Ok(out)
 }
 
+fn slot(alloc: Global, name: &[u8]) -> Result<TreePath, Fail> {
+    let name = ample!(UnitName::parse(alloc, name), NameError::OutOfMemory)?;
+    Ok(ample!(Scope::Etc.place().slot(alloc, &name), AllocError)?)
+}
+
 /// A tree with an empty file at the slot of `e.service`.
-fn tree(alloc: Global) -> Result<Tree, Fail> {
-    let name = ample!(UnitName::parse(alloc, b"e.service"), NameError::OutOfMemory)?;
-    let slot = ample!(Scope::Etc.place().slot(alloc, &name), AllocError)?;
-    let mut tree = ample!(Tree::empty(alloc), AllocError)?;
-    ample!(
-        {
-            let entry = file(alloc, b"")?;
-            tree.set(&slot, Some(entry))
-        },
-        AllocError
-    )?;
+fn tree(alloc: Global, slot: &TreePath) -> Result<Tree, AllocError> {
+    let Ok(entry) = Entry::file(alloc, b"") else {
+        return Err(AllocError);
+    };
+    let mut tree = Tree::empty(alloc)?;
+    if Slot::of(slot).is_some() {
+        tree.set(slot, Some(entry))?;
+    }
     Ok(tree)
+}
+
+/// A change of a file into a link to `/dev/null`.
+fn mask_of_file(alloc: Global, bytes: &[u8]) -> Result<Change, Fail> {
+    let path = slot(alloc, b"x.service")?;
+    let before = Some(file(alloc, bytes)?);
+    let link = ample!(Entry::link(alloc, b"/dev/null"), TargetError::OutOfMemory)?;
+    Ok(Change {
+        path,
+        before,
+        after: Some(link),
+    })
 }
 
 #[test]
 fn a_file_is_told_by_its_length(rt: HostRuntime) -> Result<(), Fail> {
-    let alloc = rt.alloc();
-    let path = ample!(
-        TreePath::parse(alloc, b"/etc/systemd/system/x.service"),
-        PathError::OutOfMemory
-    )?;
-    let link = ample!(Entry::link(alloc, b"/dev/null"), TargetError::OutOfMemory)?;
-    let changes = [Change {
-        path,
-        before: Some(file(alloc, b"[Unit]\nA=b\n")?),
-        after: Some(link),
-    }];
-    let text = ample!(text_of_changes(alloc, &changes), AllocError)?;
+    let changes = [mask_of_file(rt.alloc(), b"[Unit]\nA=b\n")?];
+    let text = ample!(text_of_changes(rt.alloc(), &changes), AllocError)?;
     assert_eq!(rt;
         text.as_slice(),
         b"  - /etc/systemd/system/x.service file 11\n  \
@@ -66,28 +70,46 @@ fn a_file_is_told_by_its_length(rt: HostRuntime) -> Result<(), Fail> {
     Ok(())
 }
 
-#[test]
-fn an_empty_file_is_taken_away_and_put_back(rt: HostRuntime) -> Result<(), Fail> {
-    let alloc = rt.alloc();
-    let tree = tree(alloc)?;
-    let mut history = ample!(
+fn unmask(alloc: Global, names: &[u8]) -> Result<Action, Fail> {
+    let units = units(alloc, names)?;
+    Ok(Action::Unmask(Unmask {
+        scope: Scope::Etc,
+        units,
+    }))
+}
+
+fn history(alloc: Global) -> Result<History<Action>, Fail> {
+    let slot = slot(alloc, b"e.service")?;
+    Ok(ample!(
         {
-            let tree = ample!(tree.copy(), AllocError)?;
+            let tree = ample!(tree(alloc, &slot), AllocError)?;
             History::new(alloc, tree)
         },
         AllocError
-    )?;
+    )?)
+}
+
+fn call(
+    alloc: Global,
+    history: &mut History<Action>,
+    operator: Operator,
+    action: Action,
+) -> Result<u32, CallError> {
+    match history.call(alloc, operator, action) {
+        Ok(row) => Ok(row),
+        Err(unrun) => Err(unrun.why),
+    }
+}
+
+#[test]
+fn an_empty_file_is_taken_away_and_put_back(rt: HostRuntime) -> Result<(), Fail> {
+    let alloc = rt.alloc();
+    let mut history = history(alloc)?;
     let operator = Operator::parse(b"alice")?;
     ample!(
         {
-            let unmask = Unmask {
-                scope: Scope::Etc,
-                units: units(alloc, b"e.service")?,
-            };
-            match history.call(alloc, operator, Action::Unmask(unmask)) {
-                Ok(row) => Ok(row),
-                Err(unrun) => Err(unrun.why),
-            }
+            let action = unmask(alloc, b"e.service")?;
+            call(alloc, &mut history, operator, action)
         },
         CallError::OutOfMemory
     )?;

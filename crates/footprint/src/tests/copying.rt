@@ -1,6 +1,7 @@
 //! Copies.
-use super::values::{file, key, link, name, path, put, reading, tree};
+use super::values::{key, name, path, put_file, put_link, reading, tree};
 use crate::{Answer, Changes, Notice, NoticeKey, Notices, Reason, Refusal, StateWord, Units};
+use link_tree::Change;
 use std::alloc::{AllocError, Global};
 use std::fmt::Debug;
 use std::process::Abort;
@@ -41,17 +42,19 @@ fn readings_are_copied(rt: HostRuntime) -> Result<(), Fail> {
     assert_same(&rt, alloc, &copy, &reading)
 }
 
+fn changes_of(alloc: Global, made: &Change, taken_back: &Change) -> Result<Changes, AllocError> {
+    let mut changes = Changes::none(alloc);
+    changes.push(made.copy()?)?;
+    changes.push(taken_back.taken_back()?)?;
+    Ok(changes)
+}
+
 #[test]
 fn changes_are_copied(rt: HostRuntime) -> Result<(), Fail> {
     let alloc = rt.alloc();
-    let mut changes = Changes::none(alloc);
-    let link = put(alloc, b"/a", link(alloc, b"b")?)?;
-    ample!(changes.push(ample!(link.copy(), AllocError)?), AllocError)?;
-    let file = put(alloc, b"/b", file(alloc, b"c")?)?;
-    ample!(
-        changes.push(ample!(file.taken_back(), AllocError)?),
-        AllocError
-    )?;
+    let link = put_link(alloc, b"/a", b"b")?;
+    let file = put_file(alloc, b"/b", b"c")?;
+    let changes = ample!(changes_of(alloc, &link, &file), AllocError)?;
     let copy = ample!(changes.copy(), AllocError)?;
     assert_eq!(rt; copy.as_slice().len(), 2);
     assert_same(&rt, alloc, &copy, &changes)
@@ -71,18 +74,47 @@ fn notice(alloc: Global) -> Result<Notice, Fail> {
     })
 }
 
+fn one_notice(alloc: Global, notice: &Notice) -> Result<Notices, AllocError> {
+    let mut notices = Notices::none(alloc);
+    notices.add(notice.copy()?)?;
+    Ok(notices)
+}
+
+fn notices(alloc: Global) -> Result<Notices, Fail> {
+    let notice = notice(alloc)?;
+    Ok(ample!(one_notice(alloc, &notice), AllocError)?)
+}
+
+fn names(alloc: Global) -> Result<Units, Fail> {
+    let mut names = Units::none(alloc);
+    for text in [b"a.service", b"b@.socket"] {
+        ample!(
+            {
+                let name = name(alloc, text)?;
+                names.push(name)
+            },
+            AllocError
+        )?;
+    }
+    Ok(names)
+}
+
+/// An answer of each kind, by its number.
+fn answer(alloc: Global, number: usize) -> Result<Answer, Fail> {
+    Ok(match number {
+        0 => Answer::Done(notices(alloc)?),
+        1 => Answer::State(StateWord::LinkedRuntime),
+        2 => Answer::Name(name(alloc, b"a.target")?),
+        3 => Answer::Names(names(alloc)?),
+        _ => Answer::Refused(Refusal::Clash(path(alloc, b"/b")?)),
+    })
+}
+
 #[test]
 fn answers_are_copied(rt: HostRuntime) -> Result<(), Fail> {
-    let alloc = rt.alloc();
-    let mut notices = Notices::none(alloc);
-    ample!(notices.add(notice(alloc)?), AllocError)?;
-    assert_copied(&rt, alloc, &Answer::Done(notices))?;
-    assert_copied(&rt, alloc, &Answer::State(StateWord::LinkedRuntime))?;
-    assert_copied(&rt, alloc, &Answer::Name(name(alloc, b"a.target")?))?;
-    let mut names = Units::none(alloc);
-    ample!(names.push(name(alloc, b"a.service")?), AllocError)?;
-    ample!(names.push(name(alloc, b"b@.socket")?), AllocError)?;
-    assert_copied(&rt, alloc, &Answer::Names(names))?;
-    let clash = Refusal::Clash(path(alloc, b"/b")?);
-    assert_copied(&rt, alloc, &Answer::Refused(clash))
+    for number in 0..5 {
+        let answer = answer(rt.alloc(), number)?;
+        assert_copied(&rt, rt.alloc(), &answer)?;
+    }
+    Ok(())
 }

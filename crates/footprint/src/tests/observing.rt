@@ -1,7 +1,6 @@
 //! Readings, and whether trees agree with them.
 use super::values::{key, reading, text_of, tree};
-use crate::{Reading, agrees};
-use link_tree::Tree;
+use crate::agrees;
 use std::alloc::{AllocError, Global};
 use std::process::Abort;
 use std::test::Fail;
@@ -59,36 +58,37 @@ fn keys_are_read_once_in_their_order(rt: HostRuntime) -> Result<(), Fail> {
     Ok(())
 }
 
-fn assert_disagrees(
+const MASK: &[u8] = b"unitadm-inventory 1\nL\t/etc/systemd/system/x.service\t/dev/null\nend\n";
+
+/// Of these keys, by which the one tree is read, this is the first of which the other says something else; none, if it is
+/// empty. A tree agrees with its own reading.
+fn assert_first_other(
     rt: &impl Abort,
     alloc: Global,
-    tree: &Tree,
-    reading: &Reading,
-    text: &[u8],
+    (one, other, keys, expected): (&[u8], &[u8], &[u8], &[u8]),
 ) -> Result<(), Fail> {
-    match agrees(tree, reading) {
-        Ok(()) => assert!(rt; false, "{text:?}"),
-        Err(other) => assert_eq!(rt; *other, key(alloc, text)?),
+    let one = tree(alloc, one)?;
+    let reading = reading(alloc, &one, keys)?;
+    assert!(rt; agrees(&one, &reading).is_ok());
+    match agrees(&tree(alloc, other)?, &reading) {
+        Ok(()) => assert!(rt; expected.is_empty()),
+        Err(first) => assert_eq!(rt; *first, key(alloc, expected)?),
     }
     Ok(())
 }
 
 #[test]
 fn the_first_other_key_is_named(rt: HostRuntime) -> Result<(), Fail> {
-    let alloc = rt.alloc();
-    let x = b"/etc/systemd/system/x.service";
-    let masked = tree(
-        alloc,
-        b"unitadm-inventory 1\nL\t/etc/systemd/system/x.service\t/dev/null\nend\n",
-    )?;
-    let empty = tree(alloc, EMPTY)?;
-    let cell = reading(alloc, &empty, x)?;
-    assert!(rt; agrees(&empty, &cell).is_ok());
-    assert_disagrees(&rt, alloc, &masked, &cell, x)?;
-    let small = tree(alloc, SMALL)?;
-    let more = reading(alloc, &small, b"links etc:x.service etc:b.service presets")?;
-    assert!(rt; agrees(&small, &more).is_ok());
-    assert_disagrees(&rt, alloc, &masked, &more, b"etc:b.service")
+    let cell = b"/etc/systemd/system/x.service".as_slice();
+    let keys = b"links etc:x.service etc:b.service presets";
+    for row in [
+        (EMPTY, MASK, cell, cell),
+        (SMALL, MASK, keys, b"etc:b.service"),
+        (EMPTY, EMPTY, keys, b""),
+    ] {
+        assert_first_other(&rt, rt.alloc(), row)?;
+    }
+    Ok(())
 }
 
 /// Whether a tree agrees with what `SMALL` is read as by a key.

@@ -16,21 +16,43 @@ pub(crate) fn path(alloc: Global, text: &[u8]) -> Result<TreePath, PathError> {
     ample!(TreePath::parse(alloc, text), PathError::OutOfMemory)
 }
 
-pub(crate) fn link(alloc: Global, target: &[u8]) -> Result<Entry, TargetError> {
+fn link(alloc: Global, target: &[u8]) -> Result<Entry, TargetError> {
     ample!(Entry::link(alloc, target), TargetError::OutOfMemory)
 }
 
-pub(crate) fn file(alloc: Global, bytes: &[u8]) -> Result<Entry, FileError> {
+fn file(alloc: Global, bytes: &[u8]) -> Result<Entry, FileError> {
     ample!(Entry::file(alloc, bytes), FileError::OutOfMemory)
 }
 
 /// The change that puts an entry where nothing stands.
-pub(crate) fn put(alloc: Global, at: &[u8], entry: Entry) -> Result<Change, PathError> {
+fn put(alloc: Global, at: &[u8], entry: Entry) -> Result<Change, PathError> {
     Ok(Change {
         path: path(alloc, at)?,
         before: None,
         after: Some(entry),
     })
+}
+
+pub(crate) fn put_link(alloc: Global, at: &[u8], target: &[u8]) -> Result<Change, Fail> {
+    let link = link(alloc, target)?;
+    Ok(put(alloc, at, link)?)
+}
+
+pub(crate) fn put_file(alloc: Global, at: &[u8], bytes: &[u8]) -> Result<Change, Fail> {
+    let file = file(alloc, bytes)?;
+    Ok(put(alloc, at, file)?)
+}
+
+/// The change that puts one link in the place of another.
+pub(crate) fn relink(
+    alloc: Global,
+    at: &[u8],
+    before: &[u8],
+    after: &[u8],
+) -> Result<Change, Fail> {
+    let mut change = put_link(alloc, at, after)?;
+    change.before = Some(link(alloc, before)?);
+    Ok(change)
 }
 
 pub(crate) fn tree(alloc: Global, text: &[u8]) -> Result<Tree, InventoryError> {

@@ -102,31 +102,42 @@ fn filled(tree: &Tree, change: &Change) -> Result<Option<Tree>, AllocError> {
     Ok(Some(tree.with_changes(&[made])?))
 }
 
-#[test]
-fn trees_change_at_slots(rt: HostRuntime) -> Result<(), Fail> {
-    let alloc = rt.alloc();
+/// The change that links `ssh.service` under another name.
+fn alias(alloc: Global) -> Result<Change, Fail> {
     let text = b"/etc/systemd/system/sshd.service";
     let path = ample!(TreePath::parse(alloc, text), PathError::OutOfMemory)?;
     let entry = ample!(Entry::link(alloc, b"ssh.service"), TargetError::OutOfMemory)?;
-    let change = Change {
-        path: ample!(path.copy(), AllocError)?,
+    Ok(Change {
+        path,
         before: None,
-        after: Some(ample!(entry.copy(), AllocError)?),
-    };
-    let tree = entries(alloc)?;
-    let changed = ample!(filled(&tree, &change), AllocError)?.ok_or("the slot is empty")?;
-    assert_eq!(rt; tree.len(), 3);
-    assert_eq!(rt; changed.len(), 4);
-    assert!(rt; changed.get(&path).is_some() && tree.get(&path).is_none());
-    let copy = ample!(changed.copy(), AllocError)?;
+        after: Some(entry),
+    })
+}
+
+/// How many entries of the one tree are the same in the other.
+fn same_entries(one: &Tree, other: &Tree) -> u32 {
     let mut count = 0u32;
-    for (other, entry) in copy.iter() {
-        if let Some(there) = changed.get(other) {
-            assert_eq!(rt; there.bytes(), entry.bytes());
+    for (path, entry) in one.iter() {
+        if other
+            .get(path)
+            .is_some_and(|there| there.bytes() == entry.bytes())
+        {
             count = count.saturating_add(1);
         }
     }
-    assert_eq!(rt; count, 4);
+    count
+}
+
+#[test]
+fn trees_change_at_slots(rt: HostRuntime) -> Result<(), Fail> {
+    let change = alias(rt.alloc())?;
+    let tree = entries(rt.alloc())?;
+    let changed = ample!(filled(&tree, &change), AllocError)?.ok_or("the slot is empty")?;
+    assert_eq!(rt; tree.len(), 3);
+    assert_eq!(rt; changed.len(), 4);
+    assert!(rt; changed.get(&change.path).is_some() && tree.get(&change.path).is_none());
+    let copy = ample!(changed.copy(), AllocError)?;
+    assert_eq!(rt; same_entries(&copy, &changed), 4);
     Ok(())
 }
 
@@ -167,12 +178,11 @@ fn two_are_made_alike(
 }
 
 /// The change that links `/dev/null` where nothing stands.
-fn mask(alloc: Global, at: &[u8]) -> Result<Change, PathError> {
-    let Ok(entry) = Entry::link(alloc, b"/dev/null") else {
-        return Err(PathError::OutOfMemory);
-    };
+fn mask(alloc: Global, at: &[u8]) -> Result<Change, Fail> {
+    let path = ample!(TreePath::parse(alloc, at), PathError::OutOfMemory)?;
+    let entry = ample!(Entry::link(alloc, b"/dev/null"), TargetError::OutOfMemory)?;
     Ok(Change {
-        path: TreePath::parse(alloc, at)?,
+        path,
         before: None,
         after: Some(entry),
     })
@@ -180,17 +190,13 @@ fn mask(alloc: Global, at: &[u8]) -> Result<Change, PathError> {
 
 #[test]
 fn changes_are_made_in_place_as_on_a_copy(rt: HostRuntime) -> Result<(), Fail> {
-    let alloc = rt.alloc();
-    let tree = entries(alloc)?;
-    let one = ample!(
-        mask(alloc, b"/etc/systemd/system/a.service"),
-        PathError::OutOfMemory
+    let tree = entries(rt.alloc())?;
+    let one = mask(rt.alloc(), b"/etc/systemd/system/a.service")?;
+    let other = mask(rt.alloc(), b"/etc/systemd/system/b.service")?;
+    let alike = ample!(
+        two_are_made_alike(rt.alloc(), &tree, &one, &other),
+        AllocError
     )?;
-    let other = ample!(
-        mask(alloc, b"/etc/systemd/system/b.service"),
-        PathError::OutOfMemory
-    )?;
-    let alike = ample!(two_are_made_alike(alloc, &tree, &one, &other), AllocError)?;
     assert!(rt; alike);
     Ok(())
 }

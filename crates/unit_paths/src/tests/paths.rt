@@ -73,20 +73,24 @@ fn paths_have_directories_and_names(rt: HostRuntime) -> Result<(), Fail> {
     Ok(())
 }
 
+/// The first path in byte order that can lie beneath one.
+fn first_beneath(alloc: Global, text: &[u8]) -> Result<Option<TreePath>, Fail> {
+    let path = path(alloc, text)?;
+    Ok(ample!(path.first_beneath(), AllocError)?)
+}
+
 #[test]
 fn what_lies_beneath_begins_somewhere(rt: HostRuntime) -> Result<(), Fail> {
-    let alloc = rt.alloc();
-    let first = ample!(path(alloc, b"/a/b")?.first_beneath(), AllocError)?;
-    assert_eq!(rt;
-        first.as_ref().map(|first| first.text()),
-        Some(b"/a/b/\x01".as_slice())
-    );
+    match first_beneath(rt.alloc(), b"/a/b")? {
+        Some(first) => assert_eq!(rt; first.text(), b"/a/b/\x01".as_slice()),
+        None => assert!(rt; false),
+    }
     let mut long = [b'a'; 4095];
     long[0] = b'/';
-    let longest = path(alloc, &long[..4093])?;
-    assert!(rt; ample!(longest.first_beneath(), AllocError)?.is_some());
-    let longer = path(alloc, &long[..4094])?;
-    assert!(rt; ample!(longer.first_beneath(), AllocError)?.is_none());
+    for (length, is_path) in [(4093, true), (4094, false)] {
+        let above = long.get(..length).unwrap_or(&[]);
+        assert_eq!(rt; first_beneath(rt.alloc(), above)?.is_some(), is_path);
+    }
     Ok(())
 }
 

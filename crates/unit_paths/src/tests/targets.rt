@@ -26,9 +26,14 @@ fn targets_are_short_texts(rt: HostRuntime) -> Result<(), Fail> {
     Ok(())
 }
 
+/// Where a link at a path with a target leads.
+fn led(alloc: Global, from: &[u8], target: &[u8]) -> Result<Option<TreePath>, Fail> {
+    let from = path(alloc, from)?;
+    Ok(ample!(canonical(alloc, &from, target), AllocError)?)
+}
+
 #[test]
 fn links_lead_to_canonical_paths(rt: HostRuntime) -> Result<(), Fail> {
-    let alloc = rt.alloc();
     let wants = b"/etc/systemd/system/multi-user.target.wants/ssh.service";
     let links: [(&[u8], &[u8], &[u8]); 16] = [
         (b"/a/b", b"c", b"/a/c"),
@@ -57,18 +62,22 @@ fn links_lead_to_canonical_paths(rt: HostRuntime) -> Result<(), Fail> {
         (b"/a/b", b"/lib/systemd/", b"/lib/systemd"),
     ];
     for (from, target, to) in links {
-        let from = path(alloc, from)?;
-        let found = ample!(canonical(alloc, &from, target), AllocError)?;
-        match found {
+        match led(rt.alloc(), from, target)? {
             Some(found) => assert_eq!(rt; found.text(), to),
             None => assert_eq!(rt; to, b"".as_slice()),
         }
     }
-    let from = path(alloc, b"/a/b")?;
+    Ok(())
+}
+
+#[test]
+fn links_lead_to_no_longer_path(rt: HostRuntime) -> Result<(), Fail> {
     let mut long = [b'a'; 4096];
     long[0] = b'/';
-    assert!(rt; ample!(canonical(alloc, &from, &long[..4095]), AllocError)?.is_some());
-    assert!(rt; ample!(canonical(alloc, &from, &long), AllocError)?.is_none());
+    for (length, is_path) in [(4095, true), (4096, false)] {
+        let target = long.get(..length).unwrap_or(&[]);
+        assert_eq!(rt; led(rt.alloc(), b"/a/b", target)?.is_some(), is_path);
+    }
     Ok(())
 }
 
