@@ -51,7 +51,7 @@ impl Keys {
     }
 
     /// Adds a key for each of the cells, in order. Where memory runs out some of them may have been added.
-    pub fn push_cells(&mut self, cells: &Cells) -> Result<(), AllocError>
+    pub(crate) fn push_cells(&mut self, cells: &Cells) -> Result<(), AllocError>
         ensures { OnOk result (self.new ≡ self.old ++ list_map keys.Cell cells.now) }
     {
         for path in cells.as_slice() {

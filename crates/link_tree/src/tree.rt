@@ -225,9 +225,11 @@ impl Tree {
     }
 }
 
-/// Appends a number as it is written: in decimal digits, without leading zeros.
+/// Appends a number as it is written: in decimal digits, without leading zeros. Where memory runs out, the text stays as it
+/// was.
 pub fn push_decimal(out: &mut Vec<u8>, number: usize) -> Result<(), AllocError>
-    ensures { OnOk result (out.new.items ≡ out.old.items ++ decimal number) }
+    ensures ok { OnOk result (out.new.items ≡ out.old.items ++ decimal number) }
+    ensures err { OnErr result (out.new.items ≡ out.old.items) }
 {
     let text = number.to_string(*out.allocator())?;
     out.extend_from_slice(text.as_bytes())

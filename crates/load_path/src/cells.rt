@@ -40,6 +40,14 @@ impl Cells {
         Ok(self.paths.push(path)?)
     }
 
+    /// These paths, behind the others. Where memory runs out the list stays as it was.
+    pub(crate) fn append(&mut self, mut more: Cells) -> Result<(), AllocError>
+        ensures ok { OnOk result (self.new ≡ self.old ++ more) }
+        ensures err { OnErr result (self.new ≡ self.old) }
+    {
+        self.paths.append(&mut more.paths)
+    }
+
     pub fn as_slice(&self) -> &[TreePath]
         ensures { result.now ≡ self.now }
     {

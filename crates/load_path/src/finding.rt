@@ -1,5 +1,5 @@
 //! Looking units up by their names.
-ghost use Rattle.std.specs.Prelude.{◌≡◌, IfOk};
+ghost use Rattle.std.specs.Prelude.{◌≡◌, IfOk, OnErr};
 ghost use Rattle.std.specs.Option.{option_map};
 ghost use Rattle.unit_paths.specs.Places.{places};
 ghost use Rattle.load_path.specs.Search.{Finds, each_once};
@@ -52,17 +52,32 @@ pub fn find(alloc: Global, tree: &Tree, name: &UnitName) -> Result<Look, AllocEr
     ensures cells { IfOk result (λ look. look.cells ≡ each_once ((find name.now).cells tree.now)) }
 {
     let mut cells = Cells::new(alloc);
-    let found = find_into(alloc, tree, name, &mut cells)?;
+    let found = found_from(alloc, tree, name, &mut cells)?;
     Ok(Look {
         found,
         cells: cells.each_once()?,
     })
 }
 
-/// Looks a unit up, as `find` says, with the paths that are looked at added to these: all of them, unless memory runs
-/// out.
-#[tactic(auto, unfolding(crate::specs::Find::find))]
+/// Looks a unit up, as `find` says, with the paths that are looked at added to these. Where memory runs out, they stay as they
+/// were.
 pub fn find_into(
+    alloc: Global,
+    tree: &Tree,
+    name: &UnitName,
+    cells: &mut Cells,
+) -> Result<Found, AllocError>
+    ensures ok { IfOk result (Finds tree.now (find name.now) cells.old cells.new) }
+    ensures err { OnErr result (cells.new ≡ cells.old) }
+{
+    let mut more = Cells::new(alloc);
+    let found = found_from(alloc, tree, name, &mut more)?;
+    cells.append(more)?;
+    Ok(found)
+}
+
+#[tactic(auto, unfolding(crate::specs::Find::find))]
+fn found_from(
     alloc: Global,
     tree: &Tree,
     name: &UnitName,

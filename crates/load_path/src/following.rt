@@ -1,5 +1,5 @@
 //! Where links lead.
-ghost use Rattle.std.specs.Prelude.{◌≡◌, IfOk};
+ghost use Rattle.std.specs.Prelude.{◌≡◌, IfOk, OnErr};
 ghost use Rattle.std.specs.Option.{option_copied};
 ghost use Rattle.load_path.specs.Search.{Finds, each_once, look};
 ghost use Rattle.load_path.specs.Follow.{is_null, at_file, chain, chain_from, end_of, follow};
@@ -50,17 +50,32 @@ pub fn follow(alloc: Global, tree: &Tree, path: &TreePath) -> Result<Trail, Allo
     ensures cells { IfOk result (λ trail. trail.cells ≡ each_once ((follow path.now).cells tree.now)) }
 {
     let mut cells = Cells::new(alloc);
-    let end = follow_into(alloc, tree, path, &mut cells)?;
+    let end = end_from(alloc, tree, path, &mut cells)?;
     Ok(Trail {
         end,
         cells: cells.each_once()?,
     })
 }
 
-/// Where a path leads, as `follow` says, with the paths that are looked at added to these: all of them, unless memory
-/// runs out.
-#[tactic(auto, unfolding(crate::specs::Follow::follow))]
+/// Where a path leads, as `follow` says, with the paths that are looked at added to these. Where memory runs out, they stay as
+/// they were.
 pub fn follow_into(
+    alloc: Global,
+    tree: &Tree,
+    path: &TreePath,
+    cells: &mut Cells,
+) -> Result<End, AllocError>
+    ensures ok { IfOk result (Finds tree.now (follow path.now) cells.old cells.new) }
+    ensures err { OnErr result (cells.new ≡ cells.old) }
+{
+    let mut more = Cells::new(alloc);
+    let end = end_from(alloc, tree, path, &mut more)?;
+    cells.append(more)?;
+    Ok(end)
+}
+
+#[tactic(auto, unfolding(crate::specs::Follow::follow))]
+fn end_from(
     alloc: Global,
     tree: &Tree,
     path: &TreePath,

@@ -228,9 +228,21 @@ fn a_line_has_at_most_a_mebibyte(rt: HostRuntime) -> Result<(), Fail> {
     Ok(())
 }
 
+fn named(alloc: Global, text: &[u8]) -> Result<UnitName, NameError> {
+    ample!(UnitName::parse(alloc, text), NameError::OutOfMemory)
+}
+
+/// The identity of a unit whose file has this `DefaultInstance=`.
+fn identity_with(alloc: Global, unit: &UnitName, default: Option<&[u8]>) -> Result<UnitName, Fail> {
+    let mut text = InstallText::new(alloc);
+    if let Some(default) = default {
+        text.default_instance = Some(ample!(Word::from_slice(alloc, default), AllocError)?);
+    }
+    Ok(ample!(identity(alloc, unit, &text), AllocError)?)
+}
+
 #[test]
 fn templates_have_the_identity_of_an_instance(rt: HostRuntime) -> Result<(), Fail> {
-    let alloc = rt.alloc();
     let rows: [(&[u8], &[u8], &[u8]); 11] = [
         (b"getty@.service", b"tty1", b"getty@tty1.service"),
         (b"getty@.service", b"", b"getty@.service"),
@@ -245,12 +257,12 @@ fn templates_have_the_identity_of_an_instance(rt: HostRuntime) -> Result<(), Fai
         (b"getty@.service", &[b'x'; 242], b"getty@.service"),
     ];
     for (unit, default, expected) in rows {
-        let unit = ample!(UnitName::parse(alloc, unit), NameError::OutOfMemory)?;
-        let mut text = InstallText::new(alloc);
-        assert_eq!(rt; ample!(identity(alloc, &unit, &text), AllocError)?, unit);
-        text.default_instance = Some(ample!(Word::from_slice(alloc, default), AllocError)?);
-        let name = ample!(identity(alloc, &unit, &text), AllocError)?;
-        assert_eq!(rt; name.text(), expected);
+        let unit = named(rt.alloc(), unit)?;
+        assert_eq!(rt; identity_with(rt.alloc(), &unit, None)?, unit);
+        assert_eq!(rt;
+            identity_with(rt.alloc(), &unit, Some(default))?.text(),
+            expected
+        );
     }
     Ok(())
 }
