@@ -1,10 +1,14 @@
 -- Laws of scripts, each the contract of a public function.
-use Rattle.std.specs.Prelude.{◌≡◌, ◌≤◌, ◌+◌, ℕ, Bool, true, not, ◌&&◌, ◌==◌, nat_le, List, [], ◌∷◌, ◌++◌, length, Some, Result, Ok, codes}
+use Rattle.std.specs.Prelude.{◌≡◌, ◌≢◌, ◌↔◌, ◌^◌, ◌<◌, ◌≤◌, ◌+◌, ℕ, Bool, true, not, ◌&&◌, ◌==◌, nat_le, List, [], ◌∷◌, ◌++◌, length, Some, Result, Ok, Err, codes}
 use Rattle.std.specs.List.{flat_map, list_all}
 use Rattle.link_tree.specs.Inventory.{◌>>=◌}
 use Rattle.unit_script.specs.declared.call.Call.{Call}
 use Rattle.unit_script.specs.declared.reason.ScriptFault.{ScriptFault}
-use Rattle.unit_script.specs.declared.script.TheConstants.{MAX_LINE, MAX_LINES}
+use Rattle.unit_script.specs.declared.reason.Reason.TheVariants.{LineTooLong, TooManyLines}
+use Rattle.unit_script.specs.declared.reason.ScriptFault.TheVariants.{Bad}
+use Rattle.std.specs.Char.{is_ascii_digit}
+use Rattle.std.specs.Str.Parse.{digits_value}
+use Rattle.unit_script.specs.Words.{number_of}
 use Rattle.unit_script.specs.Escapes.{text_of, escaped}
 use Rattle.unit_script.specs.Script.{is_space, call_of_line, in_line, with_call, script_of}
 use Prim.Native.Char.{code}
@@ -14,7 +18,7 @@ is_line_byte b = not (b == code "\n")
 
 -- a line holds no line end, and isn't too long
 abbrev pub is_line : List ℕ → Bool
-is_line text = list_all is_line_byte text && nat_le (length text) MAX_LINE
+is_line text = list_all is_line_byte text && nat_le (length text) 65536
 
 abbrev pub lines_text : List (List ℕ) → List ℕ
 lines_text lines = flat_map (λ line. line ++ codes "\n") lines
@@ -29,7 +33,22 @@ calls_of number (line ∷ lines) = do
 
 -- A script is its lines: it gives the calls of all of them in order, or the first that is bad.
 abbrev pub ScriptIsLines : Type 0
-ScriptIsLines = (lines : List (List ℕ)) → list_all is_line lines ≡ true → length lines ≤ MAX_LINES → script_of (codes "== calls\n" ++ lines_text lines) ≡ calls_of 1 lines
+ScriptIsLines = (lines : List (List ℕ)) → list_all is_line lines ≡ true → length lines ≤ 2000000 → script_of (codes "== calls\n" ++ lines_text lines) ≡ calls_of 1 lines
+
+-- A last line needs no end.
+abbrev pub LastLineNeedsNoEnd : Type 0
+LastLineNeedsNoEnd = (lines : List (List ℕ)) (last : List ℕ) → list_all is_line lines ≡ true → is_line last ≡ true → length lines < 2000000
+    → script_of (codes "== calls\n" ++ (lines_text lines ++ last)) ≡ calls_of 1 (lines ++ last ∷ [])
+
+-- A line of more than 65,536 bytes is a fault, unless one before it is bad,
+abbrev pub LongLineIsTold : Type 0
+LongLineIsTold = (lines : List (List ℕ)) (long rest : List ℕ) → list_all is_line lines ≡ true → length lines < 2000000 → list_all is_line_byte long ≡ true → 65536 < length long
+    → script_of (codes "== calls\n" ++ (lines_text lines ++ (long ++ rest))) ≡ (calls_of 1 lines >>= λ calls. Err (Bad (length lines + 1) LineTooLong))
+
+-- and so is whatever follows the 2,000,000th line.
+abbrev pub OneLineMoreIsTold : Type 0
+OneLineMoreIsTold = (lines : List (List ℕ)) (rest : List ℕ) → list_all is_line lines ≡ true → length lines ≡ 2000000 → rest ≢ []
+    → script_of (codes "== calls\n" ++ (lines_text lines ++ rest)) ≡ (calls_of 1 lines >>= λ calls. Err (Bad 2000001 TooManyLines))
 
 -- no space and no line end, so that it can stand in a word of a line
 abbrev pub is_word_byte : ℕ → Bool
@@ -42,3 +61,7 @@ EscapedIsRead = (bytes : List ℕ) → text_of (flat_map escaped bytes) ≡ Some
 -- and they can stand in one word.
 abbrev pub EscapedIsWord : Type 0
 EscapedIsWord = (bytes : List ℕ) → list_all is_word_byte (flat_map escaped bytes) ≡ true
+
+-- A word is the number of a row exactly where all its bytes are digits, one at least, and their value is the number, below 2^32.
+abbrev pub NumbersAreDigits : Type 0
+NumbersAreDigits = (word : List ℕ) (n : ℕ) → (number_of word ≡ Some n) ↔ ((word ≢ []) × (list_all is_ascii_digit word ≡ true) × (digits_value 10 word ≡ n) × (n < 2 ^ 32))

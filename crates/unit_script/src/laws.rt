@@ -1,9 +1,18 @@
 //! Laws of scripts: each function does nothing, and its contract is the law.
-ghost use Rattle.unit_script.specs.Laws.{ScriptIsLines, EscapedIsRead, EscapedIsWord};
+ghost use Rattle.unit_script.specs.Laws.{ScriptIsLines, LastLineNeedsNoEnd, LongLineIsTold, OneLineMoreIsTold, EscapedIsRead, EscapedIsWord, NumbersAreDigits};
 
-/// A script gives the calls of its lines in order, or its first bad line.
+/// A script gives the calls of its lines in order, or its first bad line. The last one needs no LF. A line of more than 65,536
+/// bytes is bad, and so is whatever follows the 2,000,000th line.
 pub fn a_script_is_its_lines()
-    ensures { ScriptIsLines }
+    ensures lines { ScriptIsLines }
+    ensures last { LastLineNeedsNoEnd }
+    ensures long { LongLineIsTold }
+    ensures many { OneLineMoreIsTold }
+{}
+
+/// The number of a row is written in decimal digits, one at least, also with zeros before it, and is below 2^32.
+pub fn numbers_are_digits()
+    ensures { NumbersAreDigits }
 {}
 
 /// Any bytes can be written in one word as the text of a file: escaped byte by byte, they are read again.

@@ -16,7 +16,7 @@ mod words;
 
 pub use action::Action;
 pub use call::Call;
-pub use laws::{a_script_is_its_lines, any_text_is_a_word};
+pub use laws::{a_script_is_its_lines, any_text_is_a_word, numbers_are_digits};
 pub use reason::{Reason, ScriptFault};
 pub use reply::{push_changes, push_refusal, push_rows};
 pub use run_fault::{InputFault, RunFault};
