@@ -1,5 +1,9 @@
+ghost use Rattle.std.specs.Prelude.{None};
+
 use crate::{BufferedWriter, ToWrite, WriteFault};
 use std::alloc::{AllocError, Global};
+use std::io;
+use std::io::Write;
 use std::test::Fail;
 use unit_name::ample;
 
@@ -48,5 +52,34 @@ fn pieces_of_any_size_go_out_whole(rt: HostRuntime) -> Result<(), Fail> {
         }
         assert!(rt; rest.is_empty());
     }
+    Ok(())
+}
+
+/// Takes all bytes, and counts how often it is flushed.
+#[derive(Drop)]
+struct Flushed {
+    times: u32,
+}
+
+impl Write for Flushed {
+    ghost contents = { λ _. None };
+
+    fn write(&mut self, bytes: &[u8]) -> io::Result<usize> {
+        Ok(bytes.len())
+    }
+
+    fn flush(&mut self) -> io::Result<()> {
+        self.times = self.times.saturating_add(1);
+        Ok(())
+    }
+}
+
+#[test]
+fn a_writer_is_flushed_once(rt: HostRuntime) -> Result<(), Fail> {
+    let writer = ample!(BufferedWriter::new(rt.alloc()), AllocError)?;
+    let mut flushed = Flushed { times: 0 };
+    let done = writer.finish(&mut ToWrite::new(&mut flushed));
+    assert_eq!(rt; done, Ok(()));
+    assert_eq!(rt; flushed.times, 1);
     Ok(())
 }
