@@ -8,3 +8,4 @@ pub mod Units
 pub mod Chains
 pub mod Dangles
 pub mod Follows
+pub mod Along

@@ -46,6 +46,10 @@ FollowIsShort = (path : List ℕ) → LooksAtMost 9 (follow path)
 abbrev pub FindIsShort : Type 0
 FindIsShort = (name : List ℕ) → LooksAtMost 16 (find name)
 
+-- A path is looked at exactly where a chain of at most eight links leads to it; `/dev/null` is on none.
+abbrev pub FollowLooksAlongChain : Type 0
+FollowLooksAlongChain = (path cell : List ℕ) (t : Entries) → Contains ((follow path).cells t) cell ↔ ((links : ℕ) × (links ≤ 8) × Leads t path links cell)
+
 -- Where a path leads is where its chain of at most eight links ends.
 abbrev pub FollowIsChain : Type 0
 FollowIsChain = (path : List ℕ) (end : End) (t : Entries) → ((follow path).conclusion t ≡ end) ↔ LeadsTo t 8 path end

@@ -1,5 +1,5 @@
 //! What holds of all look-ups: each function does nothing, and its contract is the law.
-ghost use Rattle.load_path.specs.Laws.{CellsOnce, FollowAgrees, FindAgrees, FollowIsShort, FindIsShort, FollowIsChain, FileIsLed, PlaceIsEntrys, MissingHasNoEntry, UnitIsFollowed, MaskedIsFollowed, DanglingIsLink, UnitHasFile, UnitIsLikeName, PlainIsItsFile};
+ghost use Rattle.load_path.specs.Laws.{CellsOnce, FollowAgrees, FindAgrees, FollowIsShort, FindIsShort, FollowIsChain, FileIsLed, FollowLooksAlongChain, PlaceIsEntrys, MissingHasNoEntry, UnitIsFollowed, MaskedIsFollowed, DanglingIsLink, UnitHasFile, UnitIsLikeName, PlainIsItsFile};
 
 /// Each path that was looked at is listed once, and no other.
 pub fn cells_are_listed_once()
@@ -20,10 +20,11 @@ pub fn look_ups_are_short()
 {}
 
 /// Where a path leads is where a chain of at most eight links ends that begins at it: at a file, at an empty one or
-/// `/dev/null`, or at a link from which nothing is reached.
+/// `/dev/null`, or at a link from which nothing is reached. A path is looked at exactly where at most eight links lead to it.
 pub fn chains_are_followed()
     ensures chain { FollowIsChain }
     ensures file { FileIsLed }
+    ensures cells { FollowLooksAlongChain }
 {}
 
 /// The first directory that has an entry for the name counts, or for its template where none has: the answer names it,
