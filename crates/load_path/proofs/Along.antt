@@ -16,10 +16,10 @@ use Rattle.load_path.specs.Laws.{FollowLooksAlongChain}
 no_cell : {P : Type 0} (cell : List ℕ) → Contains [] cell → P
 no_cell cell (k, within, is) = absurd (omega (arith, within))
 
-first_cell : (cell : List ℕ) (cells : List (List ℕ)) → Contains (cell ∷ cells) cell
+pub first_cell : (cell : List ℕ) (cells : List (List ℕ)) → Contains (cell ∷ cells) cell
 first_cell cell cells = (0, omega arith, refl)
 
-later_cell : (first cell : List ℕ) (cells : List (List ℕ)) → Contains cells cell → Contains (first ∷ cells) cell
+pub later_cell : (first cell : List ℕ) (cells : List (List ℕ)) → Contains cells cell → Contains (first ∷ cells) cell
 later_cell first cell cells (k, within, is) = (suc k, omega (arith, within), is)
 
 same_link : (one other : List ℕ) → Some (entries.Link one) ≡ Some (entries.Link other) → one ≡ other

@@ -9,3 +9,5 @@ pub mod Chains
 pub mod Dangles
 pub mod Follows
 pub mod Along
+pub mod Candidates
+pub mod FirstEntries

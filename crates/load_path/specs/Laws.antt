@@ -1,5 +1,5 @@
 -- Laws of looking up, each the contract of a public function.
-use Rattle.std.specs.Prelude.{◌≡◌, ◌≤◌, ◌↔◌, ◌⊎◌, ℕ, true, List, length, Contains, Option, Some, None, is_some}
+use Rattle.std.specs.Prelude.{◌≡◌, ◌≤◌, ◌↔◌, ◌⊎◌, ℕ, true, List, [], ◌∷◌, ◌++◌, length, All, Contains, map as list_map, Option, Some, None, is_some}
 use Rattle.std.specs.List.{find as first_of, IsDistinct}
 use Rattle.std.specs.Option.{option_or}
 use Rattle.std.specs.Str.{bytes_eq}
@@ -20,6 +20,7 @@ use Rattle.load_path.specs.declared.finding.Found.TheVariants.{Missing, Masked, 
 use Rattle.load_path.specs.Search.{SameAt, Search, each_once}
 use Rattle.load_path.specs.Follow.{follow}
 use Rattle.load_path.specs.Chains.{IsFileAt, IsLinkAt, Leads, LeadsTo}
+use Rattle.load_path.specs.RealNames.{real_name}
 use Rattle.load_path.specs.Find.{find}
 
 -- Each cell of a list is there once, and no other.
@@ -89,6 +90,42 @@ MissingHasNoEntry = (name : List ℕ) (t : Entries) → ((find name).conclusion 
 -- the slot of a name in a directory, or of its template
 abbrev pub IsSlotOf : List ℕ → Place → List ℕ → Type 0
 IsSlotOf name place path = (path ≡ unit_slot place name) ⊎ (path ≡ unit_slot place (template_of name))
+
+-- the slots at which a name is looked for, in order: its own in each directory, and behind those an instance's template's
+abbrev pub slots_for : List ℕ → List (Place × List ℕ)
+slots_for name = list_map (λ place. (place, unit_slot place name)) places
+
+abbrev pub template_slots : Kind → List ℕ → List (Place × List ℕ)
+template_slots Instance name = slots_for (template_of name)
+template_slots other name = []
+
+abbrev pub candidates : List ℕ → List (Place × List ℕ)
+candidates name = slots_for name ++ template_slots (kind_of (instance_of name)) name
+
+-- It is a candidate, and nothing stands at those before it.
+abbrev pub IsTried : Entries → (name : List ℕ) → Place × List ℕ → Type 0
+IsTried t name slot = (before after : List (Place × List ℕ)) × (candidates name ≡ before ++ slot ∷ after) × All (λ earlier. map.get t earlier.1 ≡ None) before
+
+-- It is the first candidate at which something stands.
+abbrev pub IsFirstEntry : Entries → (name : List ℕ) → Place × List ℕ → Type 0
+IsFirstEntry t name slot = IsTried t name slot × (is_some (map.get t slot.1) ≡ true)
+
+-- A path is looked at exactly where it is a candidate before which nothing stands, or at most eight links lead to it from the first
+-- at which something does.
+abbrev pub FindLooksAlongChain : Type 0
+FindLooksAlongChain = (name cell : List ℕ) (t : Entries) → Contains ((find name).cells t) cell ↔
+    (((slot : Place × List ℕ) × IsTried t name slot × (slot.1 ≡ cell)) ⊎ ((slot : Place × List ℕ) × IsFirstEntry t name slot × (links : ℕ) × (links ≤ 8) × Leads t slot.1 links cell))
+
+-- What a name is found as, exactly: missing where nothing stands at any candidate; else by where the first entry leads, masked where
+-- that is /dev/null or an empty file, and a unit where that is a file whose name says so.
+pub record FoundByFirstEntry (name : List ℕ) (t : Entries) : Type 0 where
+  pub missing : ((find name).conclusion t ≡ Missing) ↔ All (λ slot. map.get t slot.1 ≡ None) (candidates name)
+  pub masked : (place : Place) → ((find name).conclusion t ≡ Masked place) ↔ ((path : List ℕ) × IsFirstEntry t name (place, path) × LeadsTo t 8 path ends.Null)
+  pub unit : (real file : List ℕ) (place : Place) → ((find name).conclusion t ≡ Unit real file place) ↔
+      ((path : List ℕ) × IsFirstEntry t name (place, path) × LeadsTo t 8 path (ends.File file) × (real_name name (name_at file) ≡ Some real))
+
+abbrev pub NamesAreFoundByFirstEntry : Type 0
+NamesAreFoundByFirstEntry = (name : List ℕ) (t : Entries) → FoundByFirstEntry name t
 
 -- A unit's file is where its slot leads.
 abbrev pub UnitIsFollowed : Type 0

@@ -1,5 +1,5 @@
 //! What holds of all look-ups: each function does nothing, and its contract is the law.
-ghost use Rattle.load_path.specs.Laws.{CellsOnce, FollowAgrees, FindAgrees, FollowIsShort, FindIsShort, FollowIsChain, FileIsLed, FollowLooksAlongChain, PlaceIsEntrys, MissingHasNoEntry, UnitIsFollowed, MaskedIsFollowed, DanglingIsLink, UnitHasFile, UnitIsLikeName, PlainIsItsFile};
+ghost use Rattle.load_path.specs.Laws.{CellsOnce, FollowAgrees, FindAgrees, FollowIsShort, FindIsShort, FollowIsChain, FileIsLed, FollowLooksAlongChain, PlaceIsEntrys, MissingHasNoEntry, FindLooksAlongChain, NamesAreFoundByFirstEntry, UnitIsFollowed, MaskedIsFollowed, DanglingIsLink, UnitHasFile, UnitIsLikeName, PlainIsItsFile};
 
 /// Each path that was looked at is listed once, and no other.
 pub fn cells_are_listed_once()
@@ -28,10 +28,14 @@ pub fn chains_are_followed()
 {}
 
 /// The first directory that has an entry for the name counts, or for its template where none has: the answer names it,
-/// wherever the file lies. The unit is missing exactly where there is no such directory.
+/// wherever the file lies. The unit is missing exactly where there is no such entry, masked exactly where the first leads to
+/// `/dev/null` or an empty file, and found exactly where it leads to a file whose name says so. A path is looked at exactly
+/// where nothing stands before it, or at most eight links lead to it from the first entry.
 pub fn the_first_entry_counts()
     ensures place { PlaceIsEntrys }
     ensures missing { MissingHasNoEntry }
+    ensures found { NamesAreFoundByFirstEntry }
+    ensures cells { FindLooksAlongChain }
 {}
 
 /// A unit is looked up by following what stands in its slot, or in its template's.
