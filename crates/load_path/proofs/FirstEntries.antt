@@ -16,8 +16,9 @@ use Rattle.load_path.specs.Follow.{chain_from, end_of, followed, follow}
 use Rattle.load_path.specs.Chains.{LeadsTo}
 use Rattle.load_path.specs.Find.{Standing, unit_at, found_at, found_from, find}
 use Rattle.load_path.specs.RealNames.{real_name}
-use Rattle.load_path.specs.Laws.{candidates, IsFirstEntry, NamesAreFoundByFirstEntry}
+use Rattle.load_path.specs.Laws.{candidates, IsFirstEntry, IsLastLink, LeadsToForeign, NamesAreFoundByFirstEntry}
 use Rattle.load_path.proofs.Chains.{follow_is_chain}
+use Rattle.load_path.proofs.LastLinks.{last_to, last_from}
 use Rattle.load_path.proofs.Candidates.{Slot, or_later, found, found_to, found_at as found_among, first_entry-is}
 
 module _ (t : Entries) where
@@ -54,9 +55,10 @@ module _ (t : Entries) where
     -- what is found at a first entry
     abbrev FoundAt : Place → List ℕ → Type 0
     FoundAt place path = (end : ChainEnd) × ((find name).conclusion t ≡ found_at name place end) × ((follow path).conclusion t ≡ end_of end)
+        × (entry : Entry) × (map.get t path ≡ Some entry) × ((chain_from path entry).conclusion t ≡ end)
 
     found_with : (slot : Slot) → (entry : Entry) → found t (candidates name) ≡ Some (slot.0, slot.1, entry) → map.get t slot.1 ≡ Some entry → FoundAt slot.0 slot.1
-    found_with slot entry is at = ((chain_from slot.1 entry).conclusion t, find-answer ∙ ap answer is, followed-end slot.1 entry at)
+    found_with slot entry is at = ((chain_from slot.1 entry).conclusion t, find-answer ∙ ap answer is, followed-end slot.1 entry at, entry, at, refl)
 
     at_entry : (slot : Slot) → IsFirstEntry t name slot → (o : Option Entry) → map.get t slot.1 ≡ o → is_some o ≡ true → FoundAt slot.0 slot.1
     at_entry slot first None at some = absurd (false≢true some)
@@ -125,19 +127,24 @@ module _ (t : Entries) where
         ap (unit_at at link place) (ap (λ f. real_name name (name_at f)) same ∙ is) ∙ ap (λ f. founds.Unit real f place) same
     file_end place real file (Dangling link) h is = cc
 
+    dangling_end : (place : Place) (link : List ℕ) (end : ChainEnd) → end_of end ≡ ends.Dangling link → found_at name place end ≡ founds.Dangling link
+    dangling_end place link Null h = cc
+    dangling_end place link (File file last) h = cc
+    dangling_end place link (Dangling last) h = let same : last ≡ link = cc in ap founds.Dangling same
+
     leads : (path : List ℕ) (end : ends.the_data) → (follow path).conclusion t ≡ end → LeadsTo t 8 path end
     leads path end h = (follow_is_chain path end t).0 h
 
     missing_to : (find name).conclusion t ≡ founds.Missing → Empty (candidates name)
     missing_to h = elim cases [
       | inl none ↦ none.1
-      | inr (slot, first, (end, is, at)) ↦ absurd (not_missing slot.0 end (sym is ∙ h))
+      | inr (slot, first, (end, is, at, entry, there, chained)) ↦ absurd (not_missing slot.0 end (sym is ∙ h))
     ]
 
     masked_to : (place : Place) → (find name).conclusion t ≡ founds.Masked place → (path : List ℕ) × IsFirstEntry t name (place, path) × LeadsTo t 8 path ends.Null
     masked_to place h = elim cases [
       | inl none ↦ (let never : founds.Missing ≡ founds.Masked place = sym none.0 ∙ h in cc)
-      | inr (slot, first, (end, is, at)) ↦ (let found = masked_end slot.0 place end (sym is ∙ h) in
+      | inr (slot, first, (end, is, at, entry, there, chained)) ↦ (let found = masked_end slot.0 place end (sym is ∙ h) in
           (slot.1, subst (λ p. IsFirstEntry t name (p, slot.1)) found.0 first, leads slot.1 ends.Null (at ∙ found.1)))
     ]
 
@@ -150,7 +157,7 @@ module _ (t : Entries) where
         → (path : List ℕ) × IsFirstEntry t name (place, path) × LeadsTo t 8 path (ends.File file) × (real_name name (name_at file) ≡ Some real)
     unit_to real file place h = elim cases [
       | inl none ↦ (let never : founds.Missing ≡ founds.Unit real file place = sym none.0 ∙ h in cc)
-      | inr (slot, first, (end, is, at)) ↦ (let found = unit_end slot.0 place real file end (sym is ∙ h) in
+      | inr (slot, first, (end, is, at, entry, there, chained)) ↦ (let found = unit_end slot.0 place real file end (sym is ∙ h) in
           (slot.1, subst (λ p. IsFirstEntry t name (p, slot.1)) found.0 first, leads slot.1 (ends.File file) (at ∙ found.1), found.2))
     ]
 
@@ -160,9 +167,41 @@ module _ (t : Entries) where
         let here = at_first (place, path) first in
         here.1 ∙ file_end place real file here.0 (sym here.2 ∙ (follow_is_chain path (ends.File file) t).1 led) is
 
+    -- where a link dangles, or a file isn't for this name
+    abbrev Nowhere : List ℕ → List ℕ → Type 0
+    Nowhere path link = LeadsTo t 8 path (ends.Dangling link) ⊎ LeadsToForeign t name path link
+
+    nowhere_to : (own : Place) (path link : List ℕ) (entry : Entry) (end : ChainEnd) → map.get t path ≡ Some entry → (chain_from path entry).conclusion t ≡ end → (follow path).conclusion t ≡ end_of end
+        → found_at name own end ≡ founds.Dangling link → Nowhere path link
+    nowhere_to own path link entry Null there chained at h = cc
+    nowhere_to own path link entry (Dangling last) there chained at h = let same : last ≡ link = cc in inl (leads path (ends.Dangling link) (at ∙ ap ends.Dangling same))
+    nowhere_to own path link entry (File file last) there chained at h = by_real (real_name name (name_at file)) refl h
+      where
+        by_real : (o : Option (List ℕ)) → real_name name (name_at file) ≡ o → unit_at file last own o ≡ founds.Dangling link → Nowhere path link
+        by_real None none h =
+            let same : last ≡ link = cc in
+            let foreign = last_to t last file path entry there chained in
+            inr (file, foreign.0, subst (λ l. IsLastLink t path l file) same foreign.1, none)
+        by_real (Some real) is h = cc
+
+    dangling_to : (link : List ℕ) → (find name).conclusion t ≡ founds.Dangling link → (place : Place) × (path : List ℕ) × IsFirstEntry t name (place, path) × Nowhere path link
+    dangling_to link h = elim cases [
+      | inl none ↦ (let never : founds.Missing ≡ founds.Dangling link = sym none.0 ∙ h in cc)
+      | inr (slot, first, (end, is, at, entry, there, chained)) ↦ (slot.0, slot.1, first, nowhere_to slot.0 slot.1 link entry end there chained at (sym is ∙ h))
+    ]
+
+    dangling_from : (link : List ℕ) → (place : Place) × (path : List ℕ) × IsFirstEntry t name (place, path) × Nowhere path link → (find name).conclusion t ≡ founds.Dangling link
+    dangling_from link (place, path, first, inl led) =
+        let here = at_first (place, path) first in
+        here.1 ∙ dangling_end place link here.0 (sym here.2 ∙ (follow_is_chain path (ends.Dangling link) t).1 led)
+    dangling_from link (place, path, first, inr (file, stands, last, none)) =
+        let here = at_first (place, path) first in
+        here.1 ∙ ap (found_at name place) (sym here.5 ∙ last_from t link file path here.3 here.4 stands last) ∙ ap (unit_at file link place) none
+
 pub names_are_found_by_first_entry : NamesAreFoundByFirstEntry
 names_are_found_by_first_entry name t = record {
   missing = (missing_to t name, λ none. find-answer t name ∙ ap (answer t name) (none_from t (candidates name) none));
   masked = λ place. (masked_to t name place, masked_from t name place);
+  dangling = λ link. (dangling_to t name link, dangling_from t name link);
   unit = λ real file place. (unit_to t name real file place, unit_from t name real file place);
 }

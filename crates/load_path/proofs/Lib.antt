@@ -10,4 +10,5 @@ pub mod Dangles
 pub mod Follows
 pub mod Along
 pub mod Candidates
+pub mod LastLinks
 pub mod FirstEntries

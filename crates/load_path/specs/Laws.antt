@@ -1,5 +1,5 @@
 -- Laws of looking up, each the contract of a public function.
-use Rattle.std.specs.Prelude.{◌≡◌, ◌≤◌, ◌↔◌, ◌⊎◌, ℕ, true, List, [], ◌∷◌, ◌++◌, length, All, Contains, map as list_map, Option, Some, None, is_some}
+use Rattle.std.specs.Prelude.{◌≡◌, ◌<◌, ◌≤◌, ◌↔◌, ◌⊎◌, ℕ, true, List, [], ◌∷◌, ◌++◌, length, All, Contains, map as list_map, Option, Some, None, is_some}
 use Rattle.std.specs.List.{find as first_of, IsDistinct}
 use Rattle.std.specs.Option.{option_or}
 use Rattle.std.specs.Str.{bytes_eq}
@@ -19,7 +19,7 @@ use Rattle.load_path.specs.declared.finding.Found.{Found}
 use Rattle.load_path.specs.declared.finding.Found.TheVariants.{Missing, Masked, Dangling, Unit}
 use Rattle.load_path.specs.Search.{SameAt, Search, each_once}
 use Rattle.load_path.specs.Follow.{follow}
-use Rattle.load_path.specs.Chains.{IsFileAt, IsLinkAt, Leads, LeadsTo}
+use Rattle.load_path.specs.Chains.{IsFileAt, IsLinkAt, LinksTo, Leads, LeadsTo}
 use Rattle.load_path.specs.RealNames.{real_name}
 use Rattle.load_path.specs.Find.{find}
 
@@ -116,13 +116,23 @@ abbrev pub FindLooksAlongChain : Type 0
 FindLooksAlongChain = (name cell : List ℕ) (t : Entries) → Contains ((find name).cells t) cell ↔
     (((slot : Place × List ℕ) × IsTried t name slot × (slot.1 ≡ cell)) ⊎ ((slot : Place × List ℕ) × IsFirstEntry t name slot × (links : ℕ) × (links ≤ 8) × Leads t slot.1 links cell))
 
+-- The last link to a file: the one that leads to it, or, where no link does, the file itself.
+abbrev pub IsLastLink : Entries → (path link file : List ℕ) → Type 0
+IsLastLink t path link file = ((link ≡ path) × (file ≡ path)) ⊎ ((links : ℕ) × (links < 8) × Leads t path links link × LinksTo t link file)
+
+-- A path leads to a file whose name isn't for this one, by this last link.
+abbrev pub LeadsToForeign : Entries → (name path link : List ℕ) → Type 0
+LeadsToForeign t name path link = (file : List ℕ) × IsFileAt t file × IsLastLink t path link file × (real_name name (name_at file) ≡ None)
+
 -- What a name is found as, exactly: missing where nothing stands at any candidate; else by where the first entry leads, masked where
--- that is /dev/null or an empty file, and a unit where that is a file whose name says so.
+-- that is /dev/null or an empty file, a unit where that is a file whose name says so, and dangling elsewhere.
 pub record FoundByFirstEntry (name : List ℕ) (t : Entries) : Type 0 where
   pub missing : ((find name).conclusion t ≡ Missing) ↔ All (λ slot. map.get t slot.1 ≡ None) (candidates name)
   pub masked : (place : Place) → ((find name).conclusion t ≡ Masked place) ↔ ((path : List ℕ) × IsFirstEntry t name (place, path) × LeadsTo t 8 path ends.Null)
   pub unit : (real file : List ℕ) (place : Place) → ((find name).conclusion t ≡ Unit real file place) ↔
       ((path : List ℕ) × IsFirstEntry t name (place, path) × LeadsTo t 8 path (ends.File file) × (real_name name (name_at file) ≡ Some real))
+  pub dangling : (link : List ℕ) → ((find name).conclusion t ≡ Dangling link) ↔
+      ((place : Place) × (path : List ℕ) × IsFirstEntry t name (place, path) × (LeadsTo t 8 path (ends.Dangling link) ⊎ LeadsToForeign t name path link))
 
 abbrev pub NamesAreFoundByFirstEntry : Type 0
 NamesAreFoundByFirstEntry = (name : List ℕ) (t : Entries) → FoundByFirstEntry name t

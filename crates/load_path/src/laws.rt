@@ -29,7 +29,8 @@ pub fn chains_are_followed()
 
 /// The first directory that has an entry for the name counts, or for its template where none has: the answer names it,
 /// wherever the file lies. The unit is missing exactly where there is no such entry, masked exactly where the first leads to
-/// `/dev/null` or an empty file, and found exactly where it leads to a file whose name says so. A path is looked at exactly
+/// `/dev/null` or an empty file, found exactly where it leads to a file whose name says so, and dangling at the last link
+/// exactly where it leads nowhere, or to a file of another name. A path is looked at exactly
 /// where nothing stands before it, or at most eight links lead to it from the first entry.
 pub fn the_first_entry_counts()
     ensures place { PlaceIsEntrys }
