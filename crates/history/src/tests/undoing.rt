@@ -140,25 +140,35 @@ fn refused_calls_and_questions_block_nothing(rt: HostRuntime) -> Result<(), Fail
     Ok(())
 }
 
-#[test]
-fn a_full_history_hands_the_operation_back(rt: HostRuntime) -> Result<(), Fail> {
-    let alloc = rt.alloc();
-    let operator = Operator::parse(b"alice")?;
+/// A history that has as many rows as it may have: one.
+fn full(alloc: Global) -> Result<History<Step>, Fail> {
     let mut history = ample!(begun_with_room(alloc), AllocError)?;
-    assert_eq!(rt;
-        call(alloc, &mut history, operator, step(alloc, b"+a")?).ok(),
-        Some(1)
-    );
-    match call(alloc, &mut history, operator, step(alloc, b"+b")?) {
+    make(alloc, &mut history, b"+a")?;
+    Ok(history)
+}
+
+/// Whether the call of a word is refused since the history is full, and the operation comes back.
+fn comes_back(alloc: Global, history: &mut History<Step>, word: &[u8]) -> Result<bool, Fail> {
+    let operator = Operator::parse(b"alice")?;
+    let expected = step(alloc, word)?;
+    let step = step(alloc, word)?;
+    Ok(match call(alloc, history, operator, step) {
         Err(
             Unrun {
                 operation,
                 why: CallError::Full,
             },
-        ) => assert!(rt; operation.same(&step(alloc, b"+b")?)),
-        _ => panic!(rt; "not full"),
-    }
-    assert_eq!(rt; history.undo(alloc, operator, 0), Err(CallError::Full));
+        ) => operation.same(&expected),
+        _ => false,
+    })
+}
+
+#[test]
+fn a_full_history_hands_the_operation_back(rt: HostRuntime) -> Result<(), Fail> {
+    let operator = Operator::parse(b"alice")?;
+    let mut history = full(rt.alloc())?;
+    assert!(rt; comes_back(rt.alloc(), &mut history, b"+b")?);
+    assert_eq!(rt; history.undo(rt.alloc(), operator, 0), Err(CallError::Full));
     assert_eq!(rt; history.rows().len(), 1);
     assert_eq!(rt; history.tree().len(), 1);
     assert!(rt; history.first().is_empty() && history.blocker(1).is_none());
