@@ -1,7 +1,7 @@
 -- Bytes that are read many at a time.
 use Rattle.std.proofs.Common.{◌≡◌, ℕ, ◌+◌, ◌<◌, ◌≤◌, List, [], ◌++◌, length, take, drop, Option, Some, sym, ap, subst, ◌∙◌, arith, append_assoc, length-append}
 use Rattle.std.proofs.Math.Seq.{take-append_seam, drop-append_seam, take-append-add}
-use Rattle.std.proofs.lemmas.List.{take-append-le}
+use Rattle.std.proofs.lemmas.List.{length-take-le, take-append-le}
 use Rattle.byte_streams.specs.Blocks.{IsBytes}
 use Rattle.byte_streams.specs.Streams.{GivesSome}
 use Rattle.byte_streams.proofs.Given.{gave_bytes, at_end}
@@ -42,3 +42,10 @@ module _ (front written rest : List ℕ) (size n : ℕ) (long : length front ≡
   front_more =
       ap (λ m. take (m + n) (front ++ (written ++ rest))) (sym long) ∙ take-append-add front (written ++ rest) n
       ∙ ap (λ l. front ++ l) (take-append-le n written rest few)
+
+pub front_size : (written rest : List ℕ) (n : ℕ) → n ≤ length written → length (take n (written ++ rest)) ≡ n
+front_size written rest n few = length-take-le n (written ++ rest) (omega (arith, few, length-append written rest))
+
+-- what was put into the front of some room
+pub given_in_front : (old new : Option (List ℕ)) (written rest : List ℕ) (n : ℕ) → n ≤ length written → GivesSome old new (take n written) → GivesSome old new (take n (written ++ rest))
+given_in_front old new written rest n few given = subst (GivesSome old new) (sym (take-append-le n written rest few)) given

@@ -1,5 +1,5 @@
 -- What the calls of a source give, where the bytes left are known.
-use Rattle.std.proofs.Common.{◌≡◌, ℕ, ◌<◌, List, [], ◌∷◌, ◌++◌, length, take, Option, None, Some, slice_set, refl, sym, ◌∙◌, arith}
+use Rattle.std.proofs.Common.{◌≡◌, ℕ, ◌<◌, List, [], ◌∷◌, ◌++◌, length, take, Option, None, Some, slice_set, refl, sym, ap, ◌∙◌, arith}
 use Rattle.std.specs.Io.KnownBytes.{Keeps, Consumes, IsAtEnd}
 use Rattle.byte_streams.specs.Streams.{GivesSome}
 
@@ -20,6 +20,11 @@ gave_bytes (Some xs) (Some ys) chunk h bytes e = (ys, refl, some_is bytes xs (sy
   where
     some_is : (a b : List ℕ) → Some a ≡ Some b → a ≡ b
     some_is a b i = cc
+
+pub kept_bytes : (old new : Option (List ℕ)) → Keeps old new → (bytes : List ℕ) → old ≡ Some bytes → new ≡ Some bytes
+kept_bytes None new k bytes e = cc
+kept_bytes (Some xs) None k bytes e = absurd k
+kept_bytes (Some xs) (Some ys) k bytes e = ap (λ l. Some l) k ∙ e
 
 pub at_end : (left : Option (List ℕ)) → IsAtEnd left → (rest : List ℕ) → left ≡ Some rest → rest ≡ []
 at_end None h rest e = cc

@@ -3,5 +3,7 @@ pub mod Given
 pub mod Blocks
 pub mod Pieces
 pub mod Prefixes
+pub mod Taken
+pub mod Fronts
 pub mod FirstBytes
 pub mod Writes

@@ -1,11 +1,13 @@
 -- A line, piece by piece.
-use Rattle.std.proofs.Common.{◌≡◌, ◌≢◌, ℕ, zero, suc, ◌-◌, ◌<◌, ◌≤◌, Bool, true, false, List, [], ◌∷◌, ◌++◌, length, Option, Some, refl, sym, ap, ◌∙◌, append_assoc, append-nil, length-append, arith, subst}
+use Rattle.std.proofs.Common.{◌≡◌, ◌≢◌, ℕ, zero, suc, ◌+◌, ◌-◌, ◌<◌, ◌≤◌, List, [], ◌∷◌, ◌++◌, length, Option, Some, refl, sym, ap, ◌∙◌, append_assoc, append-nil, length-append, arith, subst, inr, All}
 use Rattle.std.proofs.lemmas.Grind.{common_steps}
-use Rattle.std.proofs.lemmas.List.Elements.{All-head, All-tail}
-use Rattle.byte_streams.specs.Streams.{GivesSome, HasNoLineEnd}
+use Rattle.std.proofs.lemmas.List.Elements.{All-head, All-tail, All-cons, All-nil, All-append}
+use Rattle.std.specs.Io.KnownBytes.{Keeps}
+use Rattle.byte_streams.specs.Streams.{GivesSome, HasNoLineEnd, StopsAt, Takes}
 use Rattle.byte_streams.specs.Lines.{Front, Whole, Last, Long, front_line, after_byte}
-use Rattle.byte_streams.specs.Pieces.{after_bytes, IsPiece, IsGrown, AddsPiece}
-use Rattle.byte_streams.proofs.Given.{gave_bytes, at_end}
+use Rattle.byte_streams.specs.Pieces.{after_bytes, AddsPiece}
+use Rattle.byte_streams.proofs.Given.{gave_bytes, at_end, kept_bytes}
+use Rattle.byte_streams.proofs.Blocks.{Reached}
 use Rattle.byte_streams.specs.declared.lines.Growth.{Growth}
 use Rattle.byte_streams.specs.declared.lines.Growth.TheVariants as growths
 
@@ -35,11 +37,6 @@ after_bytes-cons b bs (Whole line rest) = refl
 after_bytes-cons b bs (Last line) = refl
 after_bytes-cons b bs Long = refl
 
-after_bytes-append : (text bs : List ℕ) (front : Front) → after_bytes (text ++ bs) front ≡ after_bytes text (after_bytes bs front)
-after_bytes-append text bs (Whole line rest) = ap (λ l. Whole l rest) (append_assoc text bs line)
-after_bytes-append text bs (Last line) = ap (λ l. Last l) (append_assoc text bs line)
-after_bytes-append text bs Long = refl
-
 after_bytes-line_end : (text : List ℕ) (room : ℕ) (rest : List ℕ) → after_bytes text (front_line room (10 ∷ rest)) ≡ Whole text rest
 after_bytes-line_end text room rest = ap (after_bytes text) (front_line-line_end room rest) ∙ ap (λ l. Whole l rest) (append-nil text)
 
@@ -55,7 +52,7 @@ front_line-append (b ∷ bs) rest room clean few =
     ∙ ap (after_byte b) (front_line-append bs rest (room - 1) (All-tail (λ b. b ≢ 10) b bs clean) (omega arith))
     ∙ sym (after_bytes-cons b bs _) ∙ ap (λ n. after_bytes (b ∷ bs) (front_line n rest)) less
 
-front_line-long : (line rest : List ℕ) (room : ℕ) → HasNoLineEnd line → room < length line → front_line room (line ++ rest) ≡ Long
+pub front_line-long : (line rest : List ℕ) (room : ℕ) → HasNoLineEnd line → room < length line → front_line room (line ++ rest) ≡ Long
 front_line-long [] rest room clean many = absurd (omega arith)
 front_line-long (b ∷ bs) rest zero clean many = front_line-full b (bs ++ rest) (All-head (λ b. b ≢ 10) b bs clean)
 front_line-long (b ∷ bs) rest (suc room) clean many =
@@ -63,66 +60,84 @@ front_line-long (b ∷ bs) rest (suc room) clean many =
     front_line-byte (suc room) b (bs ++ rest) (All-head (λ b. b ≢ 10) b bs clean) (omega arith)
     ∙ ap (λ n. after_byte b (front_line n (bs ++ rest))) less ∙ ap (after_byte b) (front_line-long bs rest room (All-tail (λ b. b ≢ 10) b bs clean) (omega arith))
 
-module _ (limit : ℕ) (text line piece : List ℕ) where
-  pub adds_long : (ended : Bool) → IsPiece piece line ended → limit - length text < length line → AddsPiece limit text text piece growths.TooLong
-  adds_long true is many rest =
-      ap (λ p. after_bytes text (front_line (limit - length text) (p ++ rest))) is.1
-      ∙ ap (λ bs. after_bytes text (front_line (limit - length text) bs)) (append_assoc line (10 ∷ []) rest)
-      ∙ ap (after_bytes text) (front_line-long line (10 ∷ rest) (limit - length text) is.0 many)
-  adds_long false is many rest =
-      ap (λ p. after_bytes text (front_line (limit - length text) (p ++ rest))) is.1
-      ∙ ap (after_bytes text) (front_line-long line rest (limit - length text) is.0 many)
+module _ (limit : ℕ) (text : List ℕ) (clean : HasNoLineEnd text) where
+  -- while no line end came, nothing is decided
+  pub line_is_open : length text ≤ limit → front_line limit text ≡ Last text
+  line_is_open few =
+      ap (front_line limit) (sym (append-nil text)) ∙ front_line-append text [] limit clean few
+      ∙ ap (after_bytes text) (front_line-end (limit - length text)) ∙ ap (λ l. Last l) (append-nil text)
 
-  module _ (few : length line ≤ limit - length text) (new : List ℕ) (pushed : new ≡ text ++ line) where
-    -- what the piece without its end makes of the front
-    added : HasNoLineEnd line → (rest : List ℕ) → after_bytes text (front_line (limit - length text) (line ++ rest)) ≡ after_bytes new (front_line (limit - length new) rest)
-    added clean rest =
-        let less : limit - length text - length line ≡ limit - length new = omega (arith, ap length pushed, length-append text line) in
-        ap (after_bytes text) (front_line-append line rest (limit - length text) clean few)
-        ∙ sym (after_bytes-append text line _) ∙ (λ i. after_bytes (sym pushed i) (front_line (less i) rest))
+  pub line_is_whole : (rest : List ℕ) → length text ≤ limit → front_line limit (text ++ 10 ∷ rest) ≡ Whole text rest
+  line_is_whole rest few = front_line-append text (10 ∷ rest) limit clean few ∙ after_bytes-line_end text (limit - length text) rest
 
-    pub adds_whole : IsPiece piece line true → AddsPiece limit text new piece growths.Whole
-    adds_whole is rest =
-        ap (λ p. after_bytes text (front_line (limit - length text) (p ++ rest))) is.1
-        ∙ ap (λ bs. after_bytes text (front_line (limit - length text) bs)) (append_assoc line (10 ∷ []) rest)
-        ∙ added is.0 (10 ∷ rest) ∙ after_bytes-line_end new (limit - length new) rest
+-- bytes that are not none have a last one
+last_of : (xs : List ℕ) → 0 < length xs → (before : List ℕ) × (last : ℕ) × (xs ≡ before ++ last ∷ [])
+last_of [] some = absurd (omega arith)
+last_of (x ∷ []) some = ([], x, refl)
+last_of (x ∷ y ∷ xs) some =
+    let at = last_of (y ∷ xs) (omega arith) in
+    (x ∷ at.0, at.1, ap (λ l. x ∷ l) at.2)
 
-    pub adds_further : IsPiece piece line false → AddsPiece limit text new piece growths.Further
-    adds_further is rest = ap (λ p. after_bytes text (front_line (limit - length text) (p ++ rest))) is.1 ∙ added is.0 rest
+All-before : (P : ℕ → Type 0) (before : List ℕ) (last : ℕ) (xs : List ℕ) → xs ≡ before ++ last ∷ [] → All P xs → All P before
+All-before P [] last xs is all = All-nil P
+All-before P (b ∷ before) last [] is all = cc
+All-before P (b ∷ before) last (x ∷ xs) is all =
+    let same : x ≡ b = cc (is) in
+    let rest : xs ≡ before ++ last ∷ [] = cc (is) in
+    All-cons P b before (subst P same (All-head P x xs all)) (All-before P before last xs rest (All-tail P x xs all))
 
--- the text so far, before the front of what is left
-abbrev pub Reached : Option (List ℕ) → Option (List ℕ) → ℕ → List ℕ → Type 0
-Reached first now limit text = (bytes : List ℕ) → first ≡ Some bytes → (rest : List ℕ) × (now ≡ Some rest) × (after_bytes text (front_line (limit - length text) rest) ≡ front_line limit bytes)
+-- the byte that makes a line too long is the last one taken
+pub stops_too_long : (limit : ℕ) (text rest : List ℕ) → HasNoLineEnd text → length text ≡ limit + 1 → StopsAt (λ taken. front_line limit taken ≡ Last taken) text rest
+stops_too_long limit text rest clean long =
+    let at = last_of text (omega (arith, long)) in
+    let few : length at.0 ≤ limit = omega (arith, long, ap length at.2, length-append at.0 (at.1 ∷ [])) in
+    inr (at.0, at.1, at.2, line_is_open limit at.0 (All-before (λ b. b ≢ 10) at.0 at.1 text at.2 clean) few)
 
-module _ (first mid new : Option (List ℕ)) (limit : ℕ) (text : List ℕ) (so_far : Reached first mid limit text) (piece : List ℕ) (gives : GivesSome mid new piece) where
-  pub reached_end : piece ≡ [] → (bytes : List ℕ) → first ≡ Some bytes → (new ≡ Some []) × (front_line limit bytes ≡ Last text)
-  reached_end none bytes e =
+module _ (first mid new : Option (List ℕ)) (limit : ℕ) (text : List ℕ) (so_far : Reached first mid text) (clean : HasNoLineEnd text) (within : length text ≤ limit) where
+  -- the source failed
+  pub stopped_open : Keeps mid new → Takes first new (λ taken rest. front_line limit taken ≡ Last taken)
+  stopped_open kept bytes e =
       let at = so_far bytes e in
-      let gave = gave_bytes mid new piece gives.0 at.0 at.1 in
-      let left : at.0 ≡ [] = at_end mid (gives.1 none) at.0 at.1 in
-      let over : gave.0 ≡ [] = ap (λ p. p ++ gave.0) (sym none) ∙ sym gave.2 ∙ left in (
-        gave.1 ∙ ap (λ l. Some l) over,
-        sym at.2 ∙ ap (λ l. after_bytes text (front_line (limit - length text) l)) left ∙ ap (after_bytes text) (front_line-end (limit - length text)) ∙ ap (λ l. Last l) (append-nil text),
-      )
+      (text, at.0, sym at.2, kept_bytes mid new kept at.0 at.1, line_is_open limit text clean within)
 
-  module _ (text' : List ℕ) (made : Growth) (adds : AddsPiece limit text text' piece made) where
-    pub reached_piece : (bytes : List ℕ) → first ≡ Some bytes → (rest : List ℕ) × (new ≡ Some rest) × IsGrown limit text' rest (front_line limit bytes) made
-    reached_piece bytes e =
+  module _ (piece : List ℕ) (gives : GivesSome mid new piece) where
+    pub reached_end : piece ≡ [] → (bytes : List ℕ) → first ≡ Some bytes → (new ≡ Some []) × (front_line limit bytes ≡ Last text)
+    reached_end none bytes e =
         let at = so_far bytes e in
         let gave = gave_bytes mid new piece gives.0 at.0 at.1 in
-        (gave.0, gave.1, subst (λ front. IsGrown limit text' gave.0 front made) (ap (λ l. after_bytes text (front_line (limit - length text) l)) (sym gave.2) ∙ at.2) (adds gave.0))
+        let left : at.0 ≡ [] = at_end mid (gives.1 none) at.0 at.1 in
+        let over : gave.0 ≡ [] = ap (λ p. p ++ gave.0) (sym none) ∙ sym gave.2 ∙ left in
+        let all : bytes ≡ text = sym at.2 ∙ ap (λ l. text ++ l) left ∙ append-nil text in
+        (gave.1 ∙ ap (λ l. Some l) over, ap (front_line limit) all ∙ line_is_open limit text clean within)
 
-    pub reached_more : made ≡ growths.Further → Reached first new limit text'
-    reached_more further bytes e =
-        let at = reached_piece bytes e in
-        (at.0, at.1, sym (subst (λ m. IsGrown limit text' at.0 (front_line limit bytes) m) further at.2))
+    module _ (text' : List ℕ) (made : Growth) (adds : AddsPiece limit text text' piece made) where
+      pub reached_line_end : made ≡ growths.Whole → length text' ≤ limit → (bytes : List ℕ) → first ≡ Some bytes → (rest : List ℕ) × (new ≡ Some rest) × (front_line limit bytes ≡ Whole text' rest)
+      reached_line_end whole few bytes e =
+          let ended : AddsPiece limit text text' piece growths.Whole = subst (λ m. AddsPiece limit text text' piece m) whole adds in
+          let at = so_far bytes e in
+          let gave = gave_bytes mid new piece gives.0 at.0 at.1 in
+          let all : bytes ≡ text' ++ 10 ∷ gave.0 =
+          sym at.2 ∙ ap (λ l. text ++ l) (gave.2 ∙ ap (λ p. p ++ gave.0) ended.2 ∙ append_assoc ended.0 (10 ∷ []) gave.0)
+          ∙ sym (append_assoc text ended.0 (10 ∷ gave.0)) ∙ ap (λ l. l ++ 10 ∷ gave.0) (sym ended.3) in
+          let both : HasNoLineEnd text' = subst HasNoLineEnd (sym ended.3) (All-append (λ b. b ≢ 10) text ended.0 clean ended.1) in
+          (gave.0, gave.1, ap (front_line limit) all ∙ line_is_whole limit text' both gave.0 few)
 
-    pub reached_line_end : made ≡ growths.Whole → (bytes : List ℕ) → first ≡ Some bytes → (rest : List ℕ) × (new ≡ Some rest) × (front_line limit bytes ≡ Whole text' rest)
-    reached_line_end whole bytes e =
-        let at = reached_piece bytes e in
-        (at.0, at.1, subst (λ m. IsGrown limit text' at.0 (front_line limit bytes) m) whole at.2)
+      module _ (long : made ≡ growths.TooLong) where
+        too_long : AddsPiece limit text text' piece growths.TooLong
+        too_long = subst (λ m. AddsPiece limit text text' piece m) long adds
 
-    pub reached_limit : made ≡ growths.TooLong → (bytes : List ℕ) → first ≡ Some bytes → front_line limit bytes ≡ Long
-    reached_limit long bytes e =
-        let at = reached_piece bytes e in
-        subst (λ m. IsGrown limit text' at.0 (front_line limit bytes) m) long at.2
+        both_clean : HasNoLineEnd (text ++ piece)
+        both_clean = All-append (λ b. b ≢ 10) text piece clean too_long.0
+
+        pub reached_limit : (bytes : List ℕ) → first ≡ Some bytes → front_line limit bytes ≡ Long
+        reached_limit bytes e =
+            let at = so_far bytes e in
+            let gave = gave_bytes mid new piece gives.0 at.0 at.1 in
+            ap (front_line limit) (sym at.2 ∙ ap (λ l. text ++ l) gave.2 ∙ sym (append_assoc text piece gave.0))
+            ∙ front_line-long (text ++ piece) gave.0 limit both_clean (omega (arith, length-append text piece, too_long.1))
+
+        pub stopped_long : length piece ≤ limit - length text + 1 → Takes first new (StopsAt (λ taken. front_line limit taken ≡ Last taken))
+        stopped_long short bytes e =
+            let at = so_far bytes e in
+            let gave = gave_bytes mid new piece gives.0 at.0 at.1 in
+            (text ++ piece, gave.0, sym at.2 ∙ ap (λ l. text ++ l) gave.2 ∙ sym (append_assoc text piece gave.0), gave.1, stops_too_long limit (text ++ piece) gave.0 both_clean (omega (arith, length-append text piece, too_long.1, short, within)))

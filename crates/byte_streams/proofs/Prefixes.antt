@@ -1,6 +1,7 @@
 -- A prefix, byte by byte.
-use Rattle.std.proofs.Common.{◌≡◌, ◌≢◌, ℕ, ◌+◌, ◌<◌, ◌≤◌, List, [], ◌∷◌, Option, None, Some, refl, sym, ap, ◌∙◌, subst, arith, length, drop, get_or}
+use Rattle.std.proofs.Common.{◌==◌, inl, inr, ◌++◌, ◌≡◌, ◌≢◌, ℕ, ◌+◌, ◌<◌, ◌≤◌, List, [], ◌∷◌, Option, None, Some, refl, sym, ap, ◌∙◌, subst, arith, length, drop, get_or}
 use Rattle.std.proofs.lemmas.List.{drop_more, drop_all}
+use Rattle.std.proofs.lemmas.Bool.{cases_Bool, eqb-false, eqb-true}
 use Rattle.std.proofs.lemmas.Grind.{common_steps}
 use Rattle.byte_streams.specs.Blocks.{after_prefix}
 use Rattle.byte_streams.specs.Streams.{GivesNext}
@@ -21,6 +22,21 @@ at_other x b xs bs e = grind (arith, common_steps)
 pub after_none : (bytes : List ℕ) → after_prefix [] bytes ≡ Some bytes
 unfolding after_prefix
 after_none bytes = refl
+
+none_some : (a : List ℕ) → None ≡ Some a → ⊥
+none_some a same = cc
+
+some_is : (a b : List ℕ) → Some a ≡ Some b → a ≡ b
+some_is a b same = cc
+
+-- bytes that a prefix stands at the front of
+pub prefix_is : (prefix bytes rest : List ℕ) → after_prefix prefix bytes ≡ Some rest → bytes ≡ prefix ++ rest
+prefix_is [] bytes rest is = some_is bytes rest (sym (after_none bytes) ∙ is)
+prefix_is (x ∷ xs) [] rest is = absurd (none_some rest (sym (at_end x xs) ∙ is))
+prefix_is (x ∷ xs) (b ∷ bs) rest is = elim (cases_Bool (b == x)) [
+  | inl same ↦ ap (λ c. c ∷ bs) (eqb-true b x same) ∙ ap (λ l. x ∷ l) (prefix_is xs bs rest (sym (at_same x b xs bs (eqb-true b x same)) ∙ is))
+  | inr other ↦ absurd (none_some rest (sym (at_other x b xs bs (eqb-false b x other)) ∙ is))
+]
 
 module _ (first mid new : Option (List ℕ)) (prefix : List ℕ) (i : ℕ) (so_far : (bytes : List ℕ) → first ≡ Some bytes → (rest : List ℕ) × (mid ≡ Some rest) × (after_prefix (drop i prefix) rest ≡ after_prefix prefix bytes)) (bytes : List ℕ) (e : first ≡ Some bytes) where
   pub all_found : length prefix ≤ i → (rest : List ℕ) × (mid ≡ Some rest) × (after_prefix prefix bytes ≡ Some rest)

@@ -1,10 +1,14 @@
 -- Bytes that are read many at a time.
-use Rattle.std.specs.Prelude.{◌≡◌, ℕ, ◌<◌, ◌≤◌, ◌==◌, if◌then◌else◌, List, [], ◌∷◌, length, take, drop, Bool, MatchBool, Option, None, Some, IsSomeAnd}
+use Rattle.std.specs.Prelude.{◌≡◌, ℕ, ◌<◌, ◌≤◌, ◌==◌, if◌then◌else◌, List, [], ◌∷◌, ◌++◌, length, take, drop, Bool, MatchBool, Option, None, Some, IsSomeAnd}
 
--- Just so many bytes were read, or the input ended before.
+-- Just so many bytes were read, or the input ended before, and then all were taken.
 abbrev pub IsBytes : ℕ → List ℕ → Option (List ℕ) → Option (List ℕ) → Type 0
 IsBytes size bytes left (Some read) = (size ≤ length bytes) × (read ≡ take size bytes) × (left ≡ Some (drop size bytes))
-IsBytes size bytes left None = length bytes < size
+IsBytes size bytes left None = (length bytes < size) × (left ≡ Some [])
+
+-- It is the front of the prefix, and not all of it.
+abbrev pub IsCutPrefix : (prefix taken : List ℕ) → Type 0
+IsCutPrefix prefix taken = (next : ℕ) × (more : List ℕ) × (prefix ≡ taken ++ next ∷ more)
 
 -- what follows a prefix
 unfoldable pub after_prefix : List ℕ → List ℕ → Option (List ℕ)

@@ -3,7 +3,7 @@ use Rattle.std.specs.Prelude.{◌≡◌, ℕ, List, Option, Some, Result, Ok, Er
 use Rattle.byte_streams.specs.declared.counters.Counters.{Counters}
 use Rattle.byte_streams.specs.declared.read_error.ReadError.{ReadError}
 use Rattle.byte_streams.specs.declared.read_error.ReadError.TheVariants as errors
-use Rattle.byte_streams.specs.Streams.{HasCause, IsCalm}
+use Rattle.byte_streams.specs.Streams.{HasCause, IsCalm, StopsAt, Takes}
 
 -- What is made of a text, without a source, fails with this fault, unless memory ran out.
 abbrev pub IsFaultOf : {Y F : Type 0} → ReadError F → Result Y F → Type 0
@@ -38,3 +38,10 @@ AccountsRead (Ok x) old new = IsCalm old new
 AccountsRead (Err errors.ReadFault) old new = HasCause old new
 AccountsRead (Err (errors.Fault fault)) old new = Unit {0}
 AccountsRead (Err errors.OutOfMemory) old new = Unit {0}
+
+-- A fault is told at the end of the bytes or with the byte that decides it, and a read fault comes only while the bytes taken decide nothing.
+abbrev pub StopsInTime : {X F : Type 0} → (List ℕ → Type 0) → Result X (ReadError F) → (old new : Option (List ℕ)) → Type 0
+StopsInTime IsOpen (Ok x) old new = Unit {0}
+StopsInTime IsOpen (Err (errors.Fault fault)) old new = Takes old new (StopsAt IsOpen)
+StopsInTime IsOpen (Err errors.ReadFault) old new = Takes old new (λ taken rest. IsOpen taken)
+StopsInTime IsOpen (Err errors.OutOfMemory) old new = Unit {0}

@@ -1,5 +1,5 @@
 -- What one call of a source or a sink does: read(2), write(2). Bytes that are not known are None, and then nothing is said of them.
-use Rattle.std.specs.Prelude.{◌≡◌, ◌≢◌, ℕ, ◌+◌, ◌-◌, ◌^◌, ◌<◌, ◌≤◌, ◌⊎◌, min, zero, suc, List, [], ◌∷◌, length, take, Option, Some, None, Result, Ok, Err, All}
+use Rattle.std.specs.Prelude.{◌≡◌, ◌≢◌, ℕ, ◌+◌, ◌-◌, ◌^◌, ◌<◌, ◌≤◌, ◌⊎◌, min, max, zero, suc, List, [], ◌∷◌, ◌++◌, length, take, Option, Some, None, Result, Ok, Err, All}
 use Rattle.std.specs.Io.KnownBytes.{Keeps, Appends, Consumes, IsAtEnd}
 use Rattle.byte_streams.specs.declared.counters.Counters.{Counters}
 use Rattle.byte_streams.specs.declared.stream.Stop.{Stop}
@@ -23,11 +23,11 @@ GivesSome old new bytes = Consumes old new bytes × (bytes ≡ [] → IsAtEnd ol
 abbrev pub HasNoLineEnd : List ℕ → Type 0
 HasNoLineEnd bytes = All (λ b. b ≢ code "\n") bytes
 
--- A failure is counted, and so are interruptions in a row: any other outcome ends the row.
+-- A failure is counted, and so are interruptions in a row: any other outcome ends the row. The longest row is kept.
 abbrev pub counters_after : {T : Type 0} → Counters → Result T Stop → Counters
-counters_after old (Ok x) = record { failures = old.failures; interruptions = 0 }
-counters_after old (Err Failed) = record { failures = one_more old.failures; interruptions = 0 }
-counters_after old (Err Interrupted) = record { failures = old.failures; interruptions = one_more old.interruptions }
+counters_after old (Ok x) = record { failures = old.failures; interruptions = 0; longest_row = old.longest_row }
+counters_after old (Err Failed) = record { failures = one_more old.failures; interruptions = 0; longest_row = old.longest_row }
+counters_after old (Err Interrupted) = record { failures = old.failures; interruptions = one_more old.interruptions; longest_row = max old.longest_row (one_more old.interruptions) }
 
 -- A write that takes nothing counts as a failure.
 abbrev pub counters_after_write : Counters → Result ℕ Stop → Counters
@@ -44,11 +44,13 @@ TakesBytes old new (Err stop) bytes = Keeps old new
 abbrev pub HasCause : Counters → Counters → Type 0
 HasCause old new = (new.failures ≡ one_more old.failures) ⊎ (1000 ≤ new.interruptions)
 
--- It did not fail.
-abbrev pub IsCalm : Counters → Counters → Type 0
-IsCalm old new = new.failures ≡ old.failures
+-- It did not fail, and was not interrupted 1,000 times in a row. Interruptions that came before count to the first row.
+pub record IsCalm (old new : Counters) : Type 0 where
+  pub failures : new.failures ≡ old.failures
+  pub interruptions : new.interruptions ≤ old.interruptions
+  pub longest_row : new.longest_row ≤ max old.longest_row (old.interruptions + 999)
 
--- A fault has such a cause, and else the stream did not fail.
+-- A fault has such a cause, and else the stream gave no cause.
 abbrev pub Accounts : {X E : Type 0} → Result X E → Counters → Counters → Type 0
 Accounts (Ok x) old new = IsCalm old new
 Accounts (Err e) old new = HasCause old new
@@ -61,3 +63,11 @@ WritesSome old new (Err e) bytes = Keeps old new
 -- So many bytes of a text went out, and no more.
 abbrev pub StopsIn : Option (List ℕ) → Option (List ℕ) → List ℕ → ℕ → Type 0
 StopsIn before now text n = (n ≤ length text) × Appends before now (take n text)
+
+-- Of the bytes that were left, where they are known, these were taken, and the rest is left.
+abbrev pub Takes : (old new : Option (List ℕ)) → (List ℕ → List ℕ → Type 0) → Type 0
+Takes old new P = (bytes : List ℕ) → old ≡ Some bytes → (taken rest : List ℕ) × (bytes ≡ taken ++ rest) × (new ≡ Some rest) × P taken rest
+
+-- Reading stopped at the end of the bytes, or with the byte that decided: nothing was decided by those before it.
+abbrev pub StopsAt : (List ℕ → Type 0) → (taken rest : List ℕ) → Type 0
+StopsAt IsOpen taken rest = (IsOpen taken × (rest ≡ [])) ⊎ ((before : List ℕ) × (last : ℕ) × (taken ≡ before ++ last ∷ []) × IsOpen before)

@@ -1,16 +1,18 @@
 //! What a stream counts.
-ghost use Rattle.std.specs.Prelude.{◌≡◌, ℕ, Ok, Err};
+ghost use Rattle.std.specs.Prelude.{◌≡◌, ◌↔◌, ℕ, Ok, Err};
+ghost use Rattle.std.specs.IoError.{error_kind};
 ghost use Rattle.byte_streams.specs.Streams.{counters_after};
 
 use crate::stream::Stop;
 use std::io::{Error, ErrorKind};
 
-/// How often a stream has failed, and how often it was interrupted since the last call that wasn't. Each stops at the largest value of
-/// its type.
+/// How often a stream has failed, how often it was interrupted since the last call that wasn't, and how often at most in a row. Each stops
+/// at the largest value of its type.
 #[derive(Clone, Copy, Debug, Default, PartialEq, Eq)]
 pub struct Counters {
     pub failures: u64,
     pub interruptions: u64,
+    pub longest_row: u64,
 }
 
 impl Counters {
@@ -31,10 +33,12 @@ impl Counters {
 
     /// Counts an error, and answers what it stops: an interrupted call may be made again.
     pub(crate) fn count_error(&mut self, e: Error) -> Stop
-        ensures { self.new ≡ counters_after {T = ℕ} self.old (Err result) }
+        ensures counted { self.new ≡ counters_after {T = ℕ} self.old (Err result) }
+        ensures stop { (result ≡ Stop.Interrupted) ↔ (error_kind e ≡ ErrorKind.Interrupted) }
     {
         if e.kind() == ErrorKind::Interrupted {
             self.interruptions = self.interruptions.saturating_add(1);
+            self.longest_row = self.longest_row.max(self.interruptions);
             Stop::Interrupted
         } else {
             self.count_failure();

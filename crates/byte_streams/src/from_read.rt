@@ -21,7 +21,7 @@ impl<R: BufRead> FromRead<R> {
     /// A source of the bytes that the reader has left.
     pub fn new(inner: R) -> FromRead<R>
         ensures left { ⟦<FromRead<R> as Source>⟧.left result ≡ R.remaining inner }
-        ensures counters { ⟦<FromRead<R> as Source>⟧.counters result ≡ record { failures = 0; interruptions = 0 } }
+        ensures counters { ⟦<FromRead<R> as Source>⟧.counters result ≡ record { failures = 0; interruptions = 0; longest_row = 0 } }
     {
         FromRead {
             inner,

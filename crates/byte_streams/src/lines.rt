@@ -3,9 +3,9 @@
 
 ghost use Rattle.std.specs.Prelude.{◌≡◌, ◌+◌, ◌-◌, ◌≤◌, length, take, IfOk};
 ghost use Rattle.std.specs.Vec.{vec_len};
-ghost use Rattle.byte_streams.specs.Lines.{ReadsLine};
+ghost use Rattle.byte_streams.specs.Lines.{Last, ReadsLine, front_line};
 ghost use Rattle.byte_streams.specs.Pieces.{AddsPiece, IsPiece};
-ghost use Rattle.byte_streams.specs.Reads.{AccountsRead};
+ghost use Rattle.byte_streams.specs.Reads.{AccountsRead, StopsInTime};
 ghost use Rattle.byte_streams.specs.Streams.{HasNoLineEnd};
 ghost use Rattle.byte_streams.specs.declared.lines.Growth.TheVariants.{Further};
 
@@ -54,6 +54,7 @@ fn without_end(piece: &[u8]) -> (&[u8], bool)
 /// Puts a piece of a line behind the text of the line.
 fn push_piece(text: &mut Vec<u8>, piece: &[u8], limit: usize) -> Result<Growth, AllocError>
     requires within { vec_len text.old ≤ limit }
+    requires short { length piece.now ≤ limit - vec_len text.old + 1 }
     requires line { HasNoLineEnd (take (length piece.now - 1) piece.now) }
     ensures line { IfOk result (AddsPiece limit text.old.items text.new.items piece.now) }
     ensures within { vec_len text.new ≤ limit }
@@ -75,8 +76,8 @@ fn push_piece(text: &mut Vec<u8>, piece: &[u8], limit: usize) -> Result<Growth, 
 ///
 /// # Errors
 ///
-/// `too_long`, where more bytes than that come before an LF; a read fault where the source fails, or is interrupted 1,000 times in a
-/// row; want of memory.
+/// `too_long`, where more bytes than that come before an LF: no byte is read behind the first that is too many. A read fault where the source
+/// fails, or is interrupted 1,000 times in a row, before the line is decided. Want of memory.
 pub fn read_line<S: Source, F: Drop>(
     alloc: Global,
     source: &mut S,
@@ -84,12 +85,15 @@ pub fn read_line<S: Source, F: Drop>(
     too_long: F,
 ) -> Result<Line, ReadError<F>>
     ensures line { ReadsLine limit too_long (S.left source.old) (S.left source.new) result }
+    ensures taken { StopsInTime (λ taken. front_line limit taken ≡ Last taken) result (S.left source.old) (S.left source.new) }
     ensures counters { AccountsRead result (S.counters source.old) (S.counters source.new) }
 {
     let mut text = Vec::with_capacity(alloc, LINE_ROOM)?;
     let mut room = [0; PIECE_ROOM];
     loop {
-        let count = read_some_of_line(source, &mut room)?;
+        // No byte is read behind the one that makes the line too long.
+        let most = (limit - text.len()).min(PIECE_ROOM - 1) + 1;
+        let count = read_some_of_line(source, &mut room[..most])?;
         if count == 0 {
             return Ok(Line::Last(text));
         }

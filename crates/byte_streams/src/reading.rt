@@ -1,12 +1,13 @@
 //! Reading bytes, one or many at a time, however often the source is interrupted.
 #![tactic(auto, using(crate::proofs::Known::known))]
 
-ghost use Rattle.std.specs.Prelude.{◌≡◌, ◌<◌, ◌≤◌, ◌-◌, ℕ, List, Some, None, length, take, if◌then◌else◌, IfOk, IfSome};
+ghost use Rattle.std.specs.Prelude.{◌≡◌, ◌<◌, ◌≤◌, ◌-◌, ℕ, List, Some, None, Ok, false, length, take, if◌then◌else◌, IfOk, IfSome, OnErr};
 ghost use Rattle.std.specs.Option.{option_map};
+ghost use Rattle.std.specs.Io.KnownBytes.{Keeps};
 ghost use Rattle.std.specs.Vec.{vec_capacity, vec_len};
-ghost use Rattle.byte_streams.specs.Blocks.{IsBytes, SkipsPrefix, after_prefix};
-ghost use Rattle.byte_streams.specs.Reads.{AccountsRead};
-ghost use Rattle.byte_streams.specs.Streams.{Accounts, GivesNext, GivesSome, HasNoLineEnd};
+ghost use Rattle.byte_streams.specs.Blocks.{IsBytes, IsCutPrefix, SkipsPrefix, after_prefix};
+ghost use Rattle.byte_streams.specs.Reads.{AccountsRead, StopsInTime};
+ghost use Rattle.byte_streams.specs.Streams.{Accounts, GivesNext, GivesSome, HasNoLineEnd, StopsAt, Takes};
 
 use crate::read_error::{ReadError, ReadFault};
 use crate::stream::{MAX_INTERRUPTIONS, Source, Stop};
@@ -20,6 +21,7 @@ use std::alloc::{AllocError, Global};
 #[inline]
 pub fn read_byte<S: Source>(source: &mut S) -> Result<Option<u8>, ReadFault>
     ensures next { IfOk result (GivesNext (S.left source.old) (S.left source.new)) }
+    ensures kept { OnErr result (Keeps (S.left source.old) (S.left source.new)) }
     ensures counters { Accounts result (S.counters source.old) (S.counters source.new) }
 {
     for _tried in 0..MAX_INTERRUPTIONS {
@@ -37,6 +39,7 @@ fn read_some<S: Source>(source: &mut S, room: &mut [u8]) -> Result<usize, ReadFa
     requires { 0 < length room.old }
     ensures count { IfOk result (λ n. n ≤ length room.new) }
     ensures given { IfOk result (λ n. GivesSome (S.left source.old) (S.left source.new) (take n room.new)) }
+    ensures kept { OnErr result (Keeps (S.left source.old) (S.left source.new)) }
     ensures counters { Accounts result (S.counters source.old) (S.counters source.new) }
 {
     for _turn in 0..MAX_INTERRUPTIONS {
@@ -58,6 +61,7 @@ pub(crate) fn read_some_of_line<S: Source>(
     requires { 0 < length room.old }
     ensures count { IfOk result (λ n. n ≤ length room.new) }
     ensures given { IfOk result (λ n. GivesSome (S.left source.old) (S.left source.new) (take n room.new)) }
+    ensures kept { OnErr result (Keeps (S.left source.old) (S.left source.new)) }
     ensures line { IfOk result (λ n. HasNoLineEnd (take (n - 1) room.new)) }
     ensures counters { Accounts result (S.counters source.old) (S.counters source.new) }
 {
@@ -86,6 +90,7 @@ fn zeros(alloc: Global, size: usize) -> Result<Vec<u8>, AllocError>
 /// Puts the next bytes into all of `room`, and answers whether there were so many.
 fn fill<S: Source>(source: &mut S, room: &mut [u8]) -> Result<bool, ReadFault>
     ensures bytes { IfOk result (λ whole. (bytes : List ℕ) → S.left source.old ≡ Some bytes → IsBytes (length room.new) bytes (S.left source.new) (if whole then Some room.new else None)) }
+    ensures taken { OnErr result (Takes (S.left source.old) (S.left source.new) (λ taken rest. length taken < length room.old)) }
     ensures counters { Accounts result (S.counters source.old) (S.counters source.new) }
 {
     let mut filled = 0;
@@ -103,7 +108,7 @@ fn fill<S: Source>(source: &mut S, room: &mut [u8]) -> Result<bool, ReadFault>
 ///
 /// # Errors
 ///
-/// A read fault where the source fails, or is interrupted 1,000 times in a row; want of memory.
+/// A read fault where the source fails, or is interrupted 1,000 times in a row, before all are read; want of memory.
 pub fn read_bytes<S: Source, F>(
     alloc: Global,
     source: &mut S,
@@ -113,6 +118,7 @@ pub fn read_bytes<S: Source, F>(
     ensures size { IfOk result (λ read. IfSome read (λ read. length read.items ≡ size)) }
     ensures room { IfOk result (λ read. IfSome read (λ read. vec_capacity read ≡ size)) }
     ensures fault { (fault : F) → result ≡ Err (ReadError.Fault fault) → ⊥ }
+    ensures taken { StopsInTime (λ taken. length taken < size) result (S.left source.old) (S.left source.new) }
     ensures counters { AccountsRead result (S.counters source.old) (S.counters source.new) }
 {
     let mut bytes = zeros(alloc, size)?;
@@ -127,9 +133,11 @@ pub fn read_bytes<S: Source, F>(
 ///
 /// # Errors
 ///
-/// A read fault where the source fails, or is interrupted 1,000 times in a row.
+/// A read fault where the source fails, or is interrupted 1,000 times in a row, before a byte differs or all are read.
 pub fn skip_prefix<S: Source>(prefix: &[u8], source: &mut S) -> Result<bool, ReadFault>
     ensures prefix { IfOk result (λ found. (bytes : List ℕ) → S.left source.old ≡ Some bytes → SkipsPrefix (S.left source.new) found (after_prefix prefix.now bytes)) }
+    ensures missed { result ≡ Ok false → Takes (S.left source.old) (S.left source.new) (StopsAt (IsCutPrefix prefix.now)) }
+    ensures taken { OnErr result (Takes (S.left source.old) (S.left source.new) (λ taken rest. IsCutPrefix prefix.now taken)) }
     ensures counters { Accounts result (S.counters source.old) (S.counters source.new) }
 {
     for expected in prefix {

@@ -1,2 +1,3 @@
+mod interruptions;
 mod lines;
 mod writes;

@@ -17,7 +17,7 @@ impl<W: Write> ToWrite<W> {
     /// A sink that writes behind what the writer has taken.
     pub fn new(inner: W) -> ToWrite<W>
         ensures written { ⟦<ToWrite<W> as Sink>⟧.written result ≡ W.contents inner }
-        ensures counters { ⟦<ToWrite<W> as Sink>⟧.counters result ≡ record { failures = 0; interruptions = 0 } }
+        ensures counters { ⟦<ToWrite<W> as Sink>⟧.counters result ≡ record { failures = 0; interruptions = 0; longest_row = 0 } }
     {
         ToWrite {
             inner,

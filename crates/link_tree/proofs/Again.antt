@@ -1,11 +1,11 @@
 -- What is written of a tree is read again.
-use Rattle.std.proofs.Common.{◌≡◌, ℕ, ◌+◌, ◌-◌, ◌<◌, ◌≤◌, Bool, true, false, cond, ◌&&◌, ◌||◌, not, List, [], ◌∷◌, ◌++◌, length, drop, Some, None, Ok, refl, sym, ◌∙◌, ap, arith, rules, zero, suc, subst, append_assoc, T, inl, inr, length-append, append-nil}
+use Rattle.std.proofs.Common.{◌≡◌, ◌≢◌, ℕ, ◌+◌, ◌-◌, ◌<◌, ◌≤◌, Bool, true, false, cond, ◌&&◌, ◌||◌, not, List, [], ◌∷◌, ◌++◌, length, drop, get_or, All, Some, None, Ok, refl, sym, ◌∙◌, ap, arith, rules, zero, suc, subst, append_assoc, T, inl, inr, length-append, append-nil}
 use Rattle.std.specs.List.{list_all, list_any, flat_map, position}
 use Rattle.std.specs.Prelude.{codes, is_some, nat_le, nat_lt, ◌==◌}
 use Rattle.std.specs.Char.{is_ascii_digit}
 use Rattle.std.specs.Fmt.{decimal}
 use Rattle.std.proofs.lemmas.Fmt.{length-decimal-le}
-use Rattle.std.proofs.Math.Seq.{take-append_seam, drop-append_seam}
+use Rattle.std.proofs.Math.Seq.{take-append_seam}
 use Rattle.std.proofs.lemmas.Bool.Decides.{nat_tests}
 use Rattle.std.specs.Option.{option_map}
 use Rattle.std.specs.FinMap as map
@@ -15,18 +15,17 @@ use Rattle.std.specs.Ordering.{is_lt, is_eq, eq_by_cmp}
 use Rattle.std.specs.declared.cmp.Ordering.{Ordering}
 use Rattle.std.specs.declared.cmp.Ordering.TheVariants.{Less, Equal, Greater}
 use Rattle.std.specs.Cmp.Lexicographic.{nat_list_cmp_total}
-use Rattle.std.specs.Cmp.{eq_by_cmp_equiv}
 use Rattle.std.proofs.lemmas.Map.Lookups.{exact_bytes}
 use Rattle.std.proofs.lemmas.Bool.{cases_Bool, and_parts, and_from, eqb-false, eq-eqb, not-true, false≢true, leb-true}
 use Rattle.std.proofs.lemmas.Grind.{common_steps}
 use Rattle.std.proofs.lemmas.List.Folds.{list_all-append}
 use Rattle.unit_paths.specs.Paths.{is_path, is_target, is_text_byte}
 use Rattle.byte_streams.specs.Lines.{Whole, front_line, after_byte}
-use Rattle.link_tree.specs.Trees.{Entries, path_cmp, entry_line}
+use Rattle.link_tree.specs.Trees.{Entries, path_cmp, entry_line, inventory_text}
 use Rattle.link_tree.specs.Files.{is_contents}
 use Rattle.link_tree.specs.Values.{is_entry}
 use Rattle.link_tree.specs.EntryLines.{fields_of, two_fields, cut_at_tab, is_tab, file_line, by_letter, line_of}
-use Rattle.link_tree.specs.Inventory.{inventory_of, entries_at, entry_at, contents_at, placed}
+use Rattle.link_tree.specs.Inventory.{inventory_of, entries_at, entry_at, placed}
 use Rattle.byte_streams.specs.Blocks.{after_prefix}
 use Rattle.link_tree.specs.declared.entry_line.EntryLine.TheVariants as lines
 use Rattle.link_tree.specs.Shape.{IsTree, fits_at, is_crowded}
@@ -34,9 +33,15 @@ use Rattle.unit_paths.specs.Shape.{is_close, is_bad_shape}
 use Rattle.link_tree.specs.declared.entry.Entry.{Entry}
 use Rattle.link_tree.specs.declared.entry.Entry.TheVariants.{File, Link}
 use Rattle.link_tree.specs.Laws.{ReadsBack}
+use Rattle.link_tree.specs.Grammar.{AreDistinct, IsInventory}
+use Rattle.link_tree.proofs.Shapes.{same_key}
+use Rattle.std.proofs.lemmas.List.Elements.{All-nil, All-cons}
+use Rattle.std.proofs.lemmas.List.Kept.{AllPairs-cons}
+use Rattle.std.proofs.lemmas.List.{get_or-append-add}
 use Rattle.link_tree.proofs.Keys.{same-found, any-keys}
 use Rattle.byte_streams.proofs.Pieces.{front_line-byte}
 use Rattle.link_tree.proofs.Entries.{next_of, entries_at-end, entries_at-more}
+use Rattle.link_tree.proofs.FileBytes.{contents_read}
 use Rattle.link_tree.proofs.Lengths.{digit_bounds, decimal_digits, length_of_decimal}
 
 abbrev pub is_line_byte : ℕ → Bool
@@ -150,24 +155,22 @@ file-line n p path few =
     ap (λ fields. by_letter fields None) (fields-read 70 (decimal n) p (size-field n few) (path-field p path))
     ∙ ap (λ size. file_line size p) (length_of_decimal n (omega (arith, few))) ∙ rw (path, large) refl
 
--- a file's bytes and the line end
-contents-read : (bytes more : List ℕ) → contents_at (length bytes) (bytes ++ 10 ∷ more) ≡ Ok (bytes, more)
-unfolding contents_at
-contents-read bytes more =
-    let long : nat_lt (length (bytes ++ 10 ∷ more)) (length bytes) ≡ false = grind (arith, nat_tests, length-append bytes (10 ∷ more)) in
-    rw (long, take-append_seam bytes (10 ∷ more), drop-append_seam bytes (10 ∷ more)) refl
+-- the bytes of an entry, as they are read: a line, and for a file its contents and a line end
+pub link-bytes : (p t more : List ℕ) → entry_line (p, Link t) ++ more ≡ fields_line 76 p t ++ 10 ∷ more
+link-bytes p t more = search (rules, append_assoc)
+
+pub file-bytes : (p c more : List ℕ) → entry_line (p, File c) ++ more ≡ fields_line 70 (decimal (length c)) p ++ 10 ∷ (c ++ 10 ∷ more)
+file-bytes p c more = search (rules, append_assoc)
 
 entry-again : (p : List ℕ) (e : Entry) (more : List ℕ) → is_path p ≡ true → is_entry e ≡ true → entry_at true (front_line 16384 (entry_line (p, e) ++ more)) ≡ Ok (Some (p, e), more)
 unfolding is_contents
 entry-again p (Link t) more path target =
-    let line : entry_line (p, Link t) ++ more ≡ fields_line 76 p t ++ 10 ∷ more = search (rules, append_assoc) in
-    ap (λ l. entry_at true (front_line 16384 l)) line ∙ ap (entry_at true) (fields-front 76 p t more refl (path-field p path) (target-field t target)) ∙ rw (link-line p t path target) refl
+    ap (λ l. entry_at true (front_line 16384 l)) (link-bytes p t more) ∙ ap (entry_at true) (fields-front 76 p t more refl (path-field p path) (target-field t target)) ∙ rw (link-line p t path target) refl
 entry-again p (File c) more path sized =
     let few : length c ≤ 1048576 = leb-true (length c) 1048576 sized in
-    let line : entry_line (p, File c) ++ more ≡ fields_line 70 (decimal (length c)) p ++ 10 ∷ (c ++ 10 ∷ more) = search (rules, append_assoc) in
-    ap (λ l. entry_at true (front_line 16384 l)) line
+    ap (λ l. entry_at true (front_line 16384 l)) (file-bytes p c more)
     ∙ ap (entry_at true) (fields-front 70 (decimal (length c)) p (c ++ 10 ∷ more) refl (size-field (length c) few) (path-field p path))
-    ∙ rw (file-line (length c) p path few) (rw (contents-read c more) refl)
+    ∙ rw (file-line (length c) p path few) (rw (contents_read c more) refl)
 
 end-line : line_of (codes "end") ≡ Ok lines.End
 unfolding line_of
@@ -177,11 +180,11 @@ end-read : (more : ℕ) (rest : List ℕ) → next_of more (codes "end\n" ++ res
 end-read zero rest = ap (entry_at false) (whole 16384 (codes "end") rest refl (omega arith)) ∙ rw end-line refl
 end-read (suc more) rest = ap (entry_at true) (whole 16384 (codes "end") rest refl (omega arith)) ∙ rw end-line refl
 
-pub second : (a b : Bool) → T (a && b) → T b
+second : (a b : Bool) → T (a && b) → T b
 second true b h = h
 second false b h = absurd h
 
-pub first : (a b : Bool) → T (a && b) → T a
+first : (a b : Bool) → T (a && b) → T a
 first true b h = tt
 first false b h = absurd h
 
@@ -189,21 +192,6 @@ less_apart : (r : Ordering) → T (is_lt r) → is_eq r ≡ false
 less_apart Less h = refl
 less_apart Equal h = absurd h
 less_apart Greater h = absurd h
-
--- what is done stands before what is to come
-abbrev pub Before : List (List ℕ × Entry) → List (List ℕ × Entry) → Type 0
-Before [] es = Unit {0}
-Before (d ∷ ds) es = T (below_all path_cmp d.0 es) × Before ds es
-
-pub before-more : (done : List (List ℕ × Entry)) (e : List ℕ × Entry) (es : List (List ℕ × Entry)) → Before done (e ∷ es) → T (below_all path_cmp e.0 es) → Before (done ++ e ∷ []) es
-before-more [] e es h k = (k, tt)
-before-more (d ∷ ds) e es h k = (second _ _ h.0, before-more ds e es h.1 k)
-
-pub none-done : (done : List (List ℕ × Entry)) (e : List ℕ × Entry) (es : List (List ℕ × Entry)) → Before done (e ∷ es) → find path_cmp e.0 done ≡ None
-none-done [] e es h = refl
-none-done (d ∷ ds) e es h =
-    let apart : eq_by_cmp path_cmp e.0 d.0 ≡ false = (eq_by_cmp_equiv nat_list_cmp_total).symm e.0 d.0 ∙ less_apart (path_cmp d.0 e.0) (first _ _ h.0) in
-    rw (apart, none-done ds e es h.1) refl
 
 some_none : {P : Type 0} (e : Entry) → Some e ≡ None → P
 some_none e h = cc
@@ -224,6 +212,29 @@ find-front q (d ∷ ds) es some = elim (cases_Bool (eq_by_cmp path_cmp q d.0)) [
 
 pub found-at : (done : List (List ℕ × Entry)) (e : List ℕ × Entry) (es : List (List ℕ × Entry)) → find path_cmp e.0 done ≡ None → map.get (from_entries {R = path_cmp} (done ++ e ∷ es)) e.0 ≡ Some e.1
 found-at done e es none = get-from_entries nat_list_cmp_total (done ++ e ∷ es) e.0 ∙ find-later e.0 done (e ∷ es) none ∙ ap (λ (b : Bool). cond b (Some e.1) (find path_cmp e.0 es)) (same-found e.0)
+
+-- paths in order are distinct
+below-apart : (p : List ℕ) (es : List (List ℕ × Entry)) → T (below_all path_cmp p es) → All (λ other. p ≢ other.0) es
+below-apart p [] below = All-nil (λ other. p ≢ other.0)
+below-apart p (e ∷ es) below =
+    let apart : p ≢ e.0 = λ same. false≢true (sym (less_apart (path_cmp p e.0) (first _ _ below)) ∙ ap (eq_by_cmp path_cmp p) (sym same) ∙ same-found p) in
+    All-cons (λ other. p ≢ other.0) e es apart (below-apart p es (second _ _ below))
+
+pub sorted-distinct : (es : List (List ℕ × Entry)) → T (is_sorted path_cmp es) → AreDistinct es
+sorted-distinct [] sorted = λ i j d before within. absurd (omega arith)
+sorted-distinct (e ∷ es) sorted = AllPairs-cons (λ one other. one.0 ≢ other.0) e es (below-apart e.0 es (first _ _ sorted)) (sorted-distinct es (second _ _ sorted))
+
+-- a path that none of those done has isn't found among them
+pub none-alike : (done : List (List ℕ × Entry)) (e : List ℕ × Entry) (es : List (List ℕ × Entry)) → AreDistinct (done ++ e ∷ es) → find path_cmp e.0 done ≡ None
+none-alike [] e es distinct = refl
+none-alike (d ∷ ds) e es distinct =
+    let here : length ds ≡ length ds + 0 = omega arith in
+    let at : get_or (ds ++ e ∷ es) (length ds) e ≡ e = ap (λ n. get_or (ds ++ e ∷ es) n e) here ∙ get_or-append-add ds (e ∷ es) 0 e in
+    let other : d.0 ≢ e.0 = rw at at (distinct 0 (suc (length ds)) e (omega arith) (omega (arith, length-append ds (e ∷ es)))) in
+    elim (cases_Bool (eq_by_cmp path_cmp e.0 d.0)) [
+      | inl same ↦ absurd (other (sym (same_key e.0 d.0 same)))
+      | inr away ↦ rw (away, none-alike ds e es (λ i j x before within. distinct (suc i) (suc j) x (omega arith) (omega arith))) refl
+    ]
 
 -- none of those done lies close to the next
 not-crowded : (done : List (List ℕ × Entry)) (e : List ℕ × Entry) (es : List (List ℕ × Entry)) → find path_cmp e.0 done ≡ None → IsTree (from_entries (done ++ e ∷ es)) → is_crowded (from_entries done) e.0 ≡ false
@@ -250,12 +261,12 @@ next-read zero p e rest some path entry = absurd (omega arith)
 next-read (suc more) p e rest some path entry = entry-again p e rest path entry
 
 -- the entries to come, read after those done
-again : (more number : ℕ) (done todo : List (List ℕ × Entry)) (rest : List ℕ) → Before done todo → T (is_sorted path_cmp todo) → IsTree (from_entries (done ++ todo)) → length todo ≤ more
+again : (more number : ℕ) (done todo : List (List ℕ × Entry)) (rest : List ℕ) → AreDistinct (done ++ todo) → IsTree (from_entries (done ++ todo)) → length todo ≤ more
     → entries_at more number (from_entries done) (flat_map entry_line todo ++ (codes "end\n" ++ rest)) ≡ Ok (from_entries (done ++ todo), rest)
-again more number done [] rest before sorted tree few =
+again more number done [] rest distinct tree few =
     entries_at-end more number (from_entries done) (codes "end\n" ++ rest) rest (end-read more rest) ∙ ap (λ (es : List (List ℕ × Entry)). Ok (from_entries es, rest)) (sym (append-nil done))
-again more number done ((p, e) ∷ es) rest before sorted tree few =
-    let none = none-done done (p, e) es before in
+again more number done ((p, e) ∷ es) rest distinct tree few =
+    let none = none-alike done (p, e) es distinct in
     let fits = entry-fits p e (tree.fits p e (found-at done (p, e) es none)) in
     let tail : List ℕ = flat_map entry_line es ++ (codes "end\n" ++ rest) in
     let grown = from_entries_push nat_list_cmp_total exact_bytes done p e none in
@@ -264,7 +275,7 @@ again more number done ((p, e) ∷ es) rest before sorted tree few =
     let whole_list : (done ++ (p, e) ∷ []) ++ es ≡ done ++ (p, e) ∷ es = append_assoc done ((p, e) ∷ []) es in
     let room : 0 < more = omega (arith, few) in
     let fewer : length es ≤ more - 1 = omega (arith, few) in
-    let next = again (more - 1) (number + 1) (done ++ (p, e) ∷ []) es rest (before-more done (p, e) es before (first _ _ sorted)) (second _ _ sorted)
+    let next = again (more - 1) (number + 1) (done ++ (p, e) ∷ []) es rest (subst AreDistinct (sym whole_list) distinct)
     (subst (λ (l : List (List ℕ × Entry)). IsTree (from_entries l)) (sym whole_list) tree) fewer in
     ap (entries_at more number (from_entries done)) (append_assoc (entry_line (p, e)) (flat_map entry_line es) (codes "end\n" ++ rest))
     ∙ entries_at-more more number (from_entries done) (from_entries (done ++ (p, e) ∷ [])) (entry_line (p, e) ++ tail) tail (p, e) room (next-read more p e tail room fits.0 fits.1) place
@@ -274,13 +285,24 @@ again more number done ((p, e) ∷ es) rest before sorted tree few =
 pub made_of : (m : Entries) → from_entries (map.entries m) ≡ m
 made_of m = same_map nat_list_cmp_total exact_bytes _ _ (λ q. get-from_entries nat_list_cmp_total (map.entries m) q ∙ sym (get-entries m q))
 
-header-read : (bytes : List ℕ) → inventory_of (codes "unitadm-inventory 1\n" ++ bytes) ≡ entries_at 65536 1 map.empty bytes
+pub header-read : (bytes : List ℕ) → inventory_of (codes "unitadm-inventory 1\n" ++ bytes) ≡ entries_at 65536 1 map.empty bytes
 unfolding after_prefix
 header-read bytes = refl
 
+-- An inventory is read as its tree, in whatever order its entries stand.
+pub inventory_read : (bytes : List ℕ) (m : Entries) (rest : List ℕ) → IsInventory bytes m rest → inventory_of bytes ≡ Ok (m, rest)
+inventory_read bytes m rest is =
+    ap inventory_of is.text ∙ header-read (flat_map entry_line is.entries ++ (codes "end\n" ++ rest))
+    ∙ again 65536 1 [] is.entries rest is.distinct (subst IsTree is.map is.tree) is.few
+    ∙ ap (λ (n : Entries). Ok (n, rest)) (sym is.map)
+
+-- The text of a tree is an inventory, with the entries in order.
 pub reads_again : ReadsBack
-reads_again m rest tree few =
-    header-read ((flat_map entry_line (map.entries m) ++ codes "end\n") ++ rest)
-    ∙ ap (entries_at 65536 1 map.empty) (append_assoc (flat_map entry_line (map.entries m)) (codes "end\n") rest)
-    ∙ again 65536 1 [] (map.entries m) rest tt (entries_sorted m) (subst IsTree (sym (made_of m)) tree) (omega (arith, few, len-entries m))
-    ∙ ap (λ (n : Entries). Ok (n, rest)) (made_of m)
+reads_again m rest tree few = inventory_read (inventory_text m ++ rest) m rest (record {
+  entries = map.entries m;
+  text = ap (λ l. codes "unitadm-inventory 1\n" ++ l) (append_assoc (flat_map entry_line (map.entries m)) (codes "end\n") rest);
+  few = omega (arith, few, len-entries m);
+  distinct = sorted-distinct (map.entries m) (entries_sorted m);
+  map = sym (made_of m);
+  tree = tree;
+})

@@ -1,20 +1,21 @@
 -- The bytes of what is written of a tree can be counted.
-use Rattle.std.proofs.Common.{◌≡◌, ℕ, ◌*◌, ◌^◌, ◌<◌, ◌≤◌, true, List, [], ◌∷◌, ◌++◌, length, codes, ap, sym, subst, arith, append_assoc, length-append, T}
+use Rattle.std.proofs.Common.{◌≡◌, ℕ, ◌*◌, ◌^◌, ◌<◌, ◌≤◌, true, List, [], ◌∷◌, ◌++◌, length, codes, ap, sym, subst, arith, append_assoc, length-append}
 use Rattle.std.specs.List.{flat_map}
 use Rattle.std.specs.Fmt.{decimal}
 use Rattle.std.proofs.lemmas.Fmt.{length-decimal-le}
 use Rattle.std.proofs.lemmas.List.Concat.{flat_map-cons}
 use Rattle.std.proofs.lemmas.Bool.{leb-true}
 use Rattle.std.specs.FinMap as map
-use Rattle.std.specs.FinMap.{is_sorted, from_entries, entries_sorted, len-entries}
+use Rattle.std.specs.FinMap.{from_entries, entries_sorted, len-entries}
 use Rattle.unit_paths.specs.Paths.{is_path}
 use Rattle.link_tree.specs.Files.{is_contents}
 use Rattle.link_tree.specs.Values.{is_entry}
-use Rattle.link_tree.specs.Trees.{Entries, path_cmp, entry_line, inventory_text}
+use Rattle.link_tree.specs.Trees.{Entries, entry_line, inventory_text}
 use Rattle.link_tree.specs.Shape.{IsTree}
+use Rattle.link_tree.specs.Grammar.{AreDistinct}
 use Rattle.link_tree.specs.declared.entry.Entry.{Entry}
 use Rattle.link_tree.specs.declared.entry.Entry.TheVariants.{File, Link}
-use Rattle.link_tree.proofs.Again.{Before, before-more, entry-fits, first, found-at, made_of, none-done, path-text, second, target-text}
+use Rattle.link_tree.proofs.Again.{entry-fits, found-at, made_of, none-alike, path-text, sorted-distinct, target-text}
 
 -- more than the lines of an entry have
 abbrev pub most_of_line : ℕ
@@ -35,19 +36,19 @@ line_is_short p (Link t) path entry =
     let target = (target-text t entry).1 in
     grind (arith, short, target, length-append)
 
-lines_are_short : (done todo : List (List ℕ × Entry)) → Before done todo → T (is_sorted path_cmp todo) → IsTree (from_entries (done ++ todo)) → length (flat_map entry_line todo) ≤ length todo * most_of_line
-lines_are_short done [] before sorted tree = omega arith
-lines_are_short done ((p, e) ∷ es) before sorted tree =
-    let none = none-done done (p, e) es before in
+lines_are_short : (done todo : List (List ℕ × Entry)) → AreDistinct (done ++ todo) → IsTree (from_entries (done ++ todo)) → length (flat_map entry_line todo) ≤ length todo * most_of_line
+lines_are_short done [] distinct tree = omega arith
+lines_are_short done ((p, e) ∷ es) distinct tree =
+    let none = none-alike done (p, e) es distinct in
     let fits = entry-fits p e (tree.fits p e (found-at done (p, e) es none)) in
     let line = line_is_short p e fits.0 fits.1 in
     let whole_list : (done ++ (p, e) ∷ []) ++ es ≡ done ++ (p, e) ∷ es = append_assoc done ((p, e) ∷ []) es in
-    let rest : length (flat_map entry_line es) ≤ length es * most_of_line = lines_are_short (done ++ (p, e) ∷ []) es (before-more done (p, e) es before (first _ _ sorted)) (second _ _ sorted)
+    let rest : length (flat_map entry_line es) ≤ length es * most_of_line = lines_are_short (done ++ (p, e) ∷ []) es (subst AreDistinct (sym whole_list) distinct)
     (subst (λ (l : List (List ℕ × Entry)). IsTree (from_entries l)) (sym whole_list) tree) in
     omega (arith, line, rest, length-append (entry_line (p, e)) (flat_map entry_line es), ap length (flat_map-cons entry_line (p, e) es))
 
 pub text_is_counted : (text : List ℕ) (m : Entries) → IsTree m → map.len m ≤ 1099511627776 → length text ≤ 4611686018427387904 → length (text ++ inventory_text m) < 2 ^ 64
 text_is_counted text m tree few short =
-    let lines = lines_are_short [] (map.entries m) tt (entries_sorted m) (subst IsTree (sym (made_of m)) tree) in
+    let lines = lines_are_short [] (map.entries m) (sorted-distinct (map.entries m) (entries_sorted m)) (subst IsTree (sym (made_of m)) tree) in
     let body : List ℕ = flat_map entry_line (map.entries m) in
     omega (arith, lines, few, short, len-entries m, length-append text (codes "unitadm-inventory 1\n" ++ body ++ codes "end\n"), length-append body (codes "end\n"))

@@ -1,7 +1,6 @@
 -- One entry more of an inventory.
-use Rattle.std.proofs.Common.{◌≡◌, ℕ, ◌+◌, ◌-◌, ◌<◌, ◌≤◌, Bool, true, false, List, Option, None, Some, Result, Ok, Err, refl, sym, ap, ◌∙◌, arith, zero, suc, subst, nat_le}
+use Rattle.std.proofs.Common.{append_assoc, [], ◌∷◌, ◌++◌, ◌≡◌, ℕ, ◌+◌, ◌-◌, ◌<◌, ◌≤◌, Bool, true, false, List, Option, None, Some, Result, Ok, Err, refl, sym, ap, ◌∙◌, arith, zero, suc, subst, nat_le}
 use Rattle.std.specs.Option.{is_some}
-use Rattle.std.specs.Prelude.{IsErr, IsErrAnd}
 use Rattle.std.proofs.lemmas.Bool.{leb-true}
 use Rattle.std.proofs.lemmas.Bool.Decides.{nat_tests}
 use Rattle.std.specs.FinMap as map
@@ -19,6 +18,8 @@ use Rattle.link_tree.specs.Inventory.{◌>>=◌, entry_at, placed, in_entry, ent
 use Rattle.link_tree.specs.Pending.{GivesOn, with_entry}
 use Rattle.link_tree.specs.declared.inventory_fault.InventoryFault.{InventoryFault}
 use Rattle.link_tree.specs.declared.inventory_fault.InventoryFault.TheVariants.{BadHeader}
+use Rattle.byte_streams.specs.Streams.{Takes}
+use Rattle.link_tree.proofs.Undecided.{Taken, entry_taken}
 
 abbrev pub Next : Type 0
 Next = List ℕ × Entry
@@ -56,23 +57,23 @@ entries_at-more (suc more) number m m' bytes rest entry room e p =
 abbrev pub Read : Type 0
 Read = Result Entries (InventoryFault × ℕ)
 
--- what was read and what is left give what all of it gives
+-- what was read gives, with whatever follows what was taken, what all of it gives
 abbrev pub Reached : Option (List ℕ) → Option (List ℕ) → ℕ → Read → Type 0
-Reached first now number read = (bytes : List ℕ) → first ≡ Some bytes → (rest : List ℕ) × (now ≡ Some rest) × ((read >>= λ m. entries_at (65537 - number) number m rest) ≡ entries_at 65536 1 map.empty bytes)
+Reached first now number read = Takes first now (λ taken rest. (more : List ℕ) → (read >>= λ m. entries_at (65537 - number) number m more) ≡ entries_at 65536 1 map.empty (taken ++ more))
+
+reached_rest : (first now : Option (List ℕ)) (number : ℕ) (read : Read) → Reached first now number read → (bytes : List ℕ) → first ≡ Some bytes → (rest : List ℕ) × (now ≡ Some rest) × ((read >>= λ m. entries_at (65537 - number) number m rest) ≡ entries_at 65536 1 map.empty bytes)
+reached_rest first now number read so_far bytes e =
+    let at = so_far bytes e in
+    (at.1, at.3, at.4 at.1 ∙ ap (entries_at 65536 1 map.empty) (sym at.2))
 
 -- there is room for an entry of this number
-room_of : (number more : ℕ) → 65537 - number ≡ more → nat_le number 65536 ≡ has_room more
+pub room_of : (number more : ℕ) → 65537 - number ≡ more → nat_le number 65536 ≡ has_room more
 room_of number zero h = grind (arith, nat_tests)
 room_of number (suc more) h = grind (arith, nat_tests)
 
 -- there is room where an entry was read
 pub has_come : (number : ℕ) (o : Option Next) (entry : Next) → o ≡ Some entry → (is_some o ≡ true → nat_le number 65536 ≡ true) → number ≤ 65536
 has_come number o entry some room = leb-true number 65536 (room (ap is_some some))
-
--- what `?` returns
-pub returned : {A : Type 0} (r : Result A InventoryError) (f : InventoryError) → IsErr r × IsErrAnd r (λ e. e ≡ f) → r ≡ Err f
-returned (Ok x) f both = absurd both.1
-returned (Err e) f both = ap (λ (x : InventoryError). Err x) both.1
 
 -- the step that reads one entry more
 step : (more number : ℕ) (read : Read) (bytes rest : List ℕ) (entry : Next) → 0 < more → next_of more bytes ≡ Ok (Some entry, rest) → (read >>= λ m. entries_at more number m bytes) ≡ (with_entry read number entry >>= λ m. entries_at (more - 1) (number + 1) m rest)
@@ -86,14 +87,21 @@ step more number (Ok m) bytes rest entry room e = one (placed m entry) refl
 module _ (first mid new : Option (List ℕ)) (number : ℕ) (read : Read) (so_far : Reached first mid number read) (r : Result (Option Next) (ReadError InventoryFault)) (reads : (bytes : List ℕ) → mid ≡ Some bytes → ReadsFront (λ o. o) new r (entry_at (nat_le number 65536) (front_line 16384 bytes))) (bytes : List ℕ) (e : first ≡ Some bytes) where
   seen : (x : Result (Option Next) (ReadError InventoryFault)) → r ≡ x → (rest : List ℕ) × ReadsFront (λ o. o) new x (next_of (65537 - number) rest) × ((read >>= λ m. entries_at (65537 - number) number m rest) ≡ entries_at 65536 1 map.empty bytes)
   seen x is =
-      let at = so_far bytes e in
+      let at = reached_rest first mid number read so_far bytes e in
       let here = subst (λ (room : Bool). ReadsFront (λ o. o) new r (entry_at room (front_line 16384 at.0))) (room_of number (65537 - number) refl) (reads at.0 at.1) in
       (at.0, subst (λ (y : Result (Option Next) (ReadError InventoryFault)). ReadsFront (λ o. o) new y (next_of (65537 - number) at.0)) is here, at.2)
+
+  -- the entry that came, behind what was taken before
+  pub came_next : (o : Option Next) (entry : Next) → r ≡ Ok o → o ≡ Some entry → (left : List ℕ) → mid ≡ Some left → (rest : List ℕ) × (new ≡ Some rest) × Taken (next_of (65537 - number)) left (Some entry) rest
+  came_next o entry is some left e =
+      let here = subst (λ (room : Bool). ReadsFront (λ o. o) new r (entry_at room (front_line 16384 left))) (room_of number (65537 - number) refl) (reads left e) in
+      let at = subst (λ (y : Result (Option Next) (ReadError InventoryFault)). ReadsFront (λ o. o) new y (next_of (65537 - number) left)) (is ∙ ap (λ (x : Option Next). Ok x) some) here in
+      (at.0, at.1, entry_taken (has_room (65537 - number)) left (Some entry) at.0 at.2)
 
   -- where the pending entries can't be placed, neither can all
   pub reached_stop : (f : InventoryError) (now : Read) → GivesOn (Err f) now read → TreeOf new (Err f) (entries_at 65536 1 map.empty bytes)
   reached_stop (inventories.Fault fault k) now stop =
-      let at = so_far bytes e in
+      let at = reached_rest first mid number read so_far bytes e in
       sym at.2 ∙ ap (λ (x : Read). x >>= λ m. entries_at (65537 - number) number m at.0) stop
   reached_stop (inventories.ReadFault k) now stop = absurd stop
   reached_stop inventories.OutOfMemory now stop = tt
@@ -124,10 +132,22 @@ module _ (first mid new : Option (List ℕ)) (number : ℕ) (read : Read) (so_fa
   reached_refused o entry (inventories.ReadFault k) now is some room stop = absurd stop
   reached_refused o entry inventories.OutOfMemory now is some room stop = tt
 
-  pub reached_more : (o : Option Next) (entry : Next) (now : Read) → r ≡ Ok o → o ≡ Some entry → number ≤ 65536 → now ≡ with_entry read number entry → (rest : List ℕ) × (new ≡ Some rest) × ((now >>= λ m. entries_at (65537 - (number + 1)) (number + 1) m rest) ≡ entries_at 65536 1 map.empty bytes)
+  pub reached_more : (o : Option Next) (entry : Next) (now : Read) → r ≡ Ok o → o ≡ Some entry → number ≤ 65536 → now ≡ with_entry read number entry → (taken rest : List ℕ) × (bytes ≡ taken ++ rest) × (new ≡ Some rest) × ((more : List ℕ) → (now >>= λ m. entries_at (65537 - (number + 1)) (number + 1) m more) ≡ entries_at 65536 1 map.empty (taken ++ more))
   reached_more o entry now is some room goes_on =
-      let at = one_more o entry is some room in
-      (at.0, at.1, ap (λ (x : Read). x >>= λ m. entries_at (65537 - (number + 1)) (number + 1) m at.0) goes_on ∙ at.2)
+      let at = so_far bytes e in
+      let came = came_next o entry is some at.1 at.3 in
+      let less : 65537 - (number + 1) ≡ 65537 - number - 1 = omega arith in (
+        at.0 ++ (came.2.before ++ 10 ∷ []),
+        came.0,
+        at.2 ∙ ap (λ l. at.0 ++ l) (came.2.is ∙ sym (append_assoc came.2.before (10 ∷ []) came.0)) ∙ sym (append_assoc at.0 (came.2.before ++ 10 ∷ []) came.0),
+        came.1,
+        λ more.
+            ap (λ (x : Read). x >>= λ m. entries_at (65537 - (number + 1)) (number + 1) m more) goes_on
+            ∙ ap (λ (k : ℕ). with_entry read number entry >>= λ m. entries_at k (number + 1) m more) less
+            ∙ sym (step (65537 - number) number read (came.2.before ++ 10 ∷ more) more entry (omega arith) (came.2.again more))
+            ∙ at.4 (came.2.before ++ 10 ∷ more)
+            ∙ ap (entries_at 65536 1 map.empty) (ap (λ l. at.0 ++ l) (sym (append_assoc came.2.before (10 ∷ []) more)) ∙ sym (append_assoc at.0 (came.2.before ++ 10 ∷ []) more)),
+      )
 
 -- whether the header was there
 pub header_found : (left : Option (List ℕ)) (found : Bool) (after : Option (List ℕ)) → SkipsPrefix left found after → found ≡ true → (rest : List ℕ) × (left ≡ Some rest) × (header_of after ≡ Ok (tt, rest))

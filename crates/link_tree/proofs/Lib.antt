@@ -1,4 +1,5 @@
 pub mod Maps
+pub mod Results
 pub mod Sharing
 pub mod Same
 pub mod Keys
@@ -11,8 +12,12 @@ pub mod Flushing
 pub mod Lengths
 pub mod FileBytes
 pub mod Counted
+pub mod Undecided
 pub mod Entries
 pub mod Again
+pub mod Stops
+pub mod GrammarLines
+pub mod Grammar
 pub mod Changed
 pub mod Differences
 pub mod Leads

@@ -8,7 +8,6 @@ use Rattle.std.specs.Str.Parse.{digits_value}
 use Rattle.unit_paths.specs.Paths.{is_path, is_target, is_root}
 use Rattle.link_tree.specs.declared.entry_line.EntryLine.{EntryLine}
 use Rattle.link_tree.specs.declared.entry_line.EntryLine.TheVariants.{File, Link, End}
-use Rattle.link_tree.specs.declared.contents.TheConstants.{MAX_FILE}
 use Rattle.link_tree.specs.declared.inventory_fault.InventoryFault.{InventoryFault}
 use Rattle.link_tree.specs.declared.inventory_fault.InventoryFault.TheVariants.{BadLine, BadPath, TooLarge}
 use Prim.Native.Char.{code}
@@ -51,7 +50,7 @@ abbrev pub file_line : Option ℕ → List ℕ → Result EntryLine InventoryFau
 file_line None path = Err BadLine
 file_line (Some length) path =
     if not (is_path path) then Err BadPath
-    else if nat_lt MAX_FILE length then Err TooLarge
+    else if nat_lt 1048576 length then Err TooLarge
     else Ok (File path length)
 
 -- the line of a link: its path and its target
@@ -72,6 +71,6 @@ line_of line =
 
 -- a file is not too large
 abbrev pub IsSized : EntryLine → Type 0
-IsSized (File path length) = length ≤ MAX_FILE
+IsSized (File path length) = length ≤ 1048576
 IsSized (Link path target) = Unit {0}
 IsSized End = Unit {0}

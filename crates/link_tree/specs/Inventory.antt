@@ -14,7 +14,6 @@ use Rattle.link_tree.specs.declared.inventory_fault.InventoryFault.TheVariants.{
 use Rattle.unit_paths.specs.Shape.{is_bad_shape}
 use Rattle.byte_streams.specs.Blocks.{after_prefix}
 use Rattle.link_tree.specs.Shape.{is_crowded}
-use Rattle.link_tree.specs.declared.inventory.TheConstants.{MAX_LINE, MAX_ENTRIES}
 use Prim.Native.Char.{code}
 
 infixl 10 ◌>>=◌
@@ -75,10 +74,10 @@ in_entry number (Err fault) = Err (fault, number)
 -- The entries at the front, from the one of this number on, and the bytes after them. So many more may come.
 unfoldable pub entries_at : ℕ → ℕ → Entries → List ℕ → Result (Entries × List ℕ) (InventoryFault × ℕ)
 entries_at zero number m bytes = do
-  found ← in_entry number (entry_at false (front_line MAX_LINE bytes))
+  found ← in_entry number (entry_at false (front_line 16384 bytes))
   Ok (m, found.1)
 entries_at (suc more) number m bytes = do
-  found ← in_entry number (entry_at true (front_line MAX_LINE bytes))
+  found ← in_entry number (entry_at true (front_line 16384 bytes))
   option_map_or (λ entry. in_entry number (placed m entry) >>= λ grown. entries_at more (number + 1) grown found.1) found.0 (Ok (m, found.1))
 
 -- what each inventory begins with
@@ -97,4 +96,4 @@ header_at bytes = header_of (after_prefix header bytes)
 abbrev pub inventory_of : List ℕ → Result (Entries × List ℕ) (InventoryFault × ℕ)
 inventory_of bytes = do
   found ← in_entry 0 (header_at bytes)
-  entries_at MAX_ENTRIES 1 map.empty found.1
+  entries_at 65536 1 map.empty found.1

@@ -1,5 +1,5 @@
 -- Laws of trees and inventories, each the contract of a public function.
-use Rattle.std.specs.Prelude.{◌≡◌, ◌≢◌, ◌<◌, ◌≤◌, ◌^◌, ◌↔◌, ℕ, List, [], ◌∷◌, ◌++◌, Some, Ok, All, map as list_map}
+use Rattle.std.specs.Prelude.{◌≡◌, ◌≢◌, ◌<◌, ◌≤◌, ◌^◌, ◌↔◌, ℕ, List, ◌++◌, Some, Ok, All, map as list_map}
 use Rattle.std.specs.Fmt.{decimal}
 use Rattle.link_tree.specs.declared.change.Change.{Change}
 use Rattle.std.specs.List.Sorted.{IsStrictlySortedBy}

@@ -9,3 +9,4 @@ pub mod Inventory
 pub mod Reads
 pub mod Pending
 pub mod Laws
+pub mod Grammar

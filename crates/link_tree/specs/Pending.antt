@@ -1,5 +1,5 @@
 -- For the proofs of this crate: entries at slots that were read and aren't in the tree yet. No public contract cites it.
-use Rattle.std.specs.Prelude.{◌≡◌, ℕ, ◌+◌, ◌*◌, ◌%◌, ◌^◌, ◌<◌, true, List, [], ◌∷◌, length, take, All, Option, Some, None, Result, Ok, Err, min}
+use Rattle.std.specs.Prelude.{◌≡◌, ◌≢◌, ℕ, ◌+◌, ◌*◌, ◌%◌, ◌^◌, ◌<◌, true, List, [], ◌∷◌, length, take, All, Option, Some, None, Result, Ok, Err, min}
 use Rattle.unit_paths.specs.Paths.{parent, name_at}
 use Rattle.unit_paths.specs.Slots.{is_slot}
 use Rattle.link_tree.specs.Shape.{fits_at}
@@ -11,7 +11,6 @@ use Rattle.link_tree.specs.declared.inventory_fault.InventoryFault.TheVariants.{
 use Rattle.link_tree.specs.declared.inventory_fault.InventoryError.{InventoryError}
 use Rattle.link_tree.specs.declared.inventory_fault.InventoryError.TheVariants as inventories
 use Rattle.link_tree.specs.declared.pending.PendingEntry.{PendingEntry}
-use Rattle.link_tree.specs.declared.pending.TheConstants.{SORTED_BYTES}
 
 -- a key of 128 bits with a byte behind it
 abbrev pub shifted : ℕ → ℕ → ℕ
@@ -23,7 +22,7 @@ with_bytes key (b ∷ bs) = with_bytes (shifted key b) bs
 
 -- what pending entries are sorted by: the length of the directory, and the first bytes of the name
 abbrev pub sort_key : List ℕ → ℕ
-sort_key path = with_bytes (length (parent path)) (take SORTED_BYTES (name_at path))
+sort_key path = with_bytes (length (parent path)) (take 15 (name_at path))
 
 -- entries come into a tree one after another
 abbrev pub place_all : Entries → List PendingEntry → Result Entries (InventoryFault × ℕ)
@@ -65,3 +64,15 @@ GivesOn (Ok x) new read = new ≡ read
 GivesOn (Err (inventories.Fault fault number)) new read = read ≡ Err (fault, number)
 GivesOn (Err (inventories.ReadFault number)) new read = ⊥
 GivesOn (Err inventories.OutOfMemory) new read = Unit {0}
+
+-- a fault is a duplicate among the pending entries
+abbrev pub IsDuplicate : InventoryError → Type 0
+IsDuplicate (inventories.Fault fault number) = fault ≡ Duplicate
+IsDuplicate (inventories.ReadFault number) = ⊥
+IsDuplicate inventories.OutOfMemory = Unit {0}
+
+-- or, where all before it came into the tree, it is of the entry of this number
+abbrev pub IsDuplicateOrAt : ℕ → Result Entries (InventoryFault × ℕ) → InventoryError → Type 0
+IsDuplicateOrAt number before (inventories.Fault fault at) = fault ≢ Duplicate → (at ≡ number) × ((m : Entries) × (before ≡ Ok m))
+IsDuplicateOrAt number before (inventories.ReadFault at) = ⊥
+IsDuplicateOrAt number before inventories.OutOfMemory = Unit {0}

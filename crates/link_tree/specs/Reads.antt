@@ -1,15 +1,17 @@
 -- What reading and writing an inventory returned, against what the bytes say.
-use Rattle.std.specs.Prelude.{◌≡◌, ℕ, List, Option, Some, Result, Ok, Err}
+use Rattle.std.specs.Prelude.{◌≡◌, ◌≢◌, ℕ, zero, suc, List, Option, Some, Result, Ok, Err}
 use Rattle.std.specs.Io.KnownBytes.{Keeps}
 use Rattle.unit_paths.specs.declared.fault.PathError.{PathError}
 use Rattle.unit_paths.specs.declared.fault.PathError.TheVariants as paths
 use Rattle.unit_paths.specs.declared.fault.TargetError.{TargetError}
 use Rattle.unit_paths.specs.declared.fault.TargetError.TheVariants as targets
-use Rattle.byte_streams.specs.Streams.{HasCause, IsCalm, StopsIn}
+use Rattle.byte_streams.specs.Streams.{HasCause, IsCalm, StopsAt, StopsIn, Takes}
 use Rattle.byte_streams.specs.declared.counters.Counters.{Counters}
 use Rattle.byte_streams.specs.declared.read_error.ReadError.{ReadError}
 use Rattle.byte_streams.specs.declared.read_error.ReadError.TheVariants as reads
+use Rattle.byte_streams.specs.Blocks.{IsCutPrefix}
 use Rattle.link_tree.specs.Trees.{Entries}
+use Rattle.link_tree.specs.Inventory.{header, inventory_of}
 use Rattle.link_tree.specs.declared.inventory_fault.InventoryFault.{InventoryFault}
 use Rattle.link_tree.specs.declared.inventory_fault.InventoryFault.TheVariants as faults
 use Rattle.link_tree.specs.declared.inventory_fault.InventoryError.{InventoryError}
@@ -42,6 +44,19 @@ TreeOf left (Err inventories.OutOfMemory) read = Unit {0}
 -- the reading of the bytes left, where these are known
 abbrev pub ReadsTree : Option (List ℕ) → Option (List ℕ) → Result Entries InventoryError → (List ℕ → Result (Entries × List ℕ) (InventoryFault × ℕ)) → Type 0
 ReadsTree old new result reading = (bytes : List ℕ) → old ≡ Some bytes → TreeOf new result (reading bytes)
+
+-- The bytes taken decide nothing yet: they are a part of the header, or an inventory that is truncated in the entry of this number.
+abbrev pub IsUndecided : ℕ → List ℕ → Type 0
+IsUndecided zero taken = IsCutPrefix header taken
+IsUndecided (suc n) taken = inventory_of taken ≡ Err (faults.Truncated, suc n)
+
+-- A fault is told at the end of the bytes or with the byte that decides it, but for a duplicate, which may be told later. A read fault comes
+-- only while the bytes taken decide nothing, in the entry that it names.
+abbrev pub StopsInEntry : (ℕ → List ℕ → Type 0) → Result Entries InventoryError → (old new : Option (List ℕ)) → Type 0
+StopsInEntry IsOpen (Ok tree) old new = Unit {0}
+StopsInEntry IsOpen (Err (inventories.Fault fault number)) old new = fault ≢ faults.Duplicate → Takes old new (StopsAt (IsOpen number))
+StopsInEntry IsOpen (Err (inventories.ReadFault number)) old new = Takes old new (λ taken rest. IsOpen number taken)
+StopsInEntry IsOpen (Err inventories.OutOfMemory) old new = Unit {0}
 
 -- A read fault has a cause, and a tree was read without a failure.
 abbrev pub AccountsTree : Result Entries InventoryError → Counters → Counters → Type 0

@@ -1,13 +1,14 @@
 //! Reading inventories: the texts of trees.
 ghost use Rattle.std.specs.Prelude.{◌≡◌, ◌+◌, ◌≤◌, ℕ, true, List, [], All, Option, OnOk, IfOk, IfErr, IsTrue, Some, is_some, Ok, Err};
 ghost use Rattle.std.specs.FinMap as map;
+ghost use Rattle.byte_streams.specs.Blocks.{IsCutPrefix};
 ghost use Rattle.byte_streams.specs.Lines.{Front, IsFront, front_line};
-ghost use Rattle.byte_streams.specs.Reads.{AccountsRead, FailsAs, Gives, ReadsFront};
+ghost use Rattle.byte_streams.specs.Reads.{AccountsRead, FailsAs, Gives, ReadsFront, StopsInTime};
 ghost use Rattle.link_tree.specs.declared.contents.TheConstants.{MAX_FILE};
 ghost use Rattle.link_tree.specs.EntryLines.{IsSized};
-ghost use Rattle.link_tree.specs.Inventory.{line_of_front, contents_at, placed, entries_at, entry_at, header_at, inventory_of};
-ghost use Rattle.link_tree.specs.Pending.{AreRising, ArePending, GivesOn, IsAtSlot, place_all, with_entry};
-ghost use Rattle.link_tree.specs.Reads.{AccountsTree, ReadsTree, numbered};
+ghost use Rattle.link_tree.specs.Inventory.{line_of_front, contents_at, placed, entries_at, entry_at, entry_of, header, header_at, inventory_of};
+ghost use Rattle.link_tree.specs.Pending.{AreRising, ArePending, GivesOn, IsAtSlot, IsDuplicate, IsDuplicateOrAt, place_all, with_entry};
+ghost use Rattle.link_tree.specs.Reads.{AccountsTree, IsUndecided, ReadsTree, StopsInEntry, numbered};
 
 use crate::contents::Contents;
 use crate::entry::Entry;
@@ -38,6 +39,7 @@ const HEADER: &[u8; 20] = b"unitadm-inventory 1\n";
 /// where the source fails, or is interrupted 1,000 times in a row, before one of these is decided. Want of memory.
 pub fn read_inventory<S: Source>(alloc: Global, source: &mut S) -> Result<Tree, InventoryError>
     ensures tree { ReadsTree (S.left source.old) (S.left source.new) result inventory_of }
+    ensures stops { StopsInEntry IsUndecided result (S.left source.old) (S.left source.new) }
     ensures counters { AccountsTree result (S.counters source.old) (S.counters source.new) }
 {
     if let Err(e) = read_header(source) {
@@ -48,6 +50,7 @@ pub fn read_inventory<S: Source>(alloc: Global, source: &mut S) -> Result<Tree, 
 
 fn read_entries<S: Source>(alloc: Global, source: &mut S) -> Result<Tree, InventoryError>
     ensures tree { ReadsTree (S.left source.old) (S.left source.new) result (entries_at MAX_ENTRIES 1 map.empty) }
+    ensures stops { StopsInEntry (λ number taken. (1 ≤ number) × (entries_at MAX_ENTRIES 1 map.empty taken ≡ Err (InventoryFault.Truncated, number))) result (S.left source.old) (S.left source.new) }
     ensures counters { AccountsTree result (S.counters source.old) (S.counters source.new) }
 {
     let mut tree = Tree::empty(alloc)?;
@@ -83,6 +86,7 @@ fn add_entry(
     requires { ArePending number pending.old.items }
     ensures read { GivesOn result (place_all tree.new pending.new.items) (with_entry (place_all tree.old pending.old.items) number (path, entry)) }
     ensures pending { OnOk result (ArePending (number + 1) pending.new.items) }
+    ensures fault { IfErr result (IsDuplicateOrAt number (place_all tree.old pending.old.items)) }
 {
     if Slot::of(&path).is_some() {
         if pending.len() >= most_pending(tree.len()) {
@@ -117,6 +121,7 @@ fn flush(
     requires rising { AreRising pending.old.items }
     ensures tree { GivesOn result (Ok tree.new) (place_all tree.old pending.old.items) }
     ensures empty { OnOk result (pending.new.items ≡ []) }
+    ensures fault { IfErr result IsDuplicate }
 {
     let entries = mem::replace(pending, Vec::new(alloc));
     match insert_all(tree, entries)? {
@@ -146,6 +151,7 @@ fn place(tree: &mut Tree, path: TreePath, entry: Entry) -> Result<(), ReadError<
 
 fn read_header<S: Source>(source: &mut S) -> Result<(), ReadError<InventoryFault>>
     ensures header { (bytes : List ℕ) → S.left source.old ≡ Some bytes → ReadsFront (λ x. x) (S.left source.new) result (header_at bytes) }
+    ensures stops { StopsInTime (IsCutPrefix header) result (S.left source.old) (S.left source.new) }
     ensures counters { AccountsRead result (S.counters source.old) (S.counters source.new) }
 {
     if skip_prefix(HEADER, source)? {
@@ -162,12 +168,35 @@ fn read_entry<S: Source>(
     room: bool,
 ) -> Result<Option<(TreePath, Entry)>, ReadError<InventoryFault>>
     ensures entry { (bytes : List ℕ) → S.left source.old ≡ Some bytes → ReadsFront (λ x. x) (S.left source.new) result (entry_at room (front_line MAX_LINE bytes)) }
+    ensures stops { StopsInTime (λ taken. entry_at room (front_line MAX_LINE taken) ≡ Err InventoryFault.Truncated) result (S.left source.old) (S.left source.new) }
     ensures room { IfOk result (λ entry. is_some entry ≡ true → IsTrue room) }
     ensures counters { AccountsRead result (S.counters source.old) (S.counters source.new) }
 {
-    match read_entry_line(alloc, source)? {
+    let line = read_entry_line(alloc, source)?;
+    if room {
+        return read_entry_of(alloc, source, line);
+    }
+    match line {
         EntryLine::End => Ok(None),
-        _ if !room => Err(ReadError::Fault(InventoryFault::TooMany)),
+        EntryLine::File(..) | EntryLine::Link(..) => {
+            Err(ReadError::Fault(InventoryFault::TooMany))
+        }
+    }
+}
+
+/// Reads what follows the line of an entry: the bytes of a file, nothing of a link.
+fn read_entry_of<S: Source>(
+    alloc: Global,
+    source: &mut S,
+    line: EntryLine,
+) -> Result<Option<(TreePath, Entry)>, ReadError<InventoryFault>>
+    requires { IsSized line }
+    ensures entry { (bytes : List ℕ) → S.left source.old ≡ Some bytes → ReadsFront (λ x. x) (S.left source.new) result (entry_of line bytes) }
+    ensures stops { StopsInTime (λ taken. entry_of line taken ≡ Err InventoryFault.Truncated) result (S.left source.old) (S.left source.new) }
+    ensures counters { AccountsRead result (S.counters source.old) (S.counters source.new) }
+{
+    match line {
+        EntryLine::End => Ok(None),
         EntryLine::File(path, size) => {
             let contents = read_contents(alloc, source, size)?;
             Ok(Some((path, Entry::File(contents))))
@@ -181,6 +210,7 @@ fn read_entry_line<S: Source>(
     source: &mut S,
 ) -> Result<EntryLine, ReadError<InventoryFault>>
     ensures line { (bytes : List ℕ) → S.left source.old ≡ Some bytes → ReadsFront (λ x. x) (S.left source.new) result (line_of_front (front_line MAX_LINE bytes)) }
+    ensures stops { StopsInTime (λ taken. line_of_front (front_line MAX_LINE taken) ≡ Err InventoryFault.Truncated) result (S.left source.old) (S.left source.new) }
     ensures sized { IfOk result IsSized }
     ensures counters { AccountsRead result (S.counters source.old) (S.counters source.new) }
 {
@@ -207,6 +237,7 @@ fn read_contents<S: Source>(
 ) -> Result<Contents, ReadError<InventoryFault>>
     requires { size ≤ MAX_FILE }
     ensures contents { (bytes : List ℕ) → S.left source.old ≡ Some bytes → ReadsFront (λ x. x) (S.left source.new) result (contents_at size bytes) }
+    ensures stops { StopsInTime (λ taken. contents_at size taken ≡ Err InventoryFault.Truncated) result (S.left source.old) (S.left source.new) }
     ensures counters { AccountsRead result (S.counters source.old) (S.counters source.new) }
 {
     let Some(bytes) = read_bytes(alloc, source, size)? else {

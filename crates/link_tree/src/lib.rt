@@ -27,7 +27,7 @@ pub use inventory_fault::{InventoryError, InventoryFault};
 pub use iter::Iter;
 pub use laws::{
     changes_are_taken_back, changes_lead_from_tree_to_tree, inventories_are_read_back,
-    lengths_have_one_spelling,
+    inventories_are_their_entries, lengths_have_one_spelling,
 };
 pub use tree::{Tree, push_decimal};
 pub use unit_paths::{

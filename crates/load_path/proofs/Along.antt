@@ -22,9 +22,6 @@ first_cell cell cells = (0, omega arith, refl)
 pub later_cell : (first cell : List ℕ) (cells : List (List ℕ)) → Contains cells cell → Contains (first ∷ cells) cell
 later_cell first cell cells (k, within, is) = (suc k, omega (arith, within), is)
 
-same_link : (one other : List ℕ) → Some (entries.Link one) ≡ Some (entries.Link other) → one ≡ other
-same_link one other h = cc
-
 module _ (t : Entries) (cell : List ℕ) where
   -- the cell is reached from a path by fewer than so many links
   abbrev Reached : ℕ → List ℕ → Type 0

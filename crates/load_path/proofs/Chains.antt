@@ -73,7 +73,7 @@ follow-led : (t : Entries) (path : List ℕ) → LeadsTo t 8 path ((follow path)
 unfolding follow
 follow-led t path = followed-led t path (map.get t path) refl
 
-same-link : (one other : List ℕ) → Some (entries.Link one) ≡ Some (entries.Link other) → one ≡ other
+pub same-link : (one other : List ℕ) → Some (entries.Link one) ≡ Some (entries.Link other) → one ≡ other
 same-link one other h = cc
 
 same-path : (one other : List ℕ) → Some one ≡ Some other → one ≡ other

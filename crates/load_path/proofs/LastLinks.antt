@@ -11,9 +11,7 @@ use Rattle.load_path.specs.Follow.{is_null, at_file, by_entry, by_path, chain, c
 use Rattle.load_path.specs.Chains.{IsFileAt, LinksTo, Leads}
 use Rattle.load_path.specs.Chains.Leads.{Here, Onward}
 use Rattle.load_path.specs.Laws.{IsLastLink}
-
-same_link : (one other : List ℕ) → Some (entries.Link one) ≡ Some (entries.Link other) → one ≡ other
-same_link one other h = cc
+use Rattle.load_path.proofs.Chains.{same-link}
 
 file_at : (contents next link : List ℕ) → 0 < length contents → at_file contents next link ≡ File next link
 file_at [] next link some = absurd (omega (arith, some))
@@ -59,7 +57,7 @@ module _ (t : Entries) (last file : List ℕ) where
       → (chain (suc links) before link target).conclusion t ≡ (by_entry (chain links link next) next link (map.get t next)).conclusion t
   unfolding chain
   next_is links before link target next is linked =
-      let same : linked.0 ≡ target = same_link linked.0 target (sym linked.1 ∙ is) in
+      let same : linked.0 ≡ target = same-link linked.0 target (sym linked.1 ∙ is) in
       ap (λ o. (by_path (chain links link) link o).conclusion t) (ap (canonical link) (sym same) ∙ linked.2)
       ∙ ap (λ b. (cond b (over Null) (look next >>= by_entry (chain links link next) next link)).conclusion t) linked.3
 

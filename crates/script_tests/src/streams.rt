@@ -35,6 +35,7 @@ impl<'a> Source for Faulty<'a> {
     fn byte(&mut self) -> Result<Option<u8>, Stop> {
         if self.counters.interruptions < self.interruptions {
             self.counters.interruptions = self.counters.interruptions.saturating_add(1);
+            self.counters.longest_row = self.counters.longest_row.max(self.counters.interruptions);
             return Err(Stop::Interrupted);
         }
         self.counters.interruptions = 0;

@@ -1,7 +1,6 @@
 -- How the bytes of a unit file are read.
 use Rattle.std.specs.Prelude.{◌≡◌, ℕ, Bool, true, false, nat_lt, List, length, Result, Ok, Err}
 use Rattle.std.specs.List.{list_any}
-use Rattle.unit_file.specs.declared.fault.TheConstants.{MAX_LINE}
 use Rattle.unit_file.specs.declared.fault.InstallFault.TheVariants.{LineTooLong}
 use Rattle.unit_file.specs.declared.fault.InstallError.{InstallError}
 use Rattle.unit_file.specs.declared.fault.InstallError.TheVariants as errors
@@ -15,7 +14,7 @@ text_of bytes = install_text (logical_lines bytes)
 
 -- "The limit on line length is very large (currently 1 MB)": of a line as it is joined, and not yet stripped.
 abbrev pub is_too_long : List ℕ → Bool
-is_too_long line = nat_lt MAX_LINE (length line)
+is_too_long line = nat_lt 1048576 (length line)
 
 unfoldable pub has_long_line : List ℕ → Bool
 has_long_line bytes = list_any is_too_long (joined_lines bytes)

@@ -20,7 +20,7 @@ use std::alloc::{AllocError, Global};
 pub fn install_of(alloc: Global, bytes: &[u8]) -> Result<InstallText, InstallError>
     ensures read { Reads bytes.now result }
     // A file of no more bytes has no such line.
-    ensures small { length bytes.now ≤ MAX_LINE → has_long_line bytes.now ≡ false }
+    ensures small { length bytes.now ≤ 1048576 → has_long_line bytes.now ≡ false }
 {
     if has_long_line(bytes) {
         return Err(InstallError::Bad(InstallFault::LineTooLong));

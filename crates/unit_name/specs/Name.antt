@@ -2,7 +2,6 @@
 use Rattle.std.specs.Prelude.{◌≡◌, ℕ, Bool, not, ◌==◌, nat_lt, if◌then◌else◌, List, [], ◌∷◌, ◌++◌, length, Option, Some, None, is_none, Result, Ok, Err, codes}
 use Rattle.std.specs.List.{list_all, list_any, find, before_first, after_first, before_last, after_last}
 use Rattle.std.specs.Str.{bytes_eq}
-use Rattle.unit_name.specs.declared.fault.TheConstants.{MAX_NAME}
 use Rattle.unit_name.specs.declared.kind.UnitType.{UnitType}
 use Rattle.unit_name.specs.declared.kind.UnitType.TheVariants as types
 use Rattle.unit_name.specs.declared.fault.NameFault.{NameFault}
@@ -62,7 +61,7 @@ part_fault text =
 -- What is wrong with a text: the first of these.
 unfoldable pub name_fault : List ℕ → Option NameFault
 name_fault text =
-    if nat_lt MAX_NAME (length text) then Some TooLong
+    if nat_lt 255 (length text) then Some TooLong
     else if not (list_all is_name_byte text) then Some BadCharacter
     else part_fault text
 
@@ -72,7 +71,7 @@ is_unit_name text = is_none (name_fault text)
 -- What is wrong with an instance for a name: the first of these.
 unfoldable pub instance_fault : List ℕ → List ℕ → Option InstanceFault
 instance_fault text instance =
-    if nat_lt MAX_NAME (length (with_instance text instance)) then Some instances.TooLong
+    if nat_lt 255 (length (with_instance text instance)) then Some instances.TooLong
     else if not (list_all is_name_byte instance) then Some instances.BadCharacter
     else None
 

@@ -2,7 +2,6 @@
 use Rattle.std.specs.Prelude.{◌≡◌, ℕ, ◌<◌, ◌≤◌, Bool, true, false, ◌||◌, ◌==◌, List, [], ◌∷◌, ◌++◌, length, Option, Some, None, codes}
 use Rattle.std.specs.Char.{is_ascii_alphanumeric}
 use Rattle.std.specs.List.{list_all, list_any}
-use Rattle.unit_name.specs.declared.fault.TheConstants.{MAX_NAME}
 use Rattle.unit_name.specs.declared.kind.Kind.{Kind}
 use Rattle.unit_name.specs.declared.kind.Kind.TheVariants.{Plain, Template, Instance}
 use Rattle.unit_name.specs.declared.kind.UnitType.{UnitType}
@@ -56,7 +55,7 @@ pub record IsSpelledBy (text : List ℕ) (parts : Parts) : Type 0 where
   pub with_prefix : 0 < length parts.prefix
   pub first_at : list_any is_at parts.prefix ≡ false
   pub name_bytes : list_all is_name_byte text ≡ true
-  pub short : length text ≤ MAX_NAME
+  pub short : length text ≤ 255
 
 -- A unit name is a text that some parts spell.
 abbrev pub IsUnitName : List ℕ → Type 0

@@ -3,7 +3,6 @@ use Rattle.std.specs.Prelude.{ℕ, ◌+◌, take, drop, Bool, false, ◌&&◌, n
 use Rattle.std.specs.List.{slice_split, starts_with, position}
 use Rattle.std.specs.Option.{option_map, option_map_or}
 use Rattle.std.specs.Str.{bytes_eq}
-use Rattle.unit_paths.specs.declared.fault.TheConstants.{MAX_PATH}
 use Rattle.unit_paths.specs.Paths.{is_part, is_slash, is_path, parent}
 use Prim.Native.Char.{code}
 
@@ -45,7 +44,7 @@ canonical link target = if is_path (canonical_text link target) then Some (canon
 
 -- neither the root nor too long
 abbrev pub fits : List ℕ → Bool
-fits text = nat_lt 0 (length text) && nat_le (length text) MAX_PATH
+fits text = nat_lt 0 (length text) && nat_le (length text) 4095
 
 -- whether a link at a path with a target leads to /dev/null
 unfoldable pub is_null_target : List ℕ → List ℕ → Bool

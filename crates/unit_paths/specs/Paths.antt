@@ -1,7 +1,6 @@
 -- Paths and targets, as texts.
 use Rattle.std.specs.Prelude.{ℕ, Bool, true, false, not, ◌||◌, ◌&&◌, ◌==◌, nat_lt, nat_le, if◌then◌else◌, List, [], ◌∷◌, ◌++◌, length, Option, Some, None, codes}
 use Rattle.std.specs.List.{list_all, slice_split, before_last, after_last}
-use Rattle.unit_paths.specs.declared.fault.TheConstants.{MAX_PATH}
 use Prim.Native.Char.{code}
 
 -- no NUL, TAB or LF
@@ -24,10 +23,10 @@ is_absolute [] = false
 is_absolute (b ∷ bs) = is_slash b && list_all is_part (slice_split is_slash bs)
 
 unfoldable pub is_path : List ℕ → Bool
-is_path text = nat_le (length text) MAX_PATH && (list_all is_text_byte text && is_absolute text)
+is_path text = nat_le (length text) 4095 && (list_all is_text_byte text && is_absolute text)
 
 unfoldable pub is_target : List ℕ → Bool
-is_target text = nat_lt 0 (length text) && (nat_le (length text) MAX_PATH && list_all is_text_byte text)
+is_target text = nat_lt 0 (length text) && (nat_le (length text) 4095 && list_all is_text_byte text)
 
 abbrev pub is_root : List ℕ → Bool
 is_root [] = true

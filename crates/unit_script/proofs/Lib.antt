@@ -4,5 +4,5 @@ pub mod Numbers
 pub mod ScriptLines
 pub mod WordLists
 pub mod Histories
-pub mod ScriptEnds
 pub mod NumberWords
+pub mod OpenLines

@@ -6,6 +6,7 @@ pub mod Machine
 pub mod Requests
 pub mod Runs
 pub mod Script
+pub mod OpenScripts
 pub mod ScriptReads
 pub mod Texts
 pub mod Words

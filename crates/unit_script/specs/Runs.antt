@@ -2,13 +2,12 @@
 -- `FaultCause`; what stands below them is for the proofs of its steps alone.
 use Rattle.std.specs.Prelude.{◌≡◌, ℕ, nat_lt, if◌then◌else◌, List, length, Option, Some, Result, Ok, Err}
 use Rattle.std.specs.Io.KnownBytes.{Appends, Keeps}
-use Rattle.byte_streams.specs.Streams.{HasCause, StopsIn}
+use Rattle.byte_streams.specs.Streams.{HasCause, StopsIn, Takes}
 use Rattle.byte_streams.specs.declared.counters.Counters.{Counters}
 use Rattle.link_tree.specs.Trees.{Entries}
 use Rattle.link_tree.specs.Inventory.{◌>>=◌, inventory_of}
 use Rattle.link_tree.specs.declared.inventory_fault.InventoryFault.{InventoryFault}
 use Rattle.unit_script.specs.declared.call.Call.{Call}
-use Rattle.history.specs.declared.history.TheConstants.{MAX_ROWS}
 use Rattle.unit_script.specs.declared.reason.ScriptFault.{ScriptFault}
 use Rattle.unit_script.specs.declared.reason.ScriptFault.TheVariants.{NoCalls, Bad}
 use Rattle.unit_script.specs.declared.run_fault.InputFault.{InputFault}
@@ -19,6 +18,8 @@ use Rattle.unit_script.specs.declared.run_fault.RunFault.{RunFault}
 use Rattle.unit_script.specs.declared.run_fault.RunFault.TheVariants as runs
 use Rattle.unit_script.specs.Machine.{rows_of}
 use Rattle.unit_script.specs.Script.{script_of}
+use Rattle.unit_script.specs.OpenScripts.{IsOpenInput, IsOpenScript}
+use Rattle.link_tree.specs.Reads.{IsUndecided}
 use Rattle.unit_script.specs.Texts.{text_of}
 
 abbrev pub in_inventory : {A : Type 0} → Result A (InventoryFault × ℕ) → Result A InputFault
@@ -31,7 +32,7 @@ in_script (Err fault) = Err (Script fault)
 
 -- the output for calls on a tree; each call makes a row
 unfoldable pub text_of_calls : Entries → List Call → Result (List ℕ) InputFault
-text_of_calls tree calls = if nat_lt MAX_ROWS (length calls) then Err Full else Ok (text_of tree (rows_of tree calls))
+text_of_calls tree calls = if nat_lt 1000000 (length calls) then Err Full else Ok (text_of tree (rows_of tree calls))
 
 -- The output for an input, or the input's first fault: that of the inventory, then that of the script behind it, then too many calls.
 abbrev pub outcome_of : List ℕ → Result (List ℕ) InputFault
@@ -85,6 +86,20 @@ InputCause (inputs.InventoryRead n) old new = HasCause old new
 InputCause inputs.ReadFault old new = HasCause old new
 InputCause (inputs.Fault fault) old new = Unit {0}
 InputCause inputs.OutOfMemory old new = Unit {0}
+
+-- for the proofs: how far the input was read at a read fault
+abbrev pub InputStops : InputError → (old new : Option (List ℕ)) → Type 0
+InputStops (inputs.InventoryRead n) old new = Takes old new (λ taken rest. IsUndecided n taken)
+InputStops inputs.ReadFault old new = Takes old new (λ taken rest. IsOpenInput taken)
+InputStops (inputs.Fault fault) old new = Unit {0}
+InputStops inputs.OutOfMemory old new = Unit {0}
+
+-- for the proofs: the same of the script alone
+abbrev pub ScriptStops : InputError → (old new : Option (List ℕ)) → Type 0
+ScriptStops (inputs.InventoryRead n) old new = ⊥
+ScriptStops inputs.ReadFault old new = Takes old new (λ taken rest. IsOpenScript taken)
+ScriptStops (inputs.Fault fault) old new = Unit {0}
+ScriptStops inputs.OutOfMemory old new = Unit {0}
 
 -- for the proofs: the tree that was read is the inventory's, and the source has what follows it left
 abbrev pub TreeOfInput : Option (List ℕ) → Result Entries InputError → Result (Entries × List ℕ) InputFault → Type 0

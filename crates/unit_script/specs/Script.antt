@@ -12,7 +12,6 @@ use Rattle.unit_script.specs.declared.reason.Reason.{Reason}
 use Rattle.unit_script.specs.declared.reason.Reason.TheVariants.{TooManyLines, LineTooLong, BadOperator}
 use Rattle.unit_script.specs.declared.reason.ScriptFault.{ScriptFault}
 use Rattle.unit_script.specs.declared.reason.ScriptFault.TheVariants.{NoCalls, Bad}
-use Rattle.unit_script.specs.declared.script.TheConstants.{MAX_LINE, MAX_LINES}
 use Rattle.unit_script.specs.Words.{is_word}
 use Rattle.unit_script.specs.Requests.{request_of}
 use Prim.Native.Char.{code}
@@ -72,7 +71,7 @@ at_limit number calls front = if is_no_line front then Ok calls else Err (Bad nu
 unfoldable pub calls_at : ℕ → ℕ → List Call → List ℕ → Result (List Call) ScriptFault
 calls_at zero number calls bytes = at_limit number calls (front_line 0 bytes)
 calls_at (suc more) number calls bytes = do
-  found ← in_line number (call_of_front (front_line MAX_LINE bytes))
+  found ← in_line number (call_of_front (front_line 65536 bytes))
   option_map_or (calls_at more (number + 1) (with_call calls found.0)) found.1 (Ok (with_call calls found.0))
 
 abbrev pub is_calls_line : List ℕ → Bool
@@ -86,4 +85,4 @@ after_calls_line (Whole line rest) = if is_calls_line line then Ok (Some rest) e
 
 -- the calls of a script
 abbrev pub script_of : List ℕ → Result (List Call) ScriptFault
-script_of bytes = after_calls_line (front_line 8 bytes) >>= λ rest. option_map_or (calls_at MAX_LINES 1 []) rest (Ok [])
+script_of bytes = after_calls_line (front_line 8 bytes) >>= λ rest. option_map_or (calls_at 2000000 1 []) rest (Ok [])

@@ -1,6 +1,6 @@
 -- For the proofs of this crate: what each step of reading a script returns, beside what the bytes say. No public contract cites it.
-use Rattle.std.specs.Prelude.{◌≡◌, ℕ, Bool, MatchBool, List, Option, Some, None, Result, Ok, Err}
-use Rattle.byte_streams.specs.Lines.{front_line}
+use Rattle.std.specs.Prelude.{◌≡◌, ◌⊎◌, ℕ, Bool, MatchBool, List, [], ◌∷◌, ◌++◌, Option, Some, None, Result, Ok, Err, IsOk}
+use Rattle.byte_streams.specs.Lines.{front_line, Last}
 use Rattle.byte_streams.specs.Reads.{FailsAs}
 use Rattle.byte_streams.specs.declared.read_error.ReadError.{ReadError}
 use Rattle.byte_streams.specs.declared.read_error.ReadError.TheVariants as errors
@@ -8,9 +8,10 @@ use Rattle.unit_script.specs.declared.call.Call.{Call}
 use Rattle.unit_script.specs.declared.reason.Reason.{Reason}
 use Rattle.unit_script.specs.declared.reason.ScriptFault.{ScriptFault}
 use Rattle.unit_script.specs.declared.reason.ScriptFault.TheVariants.{Bad}
-use Rattle.unit_script.specs.declared.script.TheConstants.{MAX_LINE}
 use Rattle.unit_script.specs.declared.script.ReadCall.{ReadCall}
-use Rattle.unit_script.specs.Script.{call_of_front}
+use Rattle.unit_script.specs.Script.{call_of_front, calls_at}
+use Rattle.unit_script.specs.OpenScripts.{EndsLine}
+use Prim.Native.Char.{code}
 
 -- the call that was read, and whether its line had an end: then the source has the bytes behind it left
 abbrev pub IsCall : Option (List ℕ) → ReadCall → Result (Option Call × Option (List ℕ)) Reason → Type 0
@@ -22,7 +23,7 @@ CallOf left (Ok found) read = IsCall left found read
 CallOf left (Err e) read = FailsAs e read
 
 abbrev pub ReadsCall : Option (List ℕ) → Option (List ℕ) → Result ReadCall (ReadError Reason) → Type 0
-ReadsCall old new r = (bytes : List ℕ) → old ≡ Some bytes → CallOf new r (call_of_front (front_line MAX_LINE bytes))
+ReadsCall old new r = (bytes : List ℕ) → old ≡ Some bytes → CallOf new r (call_of_front (front_line 65536 bytes))
 
 -- the error of reading the line of this number, as that of the script
 abbrev pub script_error_of : ℕ → ReadError Reason → ReadError ScriptFault
@@ -34,3 +35,13 @@ script_error_of number errors.OutOfMemory = errors.OutOfMemory
 abbrev pub CallsLineOf : Option (List ℕ) → Result Bool (ReadError ScriptFault) → Result (Option (List ℕ)) ScriptFault → Type 0
 CallsLineOf left (Ok has_end) read = MatchBool has_end ((rest : List ℕ) × (left ≡ Some rest) × (read ≡ Ok (Some rest))) (read ≡ Ok None)
 CallsLineOf left (Err e) read = FailsAs e read
+
+-- The calls of whole lines, and behind these the front of a line, if there is room for one more.
+pub record IsOpenCalls (taken : List ℕ) : Type 0 where
+  pub lines : List ℕ
+  pub part : List ℕ
+  pub is : taken ≡ lines ++ part
+  pub ends : (lines ≡ []) ⊎ EndsLine lines
+  pub whole : IsOk (calls_at 2000000 1 [] lines)
+  pub short : front_line 65536 part ≡ Last part
+  pub room : (part ≡ []) ⊎ IsOk (calls_at 2000000 1 [] (lines ++ code "\n" ∷ []))

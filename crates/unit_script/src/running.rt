@@ -1,5 +1,5 @@
 //! A run: from an inventory and a script to the replies and the inventory that is left.
-ghost use Rattle.std.specs.Prelude.{◌≡◌, ◌<◌, ◌≤◌, ◌++◌, ◌⊎◌, ℕ, List, length, Some, true, OnOk, IfOk, IfErr, IsErrOf};
+ghost use Rattle.std.specs.Prelude.{◌≡◌, ◌<◌, ◌≤◌, ◌++◌, ◌⊎◌, ℕ, List, length, Option, Some, true, OnOk, IfOk, IfErr, IsErrOf};
 ghost use Rattle.std.specs.Io.KnownBytes.{Appends};
 ghost use Rattle.link_tree.specs.Reads.{AccountsWrite, SentBefore};
 ghost use Rattle.byte_streams.specs.Streams.{IsCalm};
@@ -11,8 +11,9 @@ ghost use Rattle.history.specs.declared.history.TheConstants.{MAX_ROWS};
 ghost use Rattle.unit_script.specs.Actions.{asks, meaning};
 ghost use Rattle.unit_script.specs.Machine.{asked, replay, rows_of};
 ghost use Rattle.unit_script.specs.Script.{script_of};
+ghost use Rattle.unit_script.specs.OpenScripts.{RunStops};
 ghost use Rattle.unit_script.specs.Texts.{text_of};
-ghost use Rattle.unit_script.specs.Runs.{TreeOfInput, outcome_of, text_of_calls, in_inventory, in_script, GivesInput, InputCause, WritesAll, FaultOf, Silent, FaultCause};
+ghost use Rattle.unit_script.specs.Runs.{InputStops, ScriptStops, TreeOfInput, outcome_of, text_of_calls, in_inventory, in_script, GivesInput, InputCause, WritesAll, FaultOf, Silent, FaultCause};
 
 use crate::action::Action;
 use crate::call::Call;
@@ -69,6 +70,7 @@ fn history_of_calls(
 ) -> Result<History<Action>, InputError>
     ensures text { GivesInput (λ history. text_of history.first history.rows) result (text_of_calls tree calls.items) }
     ensures limit { IfOk result (λ history. history.limit ≤ MAX_ROWS) }
+    ensures stops { IfErr result (λ e. (old new : Option (List ℕ)) → InputStops e old new) }
     ensures cause { IfErr result (λ e. (old new : Counters) → InputCause e old new) }
 {
     match history_of(alloc, tree, calls) {
@@ -80,6 +82,7 @@ fn history_of_calls(
 
 fn read_tree<S: Source>(alloc: Global, source: &mut S) -> Result<Tree, InputError>
     ensures tree { (input : List ℕ) → S.left source.old ≡ Some input → TreeOfInput (S.left source.new) result (in_inventory (inventory_of input)) }
+    ensures stops { IfErr result (λ e. InputStops e (S.left source.old) (S.left source.new)) }
     ensures calm { OnOk result (IsCalm (S.counters source.old) (S.counters source.new)) }
     ensures cause { IfErr result (λ e. InputCause e (S.counters source.old) (S.counters source.new)) }
 {
@@ -95,6 +98,7 @@ fn read_tree<S: Source>(alloc: Global, source: &mut S) -> Result<Tree, InputErro
 
 fn read_calls<S: Source>(alloc: Global, source: &mut S) -> Result<Vec<Call>, InputError>
     ensures calls { (bytes : List ℕ) → S.left source.old ≡ Some bytes → GivesInput (λ calls. calls.items) result (in_script (script_of bytes)) }
+    ensures stops { IfErr result (λ e. ScriptStops e (S.left source.old) (S.left source.new)) }
     ensures cause { IfErr result (λ e. InputCause e (S.counters source.old) (S.counters source.new)) }
 {
     match read_script(alloc, source) {
@@ -108,6 +112,7 @@ fn read_calls<S: Source>(alloc: Global, source: &mut S) -> Result<Vec<Call>, Inp
 /// Reads the whole input, and makes its calls.
 fn history_of_input<S: Source>(alloc: Global, source: &mut S) -> Result<History<Action>, InputError>
     ensures text { (input : List ℕ) → S.left source.old ≡ Some input → GivesInput (λ history. text_of history.first history.rows) result (outcome_of input) }
+    ensures stops { IfErr result (λ e. InputStops e (S.left source.old) (S.left source.new)) }
     ensures limit { IfOk result (λ history. history.limit ≤ MAX_ROWS) }
     ensures cause { IfErr result (λ e. InputCause e (S.counters source.old) (S.counters source.new)) }
 {
@@ -171,6 +176,7 @@ pub fn run<S: Source, K: Sink>(alloc: Global, source: &mut S, sink: &mut K) -> R
     ensures ok { OnOk result ((input : List ℕ) → S.left source.old ≡ Some input → WritesAll (K.written sink.old) (K.written sink.new) (outcome_of input)) }
     ensures flushed { OnOk result (K.flushed sink.new ≡ true) }
     ensures fault { IfErr result (λ e. (input : List ℕ) → S.left source.old ≡ Some input → FaultOf e (K.written sink.old) (K.written sink.new) (outcome_of input)) }
+    ensures stops { IfErr result (λ e. RunStops e (S.left source.old) (S.left source.new)) }
     ensures silent { IfErr result (λ e. Silent e (K.written sink.old) (K.written sink.new)) }
     ensures cause { IfErr result (λ e. FaultCause e (S.counters source.old) (S.counters source.new) (K.counters sink.old) (K.counters sink.new)) }
 {

@@ -1,9 +1,10 @@
 //! Scripts: the lines after an inventory.
 ghost use Rattle.std.specs.Prelude.{◌≡◌, ℕ, List, [], Option, Some, OnOk};
-ghost use Rattle.byte_streams.specs.Lines.{Front, IsFront, front_line};
-ghost use Rattle.byte_streams.specs.Reads.{AccountsRead, ReadsWhole};
+ghost use Rattle.byte_streams.specs.Lines.{Front, IsFront, Last, front_line};
+ghost use Rattle.byte_streams.specs.Reads.{AccountsRead, ReadsWhole, StopsInTime};
 ghost use Rattle.unit_script.specs.Script.{call_of_front, with_call, at_limit, is_no_line, is_calls_line, after_calls_line, calls_at, script_of};
-ghost use Rattle.unit_script.specs.ScriptReads.{CallOf, ReadsCall, CallsLineOf};
+ghost use Rattle.unit_script.specs.ScriptReads.{CallOf, CallsLineOf, IsOpenCalls, ReadsCall};
+ghost use Rattle.unit_script.specs.OpenScripts.{IsOpenScript};
 ghost use Rattle.unit_script.specs.declared.call.Call.{Call as CallSeen};
 
 use crate::call::Call;
@@ -43,6 +44,7 @@ fn call_of_read(alloc: Global, line: Line) -> Result<ReadCall, ReadError<Reason>
 
 fn read_call<S: Source>(alloc: Global, source: &mut S) -> Result<ReadCall, ReadError<Reason>>
     ensures call { ReadsCall (S.left source.old) (S.left source.new) result }
+    ensures stops { StopsInTime (λ taken. front_line 65536 taken ≡ Last taken) result (S.left source.old) (S.left source.new) }
     ensures counters { AccountsRead result (S.counters source.old) (S.counters source.new) }
 {
     let line = read_line(alloc, source, MAX_LINE, Reason::LineTooLong)?;
@@ -65,6 +67,7 @@ fn read_end<S: Source>(
     number: u32,
 ) -> Result<(), ReadError<ScriptFault>>
     ensures end { (bytes : List ℕ) → S.left source.old ≡ Some bytes → (calls : List CallSeen) → ReadsWhole (λ _. calls) result (at_limit number calls (front_line 0 bytes)) }
+    ensures stops { StopsInTime (λ taken. taken ≡ []) result (S.left source.old) (S.left source.new) }
     ensures counters { AccountsRead result (S.counters source.old) (S.counters source.new) }
 {
     let too_many = ScriptFault::Bad(number, Reason::TooManyLines);
@@ -86,7 +89,8 @@ fn add_call(calls: &mut Vec<Call>, call: Option<Call>) -> Result<(), AllocError>
 }
 
 fn read_calls<S: Source>(alloc: Global, source: &mut S) -> Result<Vec<Call>, ReadError<ScriptFault>>
-    ensures calls { (bytes : List ℕ) → S.left source.old ≡ Some bytes → ReadsWhole (λ calls. calls.items) result (calls_at MAX_LINES 1 [] bytes) }
+    ensures calls { (bytes : List ℕ) → S.left source.old ≡ Some bytes → ReadsWhole (λ calls. calls.items) result (calls_at 2000000 1 [] bytes) }
+    ensures stops { StopsInTime IsOpenCalls result (S.left source.old) (S.left source.new) }
     ensures counters { AccountsRead result (S.counters source.old) (S.counters source.new) }
 {
     let mut calls = Vec::new(alloc);
@@ -134,6 +138,7 @@ fn calls_line_of(line: Line) -> Result<bool, ReadError<ScriptFault>>
 /// Reads the line before all calls, and answers whether it had an end.
 fn read_calls_line<S: Source>(alloc: Global, source: &mut S) -> Result<bool, ReadError<ScriptFault>>
     ensures first { (bytes : List ℕ) → S.left source.old ≡ Some bytes → CallsLineOf (S.left source.new) result (after_calls_line (front_line 8 bytes)) }
+    ensures stops { StopsInTime (λ taken. front_line 8 taken ≡ Last taken) result (S.left source.old) (S.left source.new) }
     ensures counters { AccountsRead result (S.counters source.old) (S.counters source.new) }
 {
     let line = read_line(alloc, source, 8, ScriptFault::NoCalls)?;
@@ -154,12 +159,13 @@ fn read_calls_line<S: Source>(alloc: Global, source: &mut S) -> Result<bool, Rea
 /// - `ReadFault`: the source failed, or was interrupted 1,000 times in a row.
 /// - `OutOfMemory`.
 ///
-/// How much of the source was read then isn't said.
+/// A fault is told with the byte that decides it, or at the end, and a read fault comes only while nothing is decided.
 pub fn read_script<S: Source>(
     alloc: Global,
     source: &mut S,
 ) -> Result<Vec<Call>, ReadError<ScriptFault>>
     ensures calls { (bytes : List ℕ) → S.left source.old ≡ Some bytes → ReadsWhole (λ calls. calls.items) result (script_of bytes) }
+    ensures stops { StopsInTime IsOpenScript result (S.left source.old) (S.left source.new) }
     ensures counters { AccountsRead result (S.counters source.old) (S.counters source.new) }
 {
     match read_calls_line(alloc, source) {

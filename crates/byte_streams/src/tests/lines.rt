@@ -18,7 +18,7 @@ struct OneByOne<'a> {
 impl<'a> Source for OneByOne<'a> {
     ghost left = { λ _. None };
 
-    ghost counters = { λ _. record { failures = 0; interruptions = 0 } };
+    ghost counters = { λ _. record { failures = 0; interruptions = 0; longest_row = 0 } };
 
     fn byte(&mut self) -> Result<Option<u8>, Stop> {
         match self.left {

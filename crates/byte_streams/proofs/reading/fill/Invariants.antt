@@ -1,11 +1,12 @@
-use Rattle.std.proofs.Common.{◌≡◌, ◌≤◌, ◌-◌, length, take}
+use Rattle.std.proofs.Common.{◌≤◌, ◌-◌, length, take}
+use Rattle.byte_streams.specs.Streams.{IsCalm}
 use Rattle.byte_streams.proofs.Blocks.{Reached}
 use Rattle.byte_streams.proofs.reading.fill.Given as goal
 
 -- the front of the room, before what is left
 abbrev pub invariant-pieces : goal.invariant-pieces
 invariant-pieces g l = record {
-  failures : (g.S.Source.counters l.source).failures ≡ (g.S.Source.counters l.fn.source).failures;
+  calm : IsCalm (g.S.Source.counters l.fn.source) (g.S.Source.counters l.source);
   few : l.filled ≤ length l.room;
   bytes : Reached (g.S.Source.left l.fn.source) (g.S.Source.left l.source) (take l.filled l.room);
 }

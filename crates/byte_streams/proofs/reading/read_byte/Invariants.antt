@@ -1,4 +1,5 @@
-use Rattle.std.proofs.Common.{◌≡◌, ◌≤◌}
+use Rattle.std.proofs.Common.{◌≡◌, ◌+◌, ◌≤◌}
+use Rattle.std.specs.Prelude.{max}
 use Rattle.std.specs.Io.KnownBytes.{Keeps}
 use Rattle.byte_streams.proofs.reading.read_byte.Given as goal
 
@@ -7,5 +8,7 @@ abbrev pub invariant-loop-tried : goal.invariant-loop-tried
 invariant-loop-tried g l = record {
   bytes : Keeps (g.S.Source.left l.fn.source) (g.S.Source.left l.source);
   failures : (g.S.Source.counters l.source).failures ≡ (g.S.Source.counters l.fn.source).failures;
-  interruptions : l._tried ≤ (g.S.Source.counters l.source).interruptions;
+  at_least : l._tried ≤ (g.S.Source.counters l.source).interruptions;
+  at_most : (g.S.Source.counters l.source).interruptions ≤ (g.S.Source.counters l.fn.source).interruptions + l._tried;
+  longest_row : (g.S.Source.counters l.source).longest_row ≤ max (g.S.Source.counters l.fn.source).longest_row ((g.S.Source.counters l.fn.source).interruptions + l._tried);
 }

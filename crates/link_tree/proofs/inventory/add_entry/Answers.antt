@@ -6,7 +6,9 @@ use Rattle.link_tree.specs.declared.pending.PendingEntry.{PendingEntry}
 use Rattle.link_tree.proofs.Flushing.{one_pending, all_pending, none_pending}
 use Rattle.link_tree.proofs.Shapes.{fits_from}
 use Rattle.unit_paths.proofs.Slots.{slot_shape}
+use Rattle.link_tree.proofs.Stops.{place_refused}
 use Rattle.link_tree.proofs.inventory.add_entry.Goals as goal
+use Rattle.link_tree.proofs.Stops.{place_refused}
 use Rattle.link_tree.proofs.inventory.add_entry.Goals.{then-len-most_pending+in_ok-flush, else-len-most_pending}
 
 -- with room for one more, the same is given and is pending
@@ -36,3 +38,6 @@ returns-in-Ok-clause-pending c =
     let slot : is_slot c.args.path ≡ true = ap is_some (sym c.of.ensures) ∙ sym c.is_some.ensures ∙ c.if-is_some.true in
     let fits = fits_from c.args.path c.args.entry c.text-path.ensures.path c.bytes-valid.ensures.entry (slot_shape c.args.path slot) in
     subst (ArePending (c.args.number + 1)) (sym c.in-Ok.ensures.items) (all_pending c.if-len-most_pending.pending.items (one c) (slot, fits) (same_pending c))
+
+pub returns-in-Err-place-clause-fault : goal.returns-in-Err-place-clause-fault
+returns-in-Err-place-clause-fault c = rw c.in_entry.ensures (place_refused c.in-Err-place.e c.args.number _ c.flush-2.new.tree _ c.in-Err-place.ensures c.in_ok-flush-2.ensures.tree)

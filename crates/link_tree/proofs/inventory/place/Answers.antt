@@ -1,4 +1,4 @@
-use Rattle.std.proofs.Common.{ap, sym, ◌∙◌}
+use Rattle.std.proofs.Common.{sym, ◌∙◌}
 use Rattle.link_tree.proofs.Shapes.{fits_from}
 use Rattle.link_tree.proofs.inventory.place.Goals as goal
 

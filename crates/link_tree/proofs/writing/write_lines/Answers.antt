@@ -1,6 +1,7 @@
 use Rattle.std.proofs.Common.{◌≡◌, rules, ap, sym, subst, ◌∙◌}
 use Rattle.std.specs.FinMap as map
 use Rattle.std.specs.List.{flat_map}
+use Rattle.byte_streams.proofs.Known.{calm_trans}
 use Rattle.link_tree.specs.Trees.{entry_line}
 use Rattle.link_tree.proofs.Maps.{entries_again}
 use Rattle.byte_streams.proofs.Writes.{IsWritten, fails, more_is_written, next_item, none_is_written}
@@ -14,7 +15,7 @@ loop-path-init g c =
     same ∙ items.ensures.rest ∙ sym (entries_again c.entries.result.now.entries items.ensures.ordered) ∙ ap (λ m. map.entries m) c.entries.ensures in
     record {
       written = none_is_written (g.K.Sink.written c.args.sink.now) c.args.writer.now _ _ (ap (flat_map entry_line) all);
-      failures = search rules;
+      calm = search rules;
     }
 
 pub loop-path-preserved : goal.loop-path-preserved
@@ -22,7 +23,7 @@ loop-path-preserved g c =
     let left = next_item entry_line _ _ _ c.in-Some.ensures.steps in
     record {
       written = more_is_written _ _ _ _ _ _ _ _ _ (subst (IsWritten _ _ _ _ _) left c.loop-path.invariant.written) c.in_ok-write_line.ensures.writes;
-      failures = cc (c.in_ok-write_line.ensures.counters, c.loop-path.invariant.failures);
+      calm = calm_trans _ _ _ c.loop-path.invariant.calm c.in_ok-write_line.ensures.counters;
     }
 
 pub returns-in_err-write_line-clause-writes : goal.returns-in_err-write_line-clause-writes

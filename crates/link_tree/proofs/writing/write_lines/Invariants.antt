@@ -1,6 +1,6 @@
-use Rattle.std.proofs.Common.{◌≡◌}
 use Rattle.std.specs.List.{flat_map}
 use Rattle.std.specs.FinMap as map
+use Rattle.byte_streams.specs.Streams.{IsCalm}
 use Rattle.link_tree.specs.Trees.{entry_line}
 use Rattle.byte_streams.proofs.Writes.{IsWritten}
 use Rattle.link_tree.proofs.writing.write_lines.Given as goal
@@ -9,5 +9,5 @@ use Rattle.link_tree.proofs.writing.write_lines.Given as goal
 abbrev pub invariant-loop-path : goal.invariant-loop-path
 invariant-loop-path g l = record {
   written : IsWritten (g.K.Sink.written l.fn.sink) (g.K.Sink.written l.sink) l.fn.writer l.writer (flat_map entry_line (map.entries l.tree)) (flat_map entry_line l.path-iterator);
-  failures : (g.K.Sink.counters l.sink).failures ≡ (g.K.Sink.counters l.fn.sink).failures;
+  calm : IsCalm (g.K.Sink.counters l.fn.sink) (g.K.Sink.counters l.sink);
 }

@@ -1,5 +1,4 @@
-use Rattle.unit_script.proofs.ScriptLines.{script_is_lines}
-use Rattle.unit_script.proofs.ScriptEnds.{last_line_needs_no_end, long_line_is_told, one_line_more_is_told}
+use Rattle.unit_script.proofs.ScriptLines.{last_line_needs_no_end, long_line_is_told, one_line_more_is_told, script_is_lines}
 use Rattle.unit_script.proofs.laws.a_script_is_its_lines.Goals as goal
 
 pub returns-clause-lines : goal.returns-clause-lines

@@ -1,5 +1,6 @@
 use Rattle.std.proofs.Common.{◌≤◌, rules, arith}
 use Rattle.unit_script.proofs.Calls.{limit_ok, limit_err, reached_end, reached_bad, reached_more}
+use Rattle.unit_script.proofs.OpenLines.{stops_at_limit, stops_in_line}
 use Rattle.unit_script.proofs.script.read_calls.Goals as goal
 
 pub returns-in-Ok-clause-calls : goal.returns-in-Ok-clause-calls
@@ -22,8 +23,16 @@ pub lines-preserved : goal.lines-preserved
 lines-preserved g c =
     let room : c.lines.number ≤ 2000000 = omega arith in
     record {
-      failures = search rules;
+      calm = search rules;
       from_one = omega arith;
       within = omega arith;
       calls = λ bytes e. reached_more _ _ _ _ _ c.lines.invariant.calls _ c.read_call.ensures.call room bytes e _ _ c.in-Ok-read_call.is c.if-not-has_end.false c.in-Ok-add_call.ensures;
     }
+
+pub returns-in-Err-clause-stops : goal.returns-in-Err-clause-stops
+returns-in-Err-clause-stops g c = stops_at_limit _ _ _ _ _ c.lines.invariant.calls _ _ c.in-Err.is c.read_end.ensures.stops
+
+pub returns-in-Err-read_call-clause-stops : goal.returns-in-Err-read_call-clause-stops
+returns-in-Err-read_call-clause-stops g c =
+    let room : c.lines.number ≤ 2000000 = omega arith in
+    rw c.in_line.ensures (stops_in_line _ _ _ _ _ c.lines.invariant.calls room _ _ c.in-Err-read_call.is c.read_call.ensures.stops)

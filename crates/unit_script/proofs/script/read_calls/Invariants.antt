@@ -1,11 +1,12 @@
-use Rattle.std.proofs.Common.{◌≡◌, ◌≤◌, ◌-◌}
+use Rattle.std.proofs.Common.{◌≤◌, ◌-◌}
+use Rattle.byte_streams.specs.Streams.{IsCalm}
 use Rattle.unit_script.proofs.Calls.{Reached}
 use Rattle.unit_script.proofs.script.read_calls.Given as goal
 
 -- what is left gives what all of it gives
 abbrev pub invariant-lines : goal.invariant-lines
 invariant-lines g l = record {
-  failures : (g.S.Source.counters l.source).failures ≡ (g.S.Source.counters l.fn.source).failures;
+  calm : IsCalm (g.S.Source.counters l.fn.source) (g.S.Source.counters l.source);
   from_one : 1 ≤ l.number;
   within : l.number ≤ 2000001;
   calls : Reached (g.S.Source.left l.fn.source) (g.S.Source.left l.source) l.number l.calls.items;

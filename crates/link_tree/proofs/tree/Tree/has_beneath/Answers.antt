@@ -1,6 +1,5 @@
 use Rattle.std.proofs.Common.{sym, ap, ◌∙◌, map}
 use Rattle.std.specs.FinMap as maps
-use Rattle.unit_paths.specs.Shape.{is_beneath}
 use Rattle.link_tree.proofs.Aboves.{key_path}
 use Rattle.link_tree.proofs.Beneaths.{first_is, first_found, none_beneath}
 use Rattle.link_tree.proofs.Maps.{entries_again}
