@@ -1,3 +1,4 @@
 mod entries;
+mod large;
 mod reading;
 mod writing;
