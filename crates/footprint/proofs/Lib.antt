@@ -1,4 +1,4 @@
-pub mod HeldBack
+pub mod Edited
 pub mod KeySets
 pub mod Parts
 pub mod Agreed

@@ -127,9 +127,6 @@ pub record AreChecked (P : Standing → Type 0) (rest all : List Standing) : Typ
   pub among : (x : Standing) → Contains rest x → Contains all x
   pub checked : All P rest → All P all
 
-pub none_checked : (P : Standing → Type 0) (all : List Standing) → AreChecked P all all
-none_checked P all = record { among = λ x here. here; checked = λ rest. rest }
-
 pub one_checked : (P : Standing → Type 0) (x : Standing) (rest all : List Standing) → P x → AreChecked P (x ∷ rest) all → AreChecked P rest all
 one_checked P x rest all here before = record {
   among = λ y later. before.among y (Contains-append_right (x ∷ []) rest y later);

@@ -21,13 +21,12 @@ use std::alloc::{AllocError, Global};
 use std::marker::Model;
 use unit_file::Notices;
 
-/// A tree that a command edits: as it was, and as it is now. What is put into it is held back until the whole tree is looked
-/// at, so that a command with one change copies no tree. Contracts see the two trees.
+/// A tree that a command edits: as it was, and as it is now, which is a copy that shares its parts with the first. Contracts
+/// see the two trees.
 #[derive(Drop)]
 pub struct Edit<'a> {
     first: &'a Tree,
     tree: Tree,
-    held_back: Vec<(TreePath, Option<Entry>)>,
     changes: NetChanges,
 }
 
@@ -36,16 +35,15 @@ impl<'a> Model for Edit<'a> {
     ghost use Rattle.std.specs.Coded.{coded×};
     ghost use Rattle.link_tree.specs.Trees.{Entries};
     ghost use Rattle.link_tree.specs.Values.{coded_path, coded_entry};
-    ghost use Rattle.footprint.specs.Placing.{placed_in};
     ghost use Rattle.footprint.specs.EditLaws.{IsEdit};
 
     ghost Value = { Entries × Entries };
 
     ghost coded = { coded× (map.code coded_path coded_entry) (map.code coded_path coded_entry) };
 
-    ghost view = { λ edit. (edit.first.now, placed_in edit.held_back.items edit.tree) };
+    ghost view = { λ edit. (edit.first.now, edit.tree) };
 
-    ghost invariant = { λ edit. IsEdit edit.first.now edit.tree edit.held_back.items edit.changes };
+    ghost invariant = { λ edit. IsEdit edit.first.now edit.tree edit.changes };
 }
 
 impl<'a> Edit<'a> {
@@ -56,7 +54,6 @@ impl<'a> Edit<'a> {
         Ok(Edit {
             first: tree,
             tree: tree.copy()?,
-            held_back: Vec::new(alloc),
             changes: NetChanges::none(alloc),
         })
     }
@@ -65,31 +62,14 @@ impl<'a> Edit<'a> {
     pub fn get(&self, path: &TreePath) -> Option<&Entry>
         ensures { option_copied result ≡ map.get self.now.1 path.now }
     {
-        match self.changes.get(path) {
-            Some(change) => change.after.as_ref(),
-            None => self.first.get(path),
-        }
+        self.tree.get(path)
     }
 
-    /// The whole tree as it is now, for look-ups, and the edit to go on with. What was held back is placed. Fails only where
-    /// memory runs out.
-    pub fn settled(self, alloc: Global) -> Result<(Tree, Edit<'a>), AllocError>
-        ensures tree { IfOk result (λ r. r.0 ≡ self.entry.1) }
-        ensures edit { IfOk result (λ r. r.1 ≡ self.entry) }
+    /// The whole tree as it is now, for look-ups.
+    pub fn tree(&self) -> &Tree
+        ensures { result.now ≡ self.now.1 }
     {
-        let first = self.first;
-        let mut tree = self.tree;
-        for (slot, entry) in self.held_back {
-            tree.set(&slot, entry)?;
-        }
-        let copy = tree.copy()?;
-        let edit = Edit {
-            first,
-            tree,
-            held_back: Vec::new(alloc),
-            changes: self.changes,
-        };
-        Ok((copy, edit))
+        &self.tree
     }
 
     /// Puts an entry at a slot in place of what stands there, or with `None` takes that away. The path is to be a slot. Fails only
@@ -99,14 +79,13 @@ impl<'a> Edit<'a> {
         ensures { IfOk result (λ edit. edit ≡ (self.entry.0, set_entry self.entry.1 slot.now entry)) }
     {
         let first = self.first;
-        let mut held_back = self.held_back;
+        let mut tree = self.tree;
         let mut changes = self.changes;
         changes.note(slot, first.get(slot), &entry)?;
-        held_back.push((slot.copy()?, entry))?;
+        tree.set(slot, entry)?;
         Ok(Edit {
             first,
-            tree: self.tree,
-            held_back,
+            tree,
             changes,
         })
     }

@@ -61,13 +61,6 @@ impl NetChanges {
         }
     }
 
-    /// The change at a path.
-    pub fn get(&self, path: &TreePath) -> Option<&Change>
-        ensures { option_copied result ≡ map.get self.now path.now }
-    {
-        self.by_path.get(path)
-    }
-
     /// Says what stood at a path first, and what stands there now.
     pub fn note(
         &mut self,

@@ -37,7 +37,7 @@ any_alike : (f g : List ℕ → Bool) → ((k : List ℕ) → f k ≡ g k) → (
 any_alike f g each [] = refl
 any_alike f g each (k ∷ ks) = rw (each k, any_alike f g each ks) refl
 
-same_test : (p k : List ℕ) → eq_by_cmp path_cmp p k ≡ bytes_eq k p
+pub same_test : (p k : List ℕ) → eq_by_cmp path_cmp p k ≡ bytes_eq k p
 same_test p k = elim (cases_Bool (eq_by_cmp path_cmp p k)) [
   | inl same ↦ same ∙ sym ((bytes_eq-Decides k p).1 (sym (same_key p k same)))
   | inr other ↦ other ∙ sym (false_from_ne_true (bytes_eq k p) (λ same. false≢true (sym other ∙ ap (λ q. eq_by_cmp path_cmp p q) ((bytes_eq-Decides k p).0 same) ∙ same-found p)))

@@ -1,6 +1,10 @@
 pub mod Maps
 pub mod Results
-pub mod Sharing
+pub mod Spots
+pub mod Rows
+pub mod Ends
+pub mod Becoming
+pub mod Whole
 pub mod Same
 pub mod Keys
 pub mod Shapes

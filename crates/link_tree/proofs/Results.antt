@@ -1,6 +1,6 @@
 -- Where several steps, one after another, gave a value, each of them did.
-use Rattle.std.proofs.Common.{◌≡◌, Bool, true, false, Result, Ok, Err, refl, ap}
-use Rattle.std.specs.Prelude.{if◌then◌else◌}
+use Rattle.std.proofs.Common.{◌≡◌, Bool, true, false, Result, Ok, Err, refl, sym, ap, subst}
+use Rattle.std.specs.Prelude.{if◌then◌else◌, OnOk, OnErr}
 use Rattle.link_tree.specs.Inventory.{◌>>=◌}
 
 pub ok_is : {A E : Type 0} {x y : A} → ◌≡◌ {A = Result A E} (Ok x) (Ok y) → x ≡ y
@@ -24,3 +24,8 @@ ok_parts is = (ap (λ p. p.0) (ok_is is), ap (λ p. p.1) (ok_is is))
 pub both_ok : {A B E : Type 0} (r : Result A E) (f : A → Result B E) (y : B) → (r >>= f) ≡ Ok y → (x : A) × (r ≡ Ok x) × (f x ≡ Ok y)
 both_ok (Ok x) f y h = (x, refl, h)
 both_ok (Err e) f y h = no_ok h
+
+-- what holds of what became of a value, whether the call was done or not
+pub either_way : {A E M : Type 0} (r : Result A E) (P : M → Type 0) (old new wanted : M) → OnOk r (new ≡ wanted) → OnErr r (new ≡ old) → P wanted → P old → P new
+either_way (Ok x) P old new wanted ok err is was = subst P (sym ok) is
+either_way (Err e) P old new wanted ok err is was = subst P (sym err) was

@@ -2,6 +2,7 @@ pub mod Files
 pub mod Values
 pub mod Links
 pub mod Trees
+pub mod Pieces
 pub mod Differences
 pub mod Shape
 pub mod EntryLines

@@ -1,35 +1,47 @@
 //! The entries of a tree, one after another.
 ghost use Rattle.std.specs.Prelude.{◌≡◌};
+ghost use Rattle.link_tree.specs.Pieces.{joined, NoneIsEmpty};
 
 use crate::entry::Entry;
-use std::collections::btree_map;
+use crate::piece::Piece;
 use std::marker::Model;
+use std::slice;
 use unit_paths::TreePath;
 
-/// The entries of a tree that are still to come, in an order of the tree's own. Contracts see their list.
+/// The entries of a tree that are still to come, in the byte order of their paths. Contracts see their list.
 #[derive(Drop)]
 pub struct Iter<'a> {
-    inner: btree_map::Iter<'a, TreePath, Entry>,
+    items: slice::Iter<'a, (TreePath, Entry)>,
+    pieces: slice::Iter<'a, Piece>,
 }
 
 impl<'a> Model for Iter<'a> {
-    ghost use Rattle.std.specs.Prelude.{List, ℕ};
+    ghost use Rattle.std.specs.Prelude.{List, ℕ, ◌++◌};
+    ghost use Rattle.std.specs.Slice.Iter.{iter_rest};
     ghost use Rattle.link_tree.specs.Values.{coded_path, coded_entry};
     ghost use Rattle.std.specs.Coded.{coded_list, coded×};
+    ghost use Rattle.link_tree.specs.Pieces.{joined, NoneIsEmpty};
     ghost use Rattle.link_tree.specs.declared.entry.Entry.{Entry};
 
     ghost Value = { List (List ℕ × Entry) };
 
     ghost coded = { coded_list (coded× coded_path coded_entry) };
 
-    ghost view = { λ iter. iter.inner };
+    ghost view = { λ iter. iter_rest iter.items ++ joined (iter_rest iter.pieces) };
+
+    ghost invariant = { λ iter. NoneIsEmpty (iter_rest iter.pieces) };
 }
 
 impl<'a> Iter<'a> {
-    pub(crate) fn new(inner: btree_map::Iter<'a, TreePath, Entry>) -> Iter<'a>
-        ensures { result ≡ inner.entry }
+    pub(crate) fn new(pieces: &'a [Piece]) -> Iter<'a>
+        requires { NoneIsEmpty pieces.now }
+        ensures { result ≡ joined pieces.now }
     {
-        Iter { inner }
+        let none: &[(TreePath, Entry)] = &[];
+        Iter {
+            items: none.iter(),
+            pieces: pieces.iter(),
+        }
     }
 }
 
@@ -45,6 +57,12 @@ impl<'a> Iterator for Iter<'a> {
     ghost remaining = { λ iter. at_most (length iter) };
 
     fn next(&mut self) -> Option<(&'a TreePath, &'a Entry)> {
-        self.inner.next()
+        if let Some(item) = self.items.next() {
+            return Some((&item.0, &item.1));
+        }
+        let piece = self.pieces.next()?;
+        self.items = piece.items().iter();
+        let item = self.items.next()?;
+        Some((&item.0, &item.1))
     }
 }

@@ -11,6 +11,8 @@ mod inventory_fault;
 mod iter;
 mod laws;
 mod pending;
+mod piece;
+mod pieces;
 mod tree;
 mod writing;
 

@@ -1,4 +1,5 @@
 mod entries;
 mod large;
 mod reading;
+mod sharing;
 mod writing;

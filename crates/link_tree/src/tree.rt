@@ -9,22 +9,23 @@ ghost use Rattle.unit_paths.specs.Slots.{is_slot};
 ghost use Rattle.unit_paths.specs.Shape.{is_beneath};
 ghost use Rattle.link_tree.specs.Shape.{fits_at, is_crowded, IsTree};
 ghost use Rattle.link_tree.specs.Trees.{AreFrom, set_entry, after_changes};
+ghost use Rattle.link_tree.specs.Pieces.{joined, AreInOrder};
 
 use crate::change::{Change, copy_of};
 use crate::entry::Entry;
 use crate::iter::Iter;
+use crate::piece::Piece;
+use crate::pieces::Pieces;
 use std::alloc::{AllocError, Global};
-use std::collections::BTreeMap;
 use std::marker::Model;
-use std::ops::Bound;
 use std::sync::Arc;
 use unit_paths::TreePath;
 
-/// Entries by their paths, none beneath another and none where slots don't allow it. Copies share them until one is
-/// changed. Contracts see a finite map.
+/// Entries by their paths, none beneath another and none where slots don't allow it. They lie in pieces, in the byte order of the
+/// paths, and copies share these: a change copies the piece in which it is made, and no other. Contracts see a finite map.
 #[derive(Debug, Drop)]
 pub struct Tree {
-    entries: Arc<BTreeMap<TreePath, Entry>>,
+    pieces: Arc<Pieces>,
 }
 
 impl Model for Tree {
@@ -38,11 +39,11 @@ impl Model for Tree {
 
     ghost coded = { map.code coded_path coded_entry };
 
-    ghost view = { λ tree. map.from_entries (arc_value tree.entries).entries };
+    ghost view = { λ tree. arc_value tree.pieces };
 
     ghost use Rattle.link_tree.specs.Shape.{IsTree};
 
-    ghost invariant = { λ tree. IsTree (map.from_entries (arc_value tree.entries).entries) };
+    ghost invariant = { λ tree. IsTree (arc_value tree.pieces) };
 }
 
 impl Tree {
@@ -51,7 +52,7 @@ impl Tree {
         ensures { IfOk result (λ tree. tree ≡ map.empty) }
     {
         Ok(Tree {
-            entries: Arc::new(alloc, BTreeMap::new(alloc))?,
+            pieces: Arc::new(alloc, Pieces::none(alloc))?,
         })
     }
 
@@ -59,14 +60,14 @@ impl Tree {
     pub fn get(&self, path: &TreePath) -> Option<&Entry>
         ensures { option_copied result ≡ map.get self.now path.now }
     {
-        self.entries().get(path)
+        self.pieces.get(path)
     }
 
     /// How many entries there are.
     pub fn len(&self) -> usize
         ensures { result ≡ map.len self.now }
     {
-        self.entries().len()
+        self.pieces.len()
     }
 
     /// Whether there is none.
@@ -76,28 +77,35 @@ impl Tree {
         self.len() == 0
     }
 
-    /// Each path with its entry, once, in an order of the tree's own.
+    /// Each path with its entry, once, in the byte order of the paths; contracts say only that each is there once.
     pub fn iter(&self) -> Iter<'_>
         ensures entries { IsPermutation result (map.entries self.now) }
         ensures runs { ShowsInOrder (deref_pair {K = List ℕ} {X = Entry}) }
     {
-        Iter::new(self.entries().iter())
+        Iter::new(self.pieces())
     }
 
-    /// An equal tree, which shares the entries.
-    pub fn copy(&self) -> Result<Tree, AllocError>
+    /// An equal tree, which shares its parts with this one and takes no memory.
+    pub fn share(&self) -> Result<Tree, AllocError>
         ensures { IfOk result (λ tree. tree ≡ self.now) }
     {
         Ok(Tree {
-            entries: self.entries.clone()?,
+            pieces: self.pieces.clone()?,
         })
+    }
+
+    /// An equal tree: the same as `share`.
+    pub fn copy(&self) -> Result<Tree, AllocError>
+        ensures { IfOk result (λ tree. tree ≡ self.now) }
+    {
+        self.share()
     }
 
     /// A tree has the shape of one: its entries may stand where they do, and none lies beneath another.
     pub fn shape(&self)
         ensures { IsTree self.now }
     {
-        let _entries = &self.entries;
+        let _pieces = &self.pieces;
     }
 
     /// Puts an entry at a slot in place of what stands there, or with `None` takes that away.
@@ -132,30 +140,25 @@ impl Tree {
         Ok(tree)
     }
 
-    /// Makes these changes: each replaces what stands at a slot. One alone is made where the entries lie, more on a copy.
+    /// Makes these changes: each replaces what stands at a slot. They are made on a copy, which then takes this tree's place.
     pub fn make_changes(&mut self, changes: &[Change]) -> Result<(), AllocError>
         requires slots { All (λ change. is_slot change.path ≡ true) changes.now }
         requires from { AreFrom self.old changes.now }
         ensures ok { OnOk result (self.new ≡ after_changes changes.now self.old) }
         ensures err { OnErr result (self.new ≡ self.old) }
     {
-        match changes {
-            [] => Ok(()),
-            [change] => self.set(&change.path, copy_of(&change.after)?),
-            _ => {
-                *self = self.with_changes(changes)?;
-                Ok(())
-            }
-        }
+        *self = self.with_changes(changes)?;
+        Ok(())
     }
 }
 
 impl Tree {
-    /// The entries by their paths.
-    pub(crate) fn entries(&self) -> &BTreeMap<TreePath, Entry>
-        ensures { map.from_entries result.now.entries ≡ self.now }
+    /// The entries in pieces, in the byte order of the paths.
+    pub(crate) fn pieces(&self) -> &[Piece]
+        ensures entries { joined result.now ≡ map.entries self.now }
+        ensures order { AreInOrder result.now }
     {
-        &self.entries
+        self.pieces.pieces()
     }
 
     /// Puts an entry at the path, and answers what stood there.
@@ -170,7 +173,7 @@ impl Tree {
         ensures before { IfOk result (λ before. before ≡ map.get self.old path) }
         ensures err { OnErr result (self.new ≡ self.old) }
     {
-        Ok(Arc::make_mut(&mut self.entries)?.insert(path, entry)?)
+        Arc::make_mut(&mut self.pieces)?.insert(path, entry)
     }
 
     /// Takes the entry at the path away.
@@ -178,8 +181,7 @@ impl Tree {
         ensures ok { OnOk result (self.new ≡ map.remove self.old path.now) }
         ensures err { OnErr result (self.new ≡ self.old) }
     {
-        Arc::make_mut(&mut self.entries)?.remove(path);
-        Ok(())
+        Arc::make_mut(&mut self.pieces)?.remove(path)
     }
 
     /// Whether an entry lies beneath the path, or the path beneath an entry.
@@ -214,12 +216,8 @@ impl Tree {
         let Some(first) = path.first_beneath()? else {
             return Ok(false);
         };
-        match self
-            .entries()
-            .range((Bound::Included(first), Bound::Unbounded))
-            .next()
-        {
-            Some((other, _)) => Ok(other.is_beneath(path)),
+        match self.pieces.first_from(&first) {
+            Some(item) => Ok(item.0.is_beneath(path)),
             None => Ok(false),
         }
     }

@@ -9,6 +9,7 @@ ghost use Rattle.link_tree.specs.Trees.{entry_line, inventory_text};
 ghost use Rattle.link_tree.specs.Reads.{AccountsWrite, SentBefore};
 
 use crate::entry::Entry;
+use crate::piece::Piece;
 use crate::tree::Tree;
 use byte_streams::{BufferedWriter, Sink, WriteFault};
 use std::alloc::Global;
@@ -56,6 +57,21 @@ fn write_line<K: Sink>(
     }
 }
 
+/// The lines of the entries of a piece.
+fn write_piece<K: Sink>(
+    writer: &mut BufferedWriter,
+    piece: &Piece,
+    sink: &mut K,
+) -> Result<(), WriteFault>
+    ensures writes { Writes (K.written sink.old) (K.written sink.new) writer.old writer.new result (flat_map entry_line piece.now) }
+    ensures counters { Accounts result (K.counters sink.old) (K.counters sink.new) }
+{
+    for (path, entry) in piece.items() {
+        write_line(writer, path, entry, sink)?;
+    }
+    Ok(())
+}
+
 /// The lines of the entries, in the order of their paths.
 fn write_lines<K: Sink>(
     writer: &mut BufferedWriter,
@@ -65,8 +81,8 @@ fn write_lines<K: Sink>(
     ensures writes { Writes (K.written sink.old) (K.written sink.new) writer.old writer.new result (flat_map entry_line (map.entries tree.now)) }
     ensures counters { Accounts result (K.counters sink.old) (K.counters sink.new) }
 {
-    for (path, entry) in tree.entries().iter() {
-        write_line(writer, path, entry, sink)?;
+    for piece in tree.pieces() {
+        write_piece(writer, piece, sink)?;
     }
     Ok(())
 }

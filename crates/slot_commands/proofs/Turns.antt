@@ -1,12 +1,11 @@
 -- Arguments that are taken one after another, each in the tree that the earlier ones left.
 use Rattle.std.proofs.Common.{◌≡◌, ℕ, ◌+◌, ◌<◌, ◌≤◌, List, [], ◌∷◌, ◌++◌, length, drop, get_or, Result, Ok, Err, refl, sym, ap, ◌∙◌}
 use Rattle.std.proofs.lemmas.List.{append_assoc, append-nil, drop_more, drop_all}
-use Rattle.link_tree.specs.Trees.{Entries}
+use Rattle.link_tree.specs.Trees.{Entries, set_entry}
 use Rattle.footprint.specs.declared.refusal.Refusal.{Refusal}
 use Rattle.footprint.specs.Placing.{Placed, Verdict, placed_in, placed_before, concluded_after, cells_after}
 use Rattle.footprint.specs.Steps.{Step, each_in_turn}
 use Rattle.footprint.specs.Edits.{stepped, GoesOn}
-use Rattle.footprint.proofs.HeldBack.{placed_in-append}
 
 -- the tree that a verdict leaves, or the refusal
 abbrev pub left_by : Verdict → Entries → Result Entries Refusal
@@ -33,6 +32,11 @@ looks_on on (Err refusal) = []
 abbrev pub cells_in_turn : {A : Type 0} → (A → Step) → List A → Entries → List (List ℕ)
 cells_in_turn step [] t = []
 cells_in_turn step (a ∷ rest) t = (step a).cells t ++ looks_on (cells_in_turn step rest) (leaves (step a) t)
+
+-- what is placed in two parts is placed one part after the other
+placed_in-append : (first second : List Placed) (t : Entries) → placed_in (first ++ second) t ≡ placed_in second (placed_in first t)
+placed_in-append [] second t = refl
+placed_in-append (p ∷ first) second t = placed_in-append first second (set_entry t p.0 p.1)
 
 left_more : (placed : List Placed) (verdict : Verdict) (t : Entries) → left_by (placed_before placed verdict) t ≡ left_by verdict (placed_in placed t)
 left_more placed (Ok more) t = ap (λ u. Ok u) (placed_in-append placed more t)

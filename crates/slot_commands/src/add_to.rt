@@ -120,8 +120,7 @@ impl AddTo {
     ) -> Result<Result<Edit<'a>, Refusal>, AllocError>
         ensures { IfOk result (GoesOn (add_unit (scope_place self.now.scope) self.now.dependency by.now unit.now) edit.entry cells.old cells.new) }
     {
-        let (tree, edit) = edit.settled(alloc)?;
-        match find_unit(alloc, &tree, unit, cells)? {
+        match find_unit(alloc, edit.tree(), unit, cells)? {
             Ok((real, file)) => self.add_file(alloc, by, real, &file, edit, cells),
             Err(refusal) => Ok(Err(refusal)),
         }

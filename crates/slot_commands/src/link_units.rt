@@ -93,8 +93,7 @@ fn link_unit<'a>(
 ) -> Result<Result<Edit<'a>, Refusal>, AllocError>
     ensures { IfOk result (GoesOn (link_unit place path.now) edit.entry cells.old cells.new) }
 {
-    let (tree, edit) = edit.settled(alloc)?;
-    match follow_into(alloc, &tree, path, cells)? {
+    match follow_into(alloc, edit.tree(), path, cells)? {
         End::Missing => Ok(Err(Refusal::NotFound(Subject::Path(path.copy()?)))),
         End::Null => Ok(Err(Refusal::Masked(Subject::Path(path.copy()?)))),
         End::Dangling(link) => Ok(Err(Refusal::Dangling(link))),

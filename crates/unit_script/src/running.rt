@@ -1,5 +1,5 @@
 //! A run: from an inventory and a script to the replies and the inventory that is left.
-ghost use Rattle.std.specs.Prelude.{◌≡◌, ◌<◌, ◌≤◌, ◌++◌, ◌⊎◌, ℕ, List, length, Option, Some, true, OnOk, IfOk, IfErr, IsErrOf};
+ghost use Rattle.std.specs.Prelude.{◌≡◌, ◌<◌, ◌≤◌, ◌++◌, ℕ, List, length, Option, Some, true, OnOk, IfOk, IfErr};
 ghost use Rattle.std.specs.Io.KnownBytes.{Appends};
 ghost use Rattle.link_tree.specs.Reads.{AccountsWrite, SentBefore};
 ghost use Rattle.byte_streams.specs.Streams.{IsCalm};
@@ -21,39 +21,37 @@ use crate::reply::push_rows;
 use crate::run_fault::{InputError, InputFault, RunFault};
 use crate::script::read_script;
 use byte_streams::{ReadError, Sink, Source};
-use history::{CallError, History, Request};
+use history::{History, MAX_ROWS, Request};
 use link_tree::{InventoryError, Tree, WriteError, read_inventory, write_before_inventory};
 use std::alloc::{AllocError, Global};
 use std::mem::forget;
 
-/// Makes one call, which adds one row to the history.
-fn make(history: &mut History<Action>, alloc: Global, call: Call) -> Result<(), CallError>
+/// Makes one call, which adds one row. There is room for it, so that only memory can run out.
+fn make(history: &mut History<Action>, alloc: Global, call: Call) -> Result<(), AllocError>
+    requires room { length history.old.rows < history.old.limit }
     ensures first { history.new.first ≡ history.old.first }
     ensures limit { history.new.limit ≡ history.old.limit }
     ensures rows { OnOk result (history.new.rows ≡ rows_after asks meaning history.old.first history.old.rows (asked call)) }
-    ensures full { IsErrOf result CallError.Full → length history.old.rows ≡ history.old.limit }
-    ensures room { OnOk result (length history.old.rows < history.old.limit) }
 {
     let Call { operator, request } = call;
     match request {
         Request::Do(action) => match history.call(alloc, operator, action) {
             Ok(_) => Ok(()),
-            Err(unrun) => Err(unrun.why),
+            Err(_) => Err(AllocError),
         },
         Request::Undo(n) => match history.undo(alloc, operator, n) {
             Ok(_) => Ok(()),
-            Err(why) => Err(why),
+            Err(_) => Err(AllocError),
         },
     }
 }
 
 /// The history of the calls, made one after another on the tree.
-fn history_of(alloc: Global, tree: Tree, calls: Vec<Call>) -> Result<History<Action>, CallError>
+fn history_of(alloc: Global, tree: Tree, calls: Vec<Call>) -> Result<History<Action>, AllocError>
+    requires few { length calls.items ≤ MAX_ROWS }
     ensures first { IfOk result (λ history. history.first ≡ tree) }
     ensures limit { IfOk result (λ history. history.limit ≡ MAX_ROWS) }
     ensures rows { IfOk result (λ history. history.rows ≡ rows_of tree calls.items) }
-    ensures room { OnOk result (length calls.items ≤ MAX_ROWS) }
-    ensures full { IsErrOf result CallError.Full → MAX_ROWS < length calls.items }
 {
     let mut history = History::new(alloc, tree)?;
     for call in calls {
@@ -62,6 +60,7 @@ fn history_of(alloc: Global, tree: Tree, calls: Vec<Call>) -> Result<History<Act
     Ok(history)
 }
 
+/// The same for any number of calls: too many are refused before the first is made.
 #[tactic(auto, unfolding(crate::specs::Runs::text_of_calls))]
 fn history_of_calls(
     alloc: Global,
@@ -73,10 +72,12 @@ fn history_of_calls(
     ensures stops { IfErr result (λ e. (old new : Option (List ℕ)) → InputStops e old new) }
     ensures cause { IfErr result (λ e. (old new : Counters) → InputCause e old new) }
 {
+    if calls.len() > MAX_ROWS {
+        return Err(InputError::Fault(InputFault::Full));
+    }
     match history_of(alloc, tree, calls) {
         Ok(history) => Ok(history),
-        Err(CallError::Full) => Err(InputError::Fault(InputFault::Full)),
-        Err(CallError::OutOfMemory) => Err(InputError::OutOfMemory),
+        Err(AllocError) => Err(InputError::OutOfMemory),
     }
 }
 

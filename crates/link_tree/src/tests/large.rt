@@ -253,6 +253,98 @@ fn a_large_tree_is_changed(rt: HostRuntime) -> Result<(), Fail> {
     Ok(())
 }
 
+/// A tree of so many units, all masked: a piece has at most 128 of them.
+fn tree_of(alloc: Global, count: u32) -> Result<Tree, AllocError> {
+    let mut tree = Tree::empty(alloc)?;
+    for number in FIRST..FIRST.saturating_add(count) {
+        set(alloc, &mut tree, number, b"/dev/null")?;
+    }
+    Ok(tree)
+}
+
+/// How many units the tree has that is shared.
+const SHARED: u32 = 1_000;
+
+/// Whether the units up to this one are links, and all others masked still.
+fn are_changed_up_to(alloc: Global, tree: &Tree, last: u32) -> Result<bool, AllocError> {
+    for number in FIRST..FIRST + SHARED {
+        let target = if number <= last {
+            b"a.service".as_slice()
+        } else {
+            b"/dev/null".as_slice()
+        };
+        if !is_link(alloc, tree, number, target)? {
+            return Ok(false);
+        }
+    }
+    Ok(tree.len() == SHARED as usize)
+}
+
+#[test]
+fn a_shared_tree_is_changed_at_each_entry(rt: HostRuntime) -> Result<(), Fail> {
+    let alloc = rt.alloc();
+    let first = ample!(tree_of(alloc, SHARED), AllocError)?;
+    let mut tree = ample!(first.share(), AllocError)?;
+    for number in FIRST..FIRST + SHARED {
+        let before = ample!(tree.share(), AllocError)?;
+        ample!(set(alloc, &mut tree, number, b"a.service"), AllocError)?;
+        assert!(rt; ample!(are_changed_up_to(alloc, &tree, number), AllocError)?);
+        assert!(rt; ample!(is_link(alloc, &before, number, b"/dev/null"), AllocError)?);
+    }
+    assert!(rt; ample!(are_changed_up_to(alloc, &first, FIRST - 1), AllocError)?);
+    Ok(())
+}
+
+/// Its path comes behind that of the unit 100064, and before that of 100065.
+const NEW_INSIDE: u32 = 1_000_640;
+
+/// Whether the paths rise, and there are so many.
+fn are_in_order(tree: &Tree, count: usize) -> bool {
+    let mut before: Option<&TreePath> = None;
+    for (path, _) in tree.iter() {
+        if before.is_some_and(|before| *before >= *path) {
+            return false;
+        }
+        before = Some(path);
+    }
+    tree.len() == count
+}
+
+/// Takes the units away, one after another, and looks at what is left.
+fn assert_emptied(
+    rt: &impl Abort,
+    alloc: Global,
+    mut tree: Tree,
+    count: u32,
+    left: u32,
+) -> Result<(), AllocError> {
+    for number in FIRST..FIRST.saturating_add(count) {
+        ample!(set(alloc, &mut tree, number, b""), AllocError)?;
+        let rest = FIRST.saturating_add(count).saturating_sub(number) as usize;
+        assert!(rt; are_in_order(&tree, rest));
+        assert!(rt; ample!(is_link(alloc, &tree, number, b""), AllocError)?);
+        assert!(rt; ample!(is_link(alloc, &tree, left, b"a.service"), AllocError)?);
+    }
+    ample!(set(alloc, &mut tree, left, b""), AllocError)?;
+    assert!(rt; tree.is_empty());
+    Ok(())
+}
+
+#[test]
+fn pieces_are_cut_and_emptied(rt: HostRuntime) -> Result<(), Fail> {
+    let alloc = rt.alloc();
+    for count in [127u32, 128, 129, 255, 256, 257] {
+        for new in [NEW_FIRST, NEW_INSIDE, NEW_LAST] {
+            let mut tree = ample!(tree_of(alloc, count), AllocError)?;
+            assert!(rt; are_in_order(&tree, count as usize));
+            ample!(set(alloc, &mut tree, new, b"a.service"), AllocError)?;
+            assert!(rt; are_in_order(&tree, (count as usize).saturating_add(1)));
+            assert_emptied(&rt, alloc, tree, count, new)?;
+        }
+    }
+    Ok(())
+}
+
 /// Whether an entry lies beneath the path, or the path beneath an entry.
 fn is_crowded(alloc: Global, tree: &Tree, at: &[u8]) -> Result<bool, AllocError> {
     match TreePath::parse(alloc, at) {

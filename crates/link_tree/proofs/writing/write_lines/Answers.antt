@@ -1,32 +1,23 @@
-use Rattle.std.proofs.Common.{◌≡◌, rules, ap, sym, subst, ◌∙◌}
-use Rattle.std.specs.FinMap as map
-use Rattle.std.specs.List.{flat_map}
+use Rattle.std.proofs.Common.{drop, subst}
 use Rattle.byte_streams.proofs.Known.{calm_trans}
+use Rattle.byte_streams.proofs.Writes.{IsWritten, fails, more_is_written}
 use Rattle.link_tree.specs.Trees.{entry_line}
-use Rattle.link_tree.proofs.Maps.{entries_again}
-use Rattle.byte_streams.proofs.Writes.{IsWritten, fails, more_is_written, next_item, none_is_written}
+use Rattle.link_tree.proofs.Rows.{drop_read, flat_map-joined}
 use Rattle.link_tree.proofs.writing.write_lines.Goals as goal
 
-pub loop-path-init : goal.loop-path-init
-loop-path-init g c =
-    let items = c.iter-path-items in
-    let same : c.into_iter-path-iterator.result ≡ items.result = search rules in
-    let all : c.into_iter-path-iterator.result ≡ map.entries c.args.tree.now =
-    same ∙ items.ensures.rest ∙ sym (entries_again c.entries.result.now.entries items.ensures.ordered) ∙ ap (λ m. map.entries m) c.entries.ensures in
-    record {
-      written = none_is_written (g.K.Sink.written c.args.sink.now) c.args.writer.now _ _ (ap (flat_map entry_line) all);
-      calm = search rules;
-    }
+pub returns-in_err-write_piece-clause-writes : goal.returns-in_err-write_piece-clause-writes
+returns-in_err-write_piece-clause-writes g c =
+    let pieces = c.pieces-piece-items.result.now in
+    let i = c.loop-piece.piece-index in
+    let left = flat_map-joined entry_line (drop i pieces) c.piece-item.result _ (drop_read pieces i c.piece-item.result c.loop-piece-test.true c.piece-item.is) in
+    fails _ _ _ _ _ c.write_piece.new.writer _ _ _ (subst (IsWritten _ _ _ _ _) left c.loop-piece.invariant.written) _ c.in_err-write_piece.ensures.writes _ c.from_residual.ensures
 
-pub loop-path-preserved : goal.loop-path-preserved
-loop-path-preserved g c =
-    let left = next_item entry_line _ _ _ c.in-Some.ensures.steps in
+pub loop-piece-preserved : goal.loop-piece-preserved
+loop-piece-preserved g c =
+    let pieces = c.pieces-piece-items.result.now in
+    let i = c.loop-piece.piece-index in
+    let left = flat_map-joined entry_line (drop i pieces) c.piece-item.result _ (drop_read pieces i c.piece-item.result c.loop-piece-test.true c.piece-item.is) in
     record {
-      written = more_is_written _ _ _ _ _ _ _ _ _ (subst (IsWritten _ _ _ _ _) left c.loop-path.invariant.written) c.in_ok-write_line.ensures.writes;
-      calm = calm_trans _ _ _ c.loop-path.invariant.calm c.in_ok-write_line.ensures.counters;
+      written = more_is_written _ _ _ _ _ _ _ _ _ (subst (IsWritten _ _ _ _ _) left c.loop-piece.invariant.written) c.in_ok-write_piece.ensures.writes;
+      calm = calm_trans _ _ _ c.loop-piece.invariant.calm c.in_ok-write_piece.ensures.counters;
     }
-
-pub returns-in_err-write_line-clause-writes : goal.returns-in_err-write_line-clause-writes
-returns-in_err-write_line-clause-writes g c =
-    let left = next_item entry_line _ _ _ c.in-Some.ensures.steps in
-    fails _ _ _ _ _ c.write_line.new.writer _ _ _ (subst (IsWritten _ _ _ _ _) left c.loop-path.invariant.written) _ c.in_err-write_line.ensures.writes _ c.from_residual.ensures

@@ -19,5 +19,4 @@ loop-call-preserved c =
       ok.rows ∙ ap (λ (t : Entries). rows_after asks meaning t c.loop-call.history.rows (asked c.in-Some.call)) inv.0
           ∙ ap (λ (rows : List (Row Action)). rows_after asks meaning c.args.tree rows (asked c.in-Some.call)) inv.2 ∙ sym (rows_of-push c.args.tree c.loop-call.yielded c.in-Some.call),
       ap length ok.rows ∙ rows ∙ omega (arith, inv.3, more),
-      omega (arith, inv.1, inv.3, more, ok.room),
     )

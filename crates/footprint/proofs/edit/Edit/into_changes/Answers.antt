@@ -5,14 +5,13 @@ use Rattle.unit_paths.specs.Slots.{is_slot}
 use Rattle.link_tree.specs.Trees.{Entries}
 use Rattle.link_tree.specs.Differences.{changes_between}
 use Rattle.link_tree.proofs.Leads.{changes_at_slots}
-use Rattle.footprint.specs.Placing.{placed_in}
 use Rattle.footprint.proofs.edit.Edit.into_changes.Goals as goal
 
 pub returns : goal.returns
 unfolding changes_between
 returns c =
     let inside = c.self.inside in
-    let now : Entries = placed_in inside.held_back.items inside.tree in
+    let now : Entries = inside.tree in
     let noted : map.values inside.changes ≡ changes_between inside.first.now now = ap (λ m. map.values m) c.self.invariant.noted in
     let seen : changes_between inside.first.now now ≡ changes_between c.args.self.0 c.args.self.1 = ap (λ pair. changes_between pair.0 pair.1) c.self.view_is in
     record {

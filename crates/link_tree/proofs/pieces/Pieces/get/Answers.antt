@@ -1,0 +1,35 @@
+use Rattle.std.proofs.Common.{◌≡◌, Option, Some, false, ap, sym, ◌∙◌}
+use Rattle.std.specs.FinMap as map
+use Rattle.std.specs.Option.{option_map, option_copied}
+use Rattle.link_tree.specs.Trees.{path_cmp}
+use Rattle.link_tree.specs.Pieces.{Item, behind, first_of, is_first}
+use Rattle.link_tree.proofs.Aboves.{same_test}
+use Rattle.link_tree.proofs.Spots.{first_is}
+use Rattle.link_tree.proofs.Becoming.{found_there, not_there, not_first}
+use Rattle.link_tree.proofs.pieces.Pieces.get.Goals.{in_default-via-in-Some+else-eq, in_default-via-in_default}
+use Rattle.link_tree.proofs.pieces.Pieces.get.Goals as goal
+
+pub returns-in-Some : goal.returns-in-Some
+returns-in-Some c =
+    let path = c.args.path.now in
+    let pieces = c.pieces-pieces.result.now in
+    let spot = c.spot_of-spot.result in
+    let items = behind pieces spot.piece spot.at in
+    let item = c.in-Some.item.now in
+    let first : first_of items ≡ Some item = sym c.in-Some.ensures in
+    let taken = sym (first_is path item items first) ∙ same_test path item.0 ∙ sym c.eq.ensures ∙ c.if-eq.true in
+    ap (λ (o : Option Item). option_map (λ (item : Item). item.1) o) (sym first) ∙ sym (found_there pieces c.pieces-pieces.ensures.order path spot.piece spot.at c.spot_of-spot.ensures taken)
+    ∙ ap (map.find path_cmp path) c.pieces-pieces.ensures.entries ∙ sym (map.get-entries c.args.self.now path)
+
+pub returns-in_default : goal.returns-in_default
+returns-in_default c =
+    let path = c.args.path.now in
+    let pieces = c.pieces-pieces.result.now in
+    let spot = c.spot_of-spot.result in
+    let items = behind pieces spot.piece spot.at in
+    let free : is_first path items ≡ false = elim c.in_default.branch [
+      | in_default-via-in-Some+else-eq w ↦ sym (first_is path w.in-Some.item.now items (sym w.in-Some.ensures)) ∙ same_test path w.in-Some.item.now.0 ∙ sym w.eq.ensures ∙ w.if-eq.false
+      | in_default-via-in_default w ↦ not_first path items (sym c.item_at.ensures ∙ ap option_copied w.in_default.is)
+    ] in
+    sym (not_there pieces c.pieces-pieces.ensures.order path spot.piece spot.at c.spot_of-spot.ensures free)
+    ∙ ap (map.find path_cmp path) c.pieces-pieces.ensures.entries ∙ sym (map.get-entries c.args.self.now path)

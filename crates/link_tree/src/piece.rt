@@ -1,0 +1,148 @@
+//! Pieces of a tree: entries that follow one another, shared by copies until one of them is changed.
+ghost use Rattle.std.specs.Prelude.{◌≡◌, ◌≤◌, ◌<◌, ◌+◌, ◌++◌, ◌∷◌, [], length, take, drop, slice_set, slice_get, IfOk, OnOk, OnErr, Some, true};
+ghost use Rattle.std.specs.Option.{option_map};
+ghost use Rattle.std.specs.FinMap.{is_sorted};
+ghost use Rattle.link_tree.specs.Trees.{path_cmp};
+ghost use Rattle.link_tree.specs.Pieces.{AllBelow, StartsFrom, ends_before};
+
+use crate::entry::Entry;
+use std::alloc::{AllocError, Global};
+use std::marker::Model;
+use std::mem;
+use std::sync::Arc;
+use unit_paths::TreePath;
+
+/// How many entries a piece has before it is cut in two.
+const MAX_PIECE: usize = 128;
+
+/// Entries in the byte order of their paths. Contracts see their list.
+#[derive(Debug, Drop)]
+pub(crate) struct Piece {
+    items: Arc<Vec<(TreePath, Entry)>>,
+}
+
+impl Model for Piece {
+    ghost use Rattle.std.specs.Prelude.{List, ℕ};
+    ghost use Rattle.std.specs.Arc.{arc_value};
+    ghost use Rattle.std.specs.Coded.{coded_list, coded×};
+    ghost use Rattle.link_tree.specs.Values.{coded_path, coded_entry};
+    ghost use Rattle.link_tree.specs.declared.entry.Entry.{Entry};
+
+    ghost Value = { List (List ℕ × Entry) };
+
+    ghost coded = { coded_list (coded× coded_path coded_entry) };
+
+    ghost view = { λ piece. (arc_value piece.items).items };
+}
+
+impl Clone for Piece {
+    ghost is_clone = { λ piece copy. copy ≡ piece };
+
+    fn clone(&self) -> Result<Piece, AllocError> {
+        Ok(Piece {
+            items: self.items.clone()?,
+        })
+    }
+}
+
+impl Piece {
+    /// A piece of one entry.
+    pub(crate) fn of_one(alloc: Global, path: TreePath, entry: Entry) -> Result<Piece, AllocError>
+        ensures { IfOk result (λ piece. piece ≡ (path, entry) ∷ []) }
+    {
+        let mut items = Vec::new(alloc);
+        items.push((path, entry))?;
+        Ok(Piece {
+            items: Arc::new(alloc, items)?,
+        })
+    }
+
+    /// The entries.
+    pub(crate) fn items(&self) -> &[(TreePath, Entry)]
+        ensures { result.now ≡ self.now }
+    {
+        &self.items
+    }
+
+    /// Whether it is to be cut in two before an entry is added.
+    pub(crate) fn is_full(&self) -> bool
+        ensures { result ≡ true → 128 ≤ length self.now }
+    {
+        self.items.len() >= MAX_PIECE
+    }
+
+    /// Whether its last entry comes before the path.
+    pub(crate) fn ends_before(&self, path: &TreePath) -> bool
+        ensures { result ≡ ends_before path.now self.now }
+    {
+        match self.items.last() {
+            Some(last) => last.0 < *path,
+            None => false,
+        }
+    }
+
+    /// Where the path stands or would be put.
+    pub(crate) fn place_of(&self, path: &TreePath) -> usize
+        requires sorted { is_sorted path_cmp self.now ≡ true }
+        ensures bound { result ≤ length self.now }
+        ensures below { AllBelow path.now (take result self.now) }
+        ensures from { StartsFrom path.now (drop result self.now) }
+    {
+        self.items().partition_point(|item| item.0 < *path)
+    }
+
+    /// Puts an entry before the one at this place, or at the end.
+    pub(crate) fn insert(
+        &mut self,
+        at: usize,
+        path: TreePath,
+        entry: Entry,
+    ) -> Result<(), AllocError>
+        requires { at ≤ length self.old }
+        ensures ok { OnOk result (self.new ≡ take at self.old ++ (path, entry) ∷ drop at self.old) }
+        ensures err { OnErr result (self.new ≡ self.old) }
+    {
+        Arc::make_mut(&mut self.items)?.insert(at, (path, entry))?;
+        Ok(())
+    }
+
+    /// Puts an entry in place of the one here, and answers what stood there.
+    pub(crate) fn replace(
+        &mut self,
+        at: usize,
+        path: TreePath,
+        entry: Entry,
+    ) -> Result<Entry, AllocError>
+        requires { at < length self.old }
+        ensures ok { OnOk result (self.new ≡ slice_set self.old at (path, entry)) }
+        ensures before { IfOk result (λ before. option_map (λ item. item.1) (slice_get self.old at) ≡ Some before) }
+        ensures err { OnErr result (self.new ≡ self.old) }
+    {
+        let items = Arc::make_mut(&mut self.items)?;
+        let (_path, before) = mem::replace(&mut items[at], (path, entry));
+        Ok(before)
+    }
+
+    /// Takes the entry here away.
+    pub(crate) fn remove(&mut self, at: usize) -> Result<(), AllocError>
+        requires { at < length self.old }
+        ensures ok { OnOk result (self.new ≡ take at self.old ++ drop (at + 1) self.old) }
+        ensures err { OnErr result (self.new ≡ self.old) }
+    {
+        Arc::make_mut(&mut self.items)?.remove(at);
+        Ok(())
+    }
+
+    /// Cuts it in two: this piece keeps the entries before the place, and the others are answered as a piece.
+    pub(crate) fn split_off(&mut self, alloc: Global, at: usize) -> Result<Piece, AllocError>
+        requires { at ≤ length self.old }
+        ensures kept { OnOk result (self.new ≡ take at self.old) }
+        ensures cut { IfOk result (λ rest. rest ≡ drop at self.old) }
+        ensures err { OnErr result (self.new ≡ self.old) }
+    {
+        let mut items = Arc::new(alloc, Vec::new(alloc))?;
+        let room = Arc::make_mut(&mut items)?;
+        *room = Arc::make_mut(&mut self.items)?.split_off(at)?;
+        Ok(Piece { items })
+    }
+}

@@ -1,0 +1,273 @@
+//! The entries of a tree in pieces, one after another in the byte order of the paths.
+ghost use Rattle.std.specs.Prelude.{◌≡◌, ◌<◌, ◌≤◌, true, [], length, slice_index_or, IfOk, OnOk, OnErr, Some, None};
+ghost use Rattle.std.specs.Ordering.{is_le};
+ghost use Rattle.std.specs.List.{filter};
+ghost use Rattle.std.specs.Option.{option_copied};
+ghost use Rattle.std.specs.FinMap as map;
+ghost use Rattle.std.specs.FinMap.{find, put};
+ghost use Rattle.link_tree.specs.Trees.{path_cmp};
+ghost use Rattle.link_tree.specs.Pieces.{joined, behind, first_of, is_first, others, AllBelow, AreInOrder, IsWithin, IsSpot, Become};
+
+use crate::entry::Entry;
+use crate::piece::Piece;
+use std::alloc::{AllocError, Global};
+use std::marker::Model;
+use unit_paths::TreePath;
+
+/// Entries by their paths, in pieces that copies share. Contracts see a finite map.
+#[derive(Debug, Drop)]
+pub(crate) struct Pieces {
+    pieces: Vec<Piece>,
+    count: usize,
+}
+
+impl Model for Pieces {
+    ghost use Rattle.std.specs.Prelude.{◌≡◌, length};
+    ghost use Rattle.std.specs.FinMap as map;
+    ghost use Rattle.link_tree.specs.Trees.{path_cmp};
+    ghost use Rattle.link_tree.specs.Values.{coded_path, coded_entry};
+    ghost use Rattle.link_tree.specs.Pieces.{joined, AreInOrder};
+    ghost use Rattle.link_tree.specs.declared.entry.Entry.{Entry};
+
+    ghost Value = { map.FinMap path_cmp Entry };
+
+    ghost coded = { map.code coded_path coded_entry };
+
+    ghost view = { λ all. map.from_sorted {R = path_cmp} (joined all.pieces.items) };
+
+    ghost invariant = { λ all. AreInOrder all.pieces.items × (all.count ≡ length (joined all.pieces.items)) };
+}
+
+impl Clone for Pieces {
+    ghost is_clone = { λ all copy. copy ≡ all };
+
+    fn clone(&self) -> Result<Pieces, AllocError> {
+        Ok(Pieces {
+            pieces: self.pieces.clone()?,
+            count: self.count,
+        })
+    }
+}
+
+impl Pieces {
+    /// No piece.
+    pub(crate) fn none(alloc: Global) -> Pieces
+        ensures { result ≡ map.empty }
+    {
+        Pieces {
+            pieces: Vec::new(alloc),
+            count: 0,
+        }
+    }
+
+    /// The pieces, in their order.
+    pub(crate) fn pieces(&self) -> &[Piece]
+        ensures entries { joined result.now ≡ map.entries self.now }
+        ensures order { AreInOrder result.now }
+    {
+        &self.pieces
+    }
+
+    /// How many entries there are.
+    pub(crate) fn len(&self) -> usize
+        ensures { result ≡ map.len self.now }
+    {
+        self.count
+    }
+
+    /// What stands at the path.
+    pub(crate) fn get(&self, path: &TreePath) -> Option<&Entry>
+        ensures { option_copied result ≡ map.get self.now path.now }
+    {
+        let pieces = self.pieces();
+        let spot = spot_of(pieces, path);
+        match item_at(pieces, spot) {
+            Some(item) if item.0 == *path => Some(&item.1),
+            _ => None,
+        }
+    }
+
+    /// The first entry at the path or after it.
+    pub(crate) fn first_from(&self, path: &TreePath) -> Option<&(TreePath, Entry)>
+        ensures { option_copied result ≡ first_of (filter (λ item. is_le (path_cmp path.now item.0)) (map.entries self.now)) }
+    {
+        let pieces = self.pieces();
+        item_at(pieces, spot_of(pieces, path))
+    }
+
+    /// Puts an entry at the path, and answers what stood there.
+    pub(crate) fn insert(
+        &mut self,
+        path: TreePath,
+        entry: Entry,
+    ) -> Result<Option<Entry>, AllocError>
+        ensures ok { OnOk result (self.new ≡ map.insert self.old path entry) }
+        ensures before { IfOk result (λ before. before ≡ map.get self.old path) }
+        ensures err { OnErr result (self.new ≡ self.old) }
+    {
+        let spot = spot_of(&self.pieces, &path);
+        if stands_at(&self.pieces, spot, &path) {
+            return Ok(Some(replace(&mut self.pieces, spot, path, entry)?));
+        }
+        // More entries than can be counted are more than memory holds.
+        if self.count == usize::MAX {
+            return Err(AllocError);
+        }
+        add(&mut self.pieces, spot, path, entry)?;
+        self.count += 1;
+        Ok(None)
+    }
+
+    /// Takes the entry at the path away.
+    pub(crate) fn remove(&mut self, path: &TreePath) -> Result<(), AllocError>
+        ensures ok { OnOk result (self.new ≡ map.remove self.old path.now) }
+        ensures err { OnErr result (self.new ≡ self.old) }
+    {
+        let spot = spot_of(&self.pieces, path);
+        if stands_at(&self.pieces, spot, path) {
+            take_out(&mut self.pieces, spot, path)?;
+            self.count -= 1;
+        }
+        Ok(())
+    }
+}
+
+/// A place for an entry: in which piece, and before which of its entries.
+#[derive(Clone, Copy, Debug, Drop)]
+struct Spot {
+    piece: usize,
+    at: usize,
+}
+
+/// Where a path stands or would be put: in the first piece that doesn't end before it. Where all do, behind them.
+fn spot_of(pieces: &[Piece], path: &TreePath) -> Spot
+    requires { AreInOrder pieces.now }
+    ensures { IsSpot path.now pieces.now result.piece result.at }
+{
+    let piece = pieces.partition_point(|piece| piece.ends_before(path));
+    let at = match pieces.get(piece) {
+        Some(found) => found.place_of(path),
+        None => 0,
+    };
+    Spot { piece, at }
+}
+
+/// The entry at a spot.
+fn item_at(pieces: &[Piece], spot: Spot) -> Option<&(TreePath, Entry)>
+    requires { IsWithin pieces.now spot.piece spot.at }
+    ensures { option_copied result ≡ first_of (behind pieces.now spot.piece spot.at) }
+{
+    match pieces.get(spot.piece) {
+        Some(piece) => Some(&piece.items()[spot.at]),
+        None => None,
+    }
+}
+
+/// Whether the entry at the spot of a path stands at this path.
+fn stands_at(pieces: &[Piece], spot: Spot, path: &TreePath) -> bool
+    requires { IsWithin pieces.now spot.piece spot.at }
+    ensures { result ≡ is_first path.now (behind pieces.now spot.piece spot.at) }
+{
+    match item_at(pieces, spot) {
+        Some(item) => item.0 == *path,
+        None => false,
+    }
+}
+
+/// Puts an entry in place of the one that stands at its path.
+fn replace(
+    pieces: &mut Vec<Piece>,
+    spot: Spot,
+    path: TreePath,
+    entry: Entry,
+) -> Result<Entry, AllocError>
+    requires order { AreInOrder pieces.old.items }
+    requires spot { IsSpot path pieces.old.items spot.piece spot.at }
+    requires taken { is_first path (behind pieces.old.items spot.piece spot.at) ≡ true }
+    ensures pieces { Become pieces.old.items pieces.new.items (put path_cmp path entry (joined pieces.old.items)) result }
+    ensures before { IfOk result (λ before. find path_cmp path (joined pieces.old.items) ≡ Some before) }
+{
+    pieces[spot.piece].replace(spot.at, path, entry)
+}
+
+/// Adds an entry at a path where none stands. A full piece is cut in two first.
+fn add(pieces: &mut Vec<Piece>, spot: Spot, path: TreePath, entry: Entry) -> Result<(), AllocError>
+    requires order { AreInOrder pieces.old.items }
+    requires spot { IsSpot path pieces.old.items spot.piece spot.at }
+    requires free { find path_cmp path (joined pieces.old.items) ≡ None }
+    ensures { Become pieces.old.items pieces.new.items (put path_cmp path entry (joined pieces.old.items)) result }
+{
+    if spot.piece < pieces.len() && pieces[spot.piece].is_full() {
+        cut(pieces, spot.piece)?;
+        let spot = spot_of(pieces, &path);
+        add_at(pieces, spot, path, entry)
+    } else {
+        add_at(pieces, spot, path, entry)
+    }
+}
+
+fn add_at(
+    pieces: &mut Vec<Piece>,
+    spot: Spot,
+    path: TreePath,
+    entry: Entry,
+) -> Result<(), AllocError>
+    requires order { AreInOrder pieces.old.items }
+    requires spot { IsSpot path pieces.old.items spot.piece spot.at }
+    requires free { find path_cmp path (joined pieces.old.items) ≡ None }
+    ensures { Become pieces.old.items pieces.new.items (put path_cmp path entry (joined pieces.old.items)) result }
+{
+    if spot.piece < pieces.len() {
+        pieces[spot.piece].insert(spot.at, path, entry)
+    } else {
+        add_behind(pieces, path, entry)
+    }
+}
+
+/// Adds an entry behind all others: to the last piece, or where that is full, or there is none, as a piece of its own. So pieces
+/// that are filled in order are full.
+fn add_behind(pieces: &mut Vec<Piece>, path: TreePath, entry: Entry) -> Result<(), AllocError>
+    requires order { AreInOrder pieces.old.items }
+    requires below { AllBelow path (joined pieces.old.items) }
+    ensures { Become pieces.old.items pieces.new.items (put path_cmp path entry (joined pieces.old.items)) result }
+{
+    let alloc = *pieces.allocator();
+    if let Some(last) = pieces.len().checked_sub(1)
+        && !pieces[last].is_full()
+    {
+        let end = pieces[last].items().len();
+        return pieces[last].insert(end, path, entry);
+    }
+    pieces.push(Piece::of_one(alloc, path, entry)?)?;
+    Ok(())
+}
+
+/// Cuts a piece in two.
+fn cut(pieces: &mut Vec<Piece>, at: usize) -> Result<(), AllocError>
+    requires order { AreInOrder pieces.old.items }
+    requires within { at < length pieces.old.items }
+    requires two { 2 ≤ length (slice_index_or pieces.old.items at []) }
+    ensures { Become pieces.old.items pieces.new.items (joined pieces.old.items) result }
+{
+    let alloc = *pieces.allocator();
+    pieces.reserve(1)?;
+    let middle = pieces[at].items().len() / 2;
+    let rest = pieces[at].split_off(alloc, middle)?;
+    pieces.insert(at + 1, rest)?;
+    Ok(())
+}
+
+/// Takes the entry at the spot of its path away, and a piece that it leaves empty.
+fn take_out(pieces: &mut Vec<Piece>, spot: Spot, path: &TreePath) -> Result<(), AllocError>
+    requires order { AreInOrder pieces.old.items }
+    requires spot { IsSpot path.now pieces.old.items spot.piece spot.at }
+    requires taken { is_first path.now (behind pieces.old.items spot.piece spot.at) ≡ true }
+    ensures { Become pieces.old.items pieces.new.items (others path.now (joined pieces.old.items)) result }
+{
+    if pieces[spot.piece].items().len() > 1 {
+        pieces[spot.piece].remove(spot.at)
+    } else {
+        pieces.remove(spot.piece);
+        Ok(())
+    }
+}
