@@ -9,11 +9,11 @@ use Rattle.std.specs.Cmp.Lexicographic.{nat_list_cmp_total}
 use Rattle.std.specs.declared.cmp.Ordering.TheVariants.{Less}
 use Rattle.std.specs.FinMap.{is_sorted}
 use Rattle.std.specs.FinMap.Entries.{below_all}
-use Rattle.std.proofs.lemmas.Bool.{false≢true}
+use Rattle.std.proofs.lemmas.Bool.{cases_Bool, false≢true}
 use Rattle.std.proofs.lemmas.List.{take_all, take-append-drop}
 use Rattle.std.proofs.lemmas.List.Elements.{All-append, All-cons, All-head, All-tail, All-nil, All-get_or}
 use Rattle.link_tree.specs.Trees.{path_cmp}
-use Rattle.link_tree.specs.Pieces.{Item, joined, ends_before, AllBelow, StartsFrom, NoneIsEmpty, AreInOrder, IsSpot}
+use Rattle.link_tree.specs.Pieces.{Item, joined, ends_before, AllBelow, StartsFrom, NoneIsEmpty, AreInOrder, IsFirstFrom, IsSpot}
 use Rattle.link_tree.proofs.Maps.{first, second, less, none_some}
 use Rattle.link_tree.proofs.Spots.{IsBefore, holds, truth, order_left, order_right, before_entry}
 use Rattle.link_tree.proofs.Rows.{joined-append, found_within, found_index, before_is, behind_is, behind_none, joined_parts}
@@ -115,6 +115,23 @@ module _ (path : List ℕ) where
   pieces_parted (p ∷ ps) order some (suc i) zero d upto within is = absurd (omega arith)
   pieces_parted (p ∷ ps) order some (suc i) (suc j) d upto within is =
       pieces_parted ps (order_right p (joined ps) order) (All-tail HasOne p ps some) i j d (omega arith) (omega arith) is
+
+  -- a piece that doesn't end before the path, behind one that does, is the first
+  module _ (ps : List (List Item)) (order : AreInOrder ps) where
+    pub ends_upto : (i j : ℕ) (p : List Item) → i ≡ suc j → slice_get ps j ≡ Some p → ends_before path p ≡ true → AllWithin (λ piece. ends_before path piece ≡ true) ps 0 i
+    ends_upto i j p next is ends k d low high =
+        let inside = found_within ps j p is in
+        pieces_parted ps (holds order.0) order.1 k j d (omega arith) inside (ap (ends_before path) (found_index ps j p d is) ∙ ends)
+
+    pub first_from : (i : ℕ) → i ≤ length ps → AllWithin (λ piece. ends_before path piece ≡ true) ps 0 i → (i < length ps → (p : List Item) × (slice_get ps i ≡ Some p) × (ends_before path p ≡ false)) → IsFirstFrom path ps i
+    first_from i upto before here = (upto, (before, λ k d low high. later k d low high))
+      where
+        later : (k : ℕ) (d : List Item) → i ≤ k → k < length ps → ends_before path (slice_index_or ps k d) ≡ false
+        later k d low high = elim (cases_Bool (ends_before path (slice_index_or ps k d))) [
+          | inl ends ↦ (let own = here (omega arith) in
+              absurd (false≢true (sym own.2 ∙ ap (ends_before path) (sym (found_index ps i own.0 d own.1)) ∙ pieces_parted ps (holds order.0) order.1 i k d low high ends)))
+          | inr from ↦ from
+        ]
 
   earlier_below : (ps : List (List Item)) (n : ℕ) → T (is_sorted path_cmp (joined ps)) → NoneIsEmpty ps → n ≤ length ps → AllWithin (λ piece. ends_before path piece ≡ true) ps 0 n → AllBelow path (joined (take n ps))
   earlier_below ps zero order some upto all = All-nil (IsBefore path)

@@ -1,6 +1,7 @@
 -- A tree's entries in pieces: lists that follow one another in the byte order of the paths.
-use Rattle.std.specs.Prelude.{◌≡◌, ◌<◌, ◌-◌, ℕ, suc, Bool, true, false, not, List, [], ◌∷◌, ◌++◌, length, take, drop, All, Option, Some, None, Result, Ok, Err, slice_get, slice_index_or}
+use Rattle.std.specs.Prelude.{◌≡◌, ◌<◌, ◌≤◌, ◌-◌, ℕ, suc, Bool, true, false, not, List, [], ◌∷◌, ◌++◌, length, take, drop, All, Option, Some, None, Result, Ok, Err, slice_get, slice_index_or}
 use Rattle.std.specs.List.{filter}
+use Rattle.std.specs.List.Sorted.{IsPartitionPoint}
 use Rattle.std.specs.Option.{option_map_or}
 use Rattle.std.specs.Ordering.{eq_by_cmp, is_lt}
 use Rattle.std.specs.FinMap.{is_sorted}
@@ -61,6 +62,10 @@ StartsFrom path (item ∷ items) = is_lt (path_cmp item.0 path) ≡ false
 -- whether the last entry of a piece comes before the path
 abbrev pub ends_before : List ℕ → List Item → Bool
 ends_before path piece = option_map_or (λ (item : Item). is_lt (path_cmp item.0 path)) (slice_get piece (length piece - 1)) false
+
+-- The i-th piece is the first that doesn't end before the path; all do where i is how many there are.
+abbrev pub IsFirstFrom : List ℕ → List (List Item) → ℕ → Type 0
+IsFirstFrom path pieces i = (i ≤ length pieces) × IsPartitionPoint (λ piece. ends_before path piece ≡ true) (λ piece. ends_before path piece ≡ false) pieces i
 
 -- The i-th piece, where there is one, has an entry at the place.
 abbrev pub IsWithin : List (List Item) → ℕ → ℕ → Type 0

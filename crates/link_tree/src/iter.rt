@@ -4,6 +4,7 @@ ghost use Rattle.link_tree.specs.Pieces.{joined, NoneIsEmpty};
 
 use crate::entry::Entry;
 use crate::piece::Piece;
+use crate::placed_entry::PlacedEntry;
 use std::marker::Model;
 use std::slice;
 use unit_paths::TreePath;
@@ -11,7 +12,7 @@ use unit_paths::TreePath;
 /// The entries of a tree that are still to come, in the byte order of their paths. Contracts see their list.
 #[derive(Drop)]
 pub struct Iter<'a> {
-    items: slice::Iter<'a, (TreePath, Entry)>,
+    items: slice::Iter<'a, PlacedEntry>,
     pieces: slice::Iter<'a, Piece>,
 }
 
@@ -37,7 +38,7 @@ impl<'a> Iter<'a> {
         requires { NoneIsEmpty pieces.now }
         ensures { result ≡ joined pieces.now }
     {
-        let none: &[(TreePath, Entry)] = &[];
+        let none: &[PlacedEntry] = &[];
         Iter {
             items: none.iter(),
             pieces: pieces.iter(),
@@ -58,11 +59,11 @@ impl<'a> Iterator for Iter<'a> {
 
     fn next(&mut self) -> Option<(&'a TreePath, &'a Entry)> {
         if let Some(item) = self.items.next() {
-            return Some((&item.0, &item.1));
+            return Some((item.path(), item.entry()));
         }
         let piece = self.pieces.next()?;
         self.items = piece.items().iter();
         let item = self.items.next()?;
-        Some((&item.0, &item.1))
+        Some((item.path(), item.entry()))
     }
 }

@@ -13,6 +13,7 @@ mod laws;
 mod pending;
 mod piece;
 mod pieces;
+mod placed_entry;
 mod tree;
 mod writing;
 

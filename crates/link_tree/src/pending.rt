@@ -79,7 +79,7 @@ pub(crate) fn insert_all(
         number,
     } in pending {
         tree.shape();
-        if tree.insert(path, entry)?.is_some() {
+        if tree.insert(path, entry)? {
             taken = Some(earlier(taken, number));
         }
     }

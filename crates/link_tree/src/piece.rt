@@ -1,14 +1,14 @@
 //! Pieces of a tree: entries that follow one another, shared by copies until one of them is changed.
-ghost use Rattle.std.specs.Prelude.{◌≡◌, ◌≤◌, ◌<◌, ◌+◌, ◌++◌, ◌∷◌, [], length, take, drop, slice_set, slice_get, IfOk, OnOk, OnErr, Some, true};
-ghost use Rattle.std.specs.Option.{option_map};
+ghost use Rattle.std.specs.Prelude.{◌≡◌, ◌≤◌, ◌<◌, ◌+◌, ◌++◌, ◌∷◌, [], length, take, drop, slice_set, IfOk, OnOk, OnErr, IsTrue, true, ◌↔◌};
 ghost use Rattle.std.specs.FinMap.{is_sorted};
 ghost use Rattle.link_tree.specs.Trees.{path_cmp};
 ghost use Rattle.link_tree.specs.Pieces.{AllBelow, StartsFrom, ends_before};
+ghost use Rattle.link_tree.specs.declared.piece.TheConstants.{MAX_PIECE};
 
 use crate::entry::Entry;
+use crate::placed_entry::PlacedEntry;
 use std::alloc::{AllocError, Global};
 use std::marker::Model;
-use std::mem;
 use std::sync::Arc;
 use unit_paths::TreePath;
 
@@ -18,7 +18,7 @@ const MAX_PIECE: usize = 128;
 /// Entries in the byte order of their paths. Contracts see their list.
 #[derive(Debug, Drop)]
 pub(crate) struct Piece {
-    items: Arc<Vec<(TreePath, Entry)>>,
+    items: Arc<Vec<PlacedEntry>>,
 }
 
 impl Model for Piece {
@@ -51,14 +51,14 @@ impl Piece {
         ensures { IfOk result (λ piece. piece ≡ (path, entry) ∷ []) }
     {
         let mut items = Vec::new(alloc);
-        items.push((path, entry))?;
+        items.push(PlacedEntry::new(alloc, path, entry)?)?;
         Ok(Piece {
             items: Arc::new(alloc, items)?,
         })
     }
 
     /// The entries.
-    pub(crate) fn items(&self) -> &[(TreePath, Entry)]
+    pub(crate) fn items(&self) -> &[PlacedEntry]
         ensures { result.now ≡ self.now }
     {
         &self.items
@@ -66,7 +66,7 @@ impl Piece {
 
     /// Whether it is to be cut in two before an entry is added.
     pub(crate) fn is_full(&self) -> bool
-        ensures { result ≡ true → 128 ≤ length self.now }
+        ensures { IsTrue result ↔ (MAX_PIECE ≤ length self.now) }
     {
         self.items.len() >= MAX_PIECE
     }
@@ -76,7 +76,7 @@ impl Piece {
         ensures { result ≡ ends_before path.now self.now }
     {
         match self.items.last() {
-            Some(last) => last.0 < *path,
+            Some(last) => *last.path() < *path,
             None => false,
         }
     }
@@ -88,7 +88,7 @@ impl Piece {
         ensures below { AllBelow path.now (take result self.now) }
         ensures from { StartsFrom path.now (drop result self.now) }
     {
-        self.items().partition_point(|item| item.0 < *path)
+        self.items().partition_point(|item| *item.path() < *path)
     }
 
     /// Puts an entry before the one at this place, or at the end.
@@ -102,25 +102,25 @@ impl Piece {
         ensures ok { OnOk result (self.new ≡ take at self.old ++ (path, entry) ∷ drop at self.old) }
         ensures err { OnErr result (self.new ≡ self.old) }
     {
-        Arc::make_mut(&mut self.items)?.insert(at, (path, entry))?;
+        let placed = PlacedEntry::new(*self.items.allocator(), path, entry)?;
+        Arc::make_mut(&mut self.items)?.insert(at, placed)?;
         Ok(())
     }
 
-    /// Puts an entry in place of the one here, and answers what stood there.
+    /// Puts an entry in place of the one here.
     pub(crate) fn replace(
         &mut self,
         at: usize,
         path: TreePath,
         entry: Entry,
-    ) -> Result<Entry, AllocError>
+    ) -> Result<(), AllocError>
         requires { at < length self.old }
         ensures ok { OnOk result (self.new ≡ slice_set self.old at (path, entry)) }
-        ensures before { IfOk result (λ before. option_map (λ item. item.1) (slice_get self.old at) ≡ Some before) }
         ensures err { OnErr result (self.new ≡ self.old) }
     {
-        let items = Arc::make_mut(&mut self.items)?;
-        let (_path, before) = mem::replace(&mut items[at], (path, entry));
-        Ok(before)
+        let placed = PlacedEntry::new(*self.items.allocator(), path, entry)?;
+        Arc::make_mut(&mut self.items)?[at] = placed;
+        Ok(())
     }
 
     /// Takes the entry here away.

@@ -1,15 +1,16 @@
 //! The entries of a tree in pieces, one after another in the byte order of the paths.
-ghost use Rattle.std.specs.Prelude.{◌≡◌, ◌<◌, ◌≤◌, true, [], length, slice_index_or, IfOk, OnOk, OnErr, Some, None};
+ghost use Rattle.std.specs.Prelude.{◌≡◌, ◌<◌, ◌≤◌, true, [], length, slice_index_or, IfOk, OnOk, OnErr, None, is_some};
 ghost use Rattle.std.specs.Ordering.{is_le};
-ghost use Rattle.std.specs.List.{filter};
+ghost use Rattle.std.specs.List.{AllWithin, filter};
 ghost use Rattle.std.specs.Option.{option_copied};
 ghost use Rattle.std.specs.FinMap as map;
 ghost use Rattle.std.specs.FinMap.{find, put};
 ghost use Rattle.link_tree.specs.Trees.{path_cmp};
-ghost use Rattle.link_tree.specs.Pieces.{joined, behind, first_of, is_first, others, AllBelow, AreInOrder, IsWithin, IsSpot, Become};
+ghost use Rattle.link_tree.specs.Pieces.{joined, behind, ends_before, first_of, is_first, others, AllBelow, AreInOrder, IsFirstFrom, IsWithin, IsSpot, Become};
 
 use crate::entry::Entry;
 use crate::piece::Piece;
+use crate::placed_entry::PlacedEntry;
 use std::alloc::{AllocError, Global};
 use std::marker::Model;
 use unit_paths::TreePath;
@@ -19,6 +20,8 @@ use unit_paths::TreePath;
 pub(crate) struct Pieces {
     pieces: Vec<Piece>,
     count: usize,
+    /// Where the last entry was put. Neighbours often come one after another, so it is tried first.
+    near: usize,
 }
 
 impl Model for Pieces {
@@ -45,6 +48,7 @@ impl Clone for Pieces {
         Ok(Pieces {
             pieces: self.pieces.clone()?,
             count: self.count,
+            near: self.near,
         })
     }
 }
@@ -57,6 +61,7 @@ impl Pieces {
         Pieces {
             pieces: Vec::new(alloc),
             count: 0,
+            near: 0,
         }
     }
 
@@ -82,32 +87,30 @@ impl Pieces {
         let pieces = self.pieces();
         let spot = spot_of(pieces, path);
         match item_at(pieces, spot) {
-            Some(item) if item.0 == *path => Some(&item.1),
+            Some(item) if *item.path() == *path => Some(item.entry()),
             _ => None,
         }
     }
 
     /// The first entry at the path or after it.
-    pub(crate) fn first_from(&self, path: &TreePath) -> Option<&(TreePath, Entry)>
+    pub(crate) fn first_from(&self, path: &TreePath) -> Option<&PlacedEntry>
         ensures { option_copied result ≡ first_of (filter (λ item. is_le (path_cmp path.now item.0)) (map.entries self.now)) }
     {
         let pieces = self.pieces();
         item_at(pieces, spot_of(pieces, path))
     }
 
-    /// Puts an entry at the path, and answers what stood there.
-    pub(crate) fn insert(
-        &mut self,
-        path: TreePath,
-        entry: Entry,
-    ) -> Result<Option<Entry>, AllocError>
+    /// Puts an entry at the path, and answers whether another stood there.
+    pub(crate) fn insert(&mut self, path: TreePath, entry: Entry) -> Result<bool, AllocError>
         ensures ok { OnOk result (self.new ≡ map.insert self.old path entry) }
-        ensures before { IfOk result (λ before. before ≡ map.get self.old path) }
+        ensures stood { IfOk result (λ stood. stood ≡ is_some (map.get self.old path)) }
         ensures err { OnErr result (self.new ≡ self.old) }
     {
-        let spot = spot_of(&self.pieces, &path);
+        let spot = spot_near(&self.pieces, self.near, &path);
+        self.near = spot.piece;
         if stands_at(&self.pieces, spot, &path) {
-            return Ok(Some(replace(&mut self.pieces, spot, path, entry)?));
+            replace(&mut self.pieces, spot, path, entry)?;
+            return Ok(true);
         }
         // More entries than can be counted are more than memory holds.
         if self.count == usize::MAX {
@@ -115,7 +118,7 @@ impl Pieces {
         }
         add(&mut self.pieces, spot, path, entry)?;
         self.count += 1;
-        Ok(None)
+        Ok(false)
     }
 
     /// Takes the entry at the path away.
@@ -145,6 +148,53 @@ fn spot_of(pieces: &[Piece], path: &TreePath) -> Spot
     ensures { IsSpot path.now pieces.now result.piece result.at }
 {
     let piece = pieces.partition_point(|piece| piece.ends_before(path));
+    spot_in(pieces, piece, path)
+}
+
+/// The same, where this piece is tried before all are searched.
+fn spot_near(pieces: &[Piece], near: usize, path: &TreePath) -> Spot
+    requires { AreInOrder pieces.now }
+    ensures { IsSpot path.now pieces.now result.piece result.at }
+{
+    if is_first_from(pieces, near, path) {
+        spot_in(pieces, near, path)
+    } else {
+        spot_of(pieces, path)
+    }
+}
+
+/// Whether this piece is the first that doesn't end before the path.
+fn is_first_from(pieces: &[Piece], piece: usize, path: &TreePath) -> bool
+    requires { AreInOrder pieces.now }
+    ensures { result ≡ true → IsFirstFrom path.now pieces.now piece }
+{
+    if piece > pieces.len() || !earlier_end_before(pieces, piece, path) {
+        return false;
+    }
+    match pieces.get(piece) {
+        Some(found) => !found.ends_before(path),
+        None => true,
+    }
+}
+
+/// Whether all pieces before this one end before the path: where the last of them does, all do.
+fn earlier_end_before(pieces: &[Piece], piece: usize, path: &TreePath) -> bool
+    requires order { AreInOrder pieces.now }
+    requires upto { piece ≤ length pieces.now }
+    ensures { result ≡ true → AllWithin (λ one. ends_before path.now one ≡ true) pieces.now 0 piece }
+{
+    if piece == 0 {
+        return true;
+    }
+    pieces[piece - 1].ends_before(path)
+}
+
+/// The place of a path in the piece that is the first that doesn't end before it.
+fn spot_in(pieces: &[Piece], piece: usize, path: &TreePath) -> Spot
+    requires order { AreInOrder pieces.now }
+    requires first { IsFirstFrom path.now pieces.now piece }
+    ensures { IsSpot path.now pieces.now result.piece result.at }
+{
     let at = match pieces.get(piece) {
         Some(found) => found.place_of(path),
         None => 0,
@@ -153,7 +203,7 @@ fn spot_of(pieces: &[Piece], path: &TreePath) -> Spot
 }
 
 /// The entry at a spot.
-fn item_at(pieces: &[Piece], spot: Spot) -> Option<&(TreePath, Entry)>
+fn item_at(pieces: &[Piece], spot: Spot) -> Option<&PlacedEntry>
     requires { IsWithin pieces.now spot.piece spot.at }
     ensures { option_copied result ≡ first_of (behind pieces.now spot.piece spot.at) }
 {
@@ -169,7 +219,7 @@ fn stands_at(pieces: &[Piece], spot: Spot, path: &TreePath) -> bool
     ensures { result ≡ is_first path.now (behind pieces.now spot.piece spot.at) }
 {
     match item_at(pieces, spot) {
-        Some(item) => item.0 == *path,
+        Some(item) => *item.path() == *path,
         None => false,
     }
 }
@@ -180,12 +230,11 @@ fn replace(
     spot: Spot,
     path: TreePath,
     entry: Entry,
-) -> Result<Entry, AllocError>
+) -> Result<(), AllocError>
     requires order { AreInOrder pieces.old.items }
     requires spot { IsSpot path pieces.old.items spot.piece spot.at }
     requires taken { is_first path (behind pieces.old.items spot.piece spot.at) ≡ true }
-    ensures pieces { Become pieces.old.items pieces.new.items (put path_cmp path entry (joined pieces.old.items)) result }
-    ensures before { IfOk result (λ before. find path_cmp path (joined pieces.old.items) ≡ Some before) }
+    ensures { Become pieces.old.items pieces.new.items (put path_cmp path entry (joined pieces.old.items)) result }
 {
     pieces[spot.piece].replace(spot.at, path, entry)
 }

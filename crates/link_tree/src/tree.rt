@@ -1,5 +1,5 @@
 //! Trees of entries.
-ghost use Rattle.std.specs.Prelude.{◌≡◌, ◌++◌, All, IfOk, OnOk, OnErr, IsTrue, true, false, ◌↔◌, ℕ, List, IsPermutation};
+ghost use Rattle.std.specs.Prelude.{◌≡◌, ◌++◌, All, IfOk, OnOk, OnErr, IsTrue, true, false, is_some, ◌↔◌, ℕ, List, IsPermutation};
 ghost use Rattle.std.specs.List.{list_any};
 ghost use Rattle.std.specs.Map.Iter.{ShowsInOrder, deref_pair};
 ghost use Rattle.std.specs.Option.{option_copied};
@@ -161,16 +161,12 @@ impl Tree {
         self.pieces.pieces()
     }
 
-    /// Puts an entry at the path, and answers what stood there.
-    pub(crate) fn insert(
-        &mut self,
-        path: TreePath,
-        entry: Entry,
-    ) -> Result<Option<Entry>, AllocError>
+    /// Puts an entry at the path, and answers whether another stood there.
+    pub(crate) fn insert(&mut self, path: TreePath, entry: Entry) -> Result<bool, AllocError>
         requires fits { fits_at path entry ≡ true }
         requires apart { is_crowded self.old path ≡ false }
         ensures ok { OnOk result (self.new ≡ map.insert self.old path entry) }
-        ensures before { IfOk result (λ before. before ≡ map.get self.old path) }
+        ensures stood { IfOk result (λ stood. stood ≡ is_some (map.get self.old path)) }
         ensures err { OnErr result (self.new ≡ self.old) }
     {
         Arc::make_mut(&mut self.pieces)?.insert(path, entry)
@@ -217,7 +213,7 @@ impl Tree {
             return Ok(false);
         };
         match self.pieces.first_from(&first) {
-            Some(item) => Ok(item.0.is_beneath(path)),
+            Some(item) => Ok(item.path().is_beneath(path)),
             None => Ok(false),
         }
     }

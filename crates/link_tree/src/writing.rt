@@ -66,8 +66,8 @@ fn write_piece<K: Sink>(
     ensures writes { Writes (K.written sink.old) (K.written sink.new) writer.old writer.new result (flat_map entry_line piece.now) }
     ensures counters { Accounts result (K.counters sink.old) (K.counters sink.new) }
 {
-    for (path, entry) in piece.items() {
-        write_line(writer, path, entry, sink)?;
+    for placed in piece.items() {
+        write_line(writer, placed.path(), placed.entry(), sink)?;
     }
     Ok(())
 }

@@ -345,6 +345,36 @@ fn pieces_are_cut_and_emptied(rt: HostRuntime) -> Result<(), Fail> {
     Ok(())
 }
 
+/// How many entries each piece of the tree has.
+fn sizes_of_pieces(alloc: Global, tree: &Tree) -> Result<Vec<usize>, AllocError> {
+    let mut sizes = Vec::new(alloc);
+    for piece in tree.pieces() {
+        sizes.push(piece.items().len())?;
+    }
+    Ok(sizes)
+}
+
+#[test]
+fn a_piece_has_at_most_128_entries(rt: HostRuntime) -> Result<(), Fail> {
+    let alloc = rt.alloc();
+    let rows: [(u32, u32, &[usize]); 7] = [
+        (127, NEW_LAST, &[128]),
+        (127, NEW_FIRST, &[128]),
+        (128, NEW_LAST, &[128, 1]),
+        (128, NEW_FIRST, &[65, 64]),
+        (128, NEW_INSIDE, &[64, 65]),
+        (129, NEW_FIRST, &[65, 64, 1]),
+        (256, NEW_LAST, &[128, 128, 1]),
+    ];
+    for (count, new, sizes) in rows {
+        let mut tree = ample!(tree_of(alloc, count), AllocError)?;
+        ample!(set(alloc, &mut tree, new, b"a.service"), AllocError)?;
+        let made = ample!(sizes_of_pieces(alloc, &tree), AllocError)?;
+        assert_eq!(rt; made.as_slice(), sizes);
+    }
+    Ok(())
+}
+
 /// Whether an entry lies beneath the path, or the path beneath an entry.
 fn is_crowded(alloc: Global, tree: &Tree, at: &[u8]) -> Result<bool, AllocError> {
     match TreePath::parse(alloc, at) {
@@ -361,7 +391,7 @@ fn insert_entry(tree: &mut Tree, path: TreePath, entry: Entry) -> Result<bool, A
     }
     let _path = path.text();
     let _valid = entry.bytes();
-    Ok(tree.insert(path, entry)?.is_some())
+    tree.insert(path, entry)
 }
 
 /// Inserts a link at the path.

@@ -1,6 +1,5 @@
 use Rattle.std.proofs.Common.{rules, ◌≡◌, ℕ, Bool, true, false, List, ◌∷◌, Option, Some, None, All, refl, sym, ap, subst, ◌∙◌}
 use Rattle.link_tree.specs.declared.pending.PendingEntry.{PendingEntry}
-use Rattle.link_tree.specs.declared.entry.Entry.{Entry}
 use Rattle.link_tree.specs.Trees.{Entries}
 use Rattle.std.specs.Prelude.{is_some}
 use Rattle.std.specs.FinMap as map
@@ -31,25 +30,25 @@ insert-requires-clause-apart c =
     slot_free c.loop-path.tree c.in-Some.field-0.path c.shape-in-loop-path.ensures (All-head IsAtSlot _ _ slots).0
 
 -- one step, whether the path was taken or not
-one_more : (taken : Option ℕ) (m new : Entries) (left rest : List PendingEntry) (a : PendingEntry) (t : Bool) (before : Option Entry) → new ≡ map.insert m a.path a.entry → before ≡ map.get m a.path → is_some before ≡ t → left ≡ a ∷ rest → inserted (noted t taken a.number) new rest ≡ inserted taken m left
-one_more taken m new left rest a t before grown stood test left_is =
+one_more : (taken : Option ℕ) (m new : Entries) (left rest : List PendingEntry) (a : PendingEntry) (t stood : Bool) → new ≡ map.insert m a.path a.entry → stood ≡ is_some (map.get m a.path) → stood ≡ t → left ≡ a ∷ rest → inserted (noted t taken a.number) new rest ≡ inserted taken m left
+one_more taken m new left rest a t stood grown was test left_is =
     ap (λ x. inserted (noted t taken a.number) x rest) grown
-    ∙ ap (λ s. inserted (noted s taken a.number) (map.insert m a.path a.entry) rest) (sym test ∙ ap is_some stood)
+    ∙ ap (λ s. inserted (noted s taken a.number) (map.insert m a.path a.entry) rest) (sym test ∙ was)
     ∙ ap (inserted taken m) (sym left_is)
 
 pub loop-path-preserved : goal.loop-path-preserved
 loop-path-preserved c = record {
   leads =
-      one_more _ c.loop-path.tree c.insert.new.self _ _ c.in-Some.field-0 false c.in_ok-insert.field-0 c.in_ok-insert.ensures.ok c.in_ok-insert.ensures.before (sym c.is_some.ensures ∙ c.if-is_some.false) c.in-Some.ensures.steps.0
+      one_more _ c.loop-path.tree c.insert.new.self _ _ c.in-Some.field-0 false c.in_ok-insert.field-0 c.in_ok-insert.ensures.ok c.in_ok-insert.ensures.stood c.if-branch.false c.in-Some.ensures.steps.0
       ∙ c.loop-path.invariant.leads;
   at_slots = All-rest IsAtSlot _ _ _ c.in-Some.ensures.steps.0 c.loop-path.invariant.at_slots;
 }
 
-pub loop-path-preserved-then-is_some : goal.loop-path-preserved-then-is_some
-loop-path-preserved-then-is_some c = record {
+pub loop-path-preserved-then-branch : goal.loop-path-preserved-then-branch
+loop-path-preserved-then-branch c = record {
   leads =
       ap (λ (least : ℕ). inserted (Some least) c.insert.new.self (into_iter_items c.next.new.self)) c.earlier.ensures
-      ∙ one_more c.loop-path.taken c.loop-path.tree c.insert.new.self _ _ c.in-Some.field-0 true c.in_ok-insert.field-0 c.in_ok-insert.ensures.ok c.in_ok-insert.ensures.before (sym c.is_some.ensures ∙ c.if-is_some.true) c.in-Some.ensures.steps.0
+      ∙ one_more c.loop-path.taken c.loop-path.tree c.insert.new.self _ _ c.in-Some.field-0 true c.in_ok-insert.field-0 c.in_ok-insert.ensures.ok c.in_ok-insert.ensures.stood c.if-branch.true c.in-Some.ensures.steps.0
       ∙ c.loop-path.invariant.leads;
   at_slots = All-rest IsAtSlot _ _ _ c.in-Some.ensures.steps.0 c.loop-path.invariant.at_slots;
 }

@@ -1,10 +1,10 @@
-use Rattle.std.proofs.Common.{◌≡◌, List, refl, sym, subst, ◌∙◌}
+use Rattle.std.proofs.Common.{◌≡◌, List, refl, sym, subst}
 use Rattle.std.specs.Prelude.{slice_set}
 use Rattle.std.specs.FinMap.{put}
 use Rattle.link_tree.specs.Trees.{path_cmp}
 use Rattle.link_tree.specs.Pieces.{Item, joined, AreInOrder}
 use Rattle.link_tree.proofs.Rows.{index_found}
-use Rattle.link_tree.proofs.Becoming.{taken_at, set_becomes, put_over_here, found_item, on_ok, if_ok}
+use Rattle.link_tree.proofs.Becoming.{taken_at, set_becomes, put_over_here, on_ok}
 use Rattle.link_tree.proofs.pieces.replace.Goals as goal
 
 pub index_mut-requires : goal.index_mut-requires
@@ -16,8 +16,8 @@ replace-requires c =
     let inside = taken_at _ c.requires.order _ _ _ c.requires.spot refl c.requires.taken in
     c.requires.spot.within piece (index_found c.args.pieces.now.items c.args.spot.piece piece piece inside (sym c.index_mut.ensures.value))
 
-pub returns-clause-pieces : goal.returns-clause-pieces
-returns-clause-pieces c =
+pub returns : goal.returns
+returns c =
     let pieces = c.args.pieces.now.items in
     let i = c.args.spot.piece in
     let at = c.args.spot.at in
@@ -27,12 +27,3 @@ returns-clause-pieces c =
     let found = index_found pieces i piece piece inside (sym c.index_mut.ensures.value) in
     set_becomes pieces c.requires.order wanted c.replace.result i piece c.replace.new.self found c.replace.ensures.err
     (on_ok c.replace.result (λ is. subst (λ (q : List Item). AreInOrder (slice_set pieces i q) × (joined (slice_set pieces i q) ≡ wanted)) (sym is) (put_over_here pieces c.requires.order c.args.path i at c.requires.spot piece found c.args.entry c.requires.taken)) c.replace.ensures.ok)
-
-pub returns-clause-before : goal.returns-clause-before
-returns-clause-before c =
-    let pieces = c.args.pieces.now.items in
-    let i = c.args.spot.piece in
-    let piece = c.index_mut.result.now in
-    let inside = taken_at pieces c.requires.order c.args.path i c.args.spot.at c.requires.spot refl c.requires.taken in
-    let found = index_found pieces i piece piece inside (sym c.index_mut.ensures.value) in
-    if_ok c.replace.result (λ before is. found_item pieces c.requires.order c.args.path i c.args.spot.at c.requires.spot piece found c.requires.taken ∙ is) c.replace.ensures.before

@@ -6,8 +6,8 @@ use Rattle.byte_streams.proofs.Writes.{IsWritten}
 use Rattle.link_tree.proofs.writing.write_piece.Given as goal
 
 -- the lines so far were written, and those of the other entries are left
-abbrev pub invariant-loop-path : goal.invariant-loop-path
-invariant-loop-path g l = record {
-  written : IsWritten (g.K.Sink.written l.fn.sink) (g.K.Sink.written l.sink) l.fn.writer l.writer (flat_map entry_line l.piece) (flat_map entry_line (drop l.path-index l.path-items));
+abbrev pub invariant-loop-placed : goal.invariant-loop-placed
+invariant-loop-placed g l = record {
+  written : IsWritten (g.K.Sink.written l.fn.sink) (g.K.Sink.written l.sink) l.fn.writer l.writer (flat_map entry_line l.piece) (flat_map entry_line (drop l.placed-index l.placed-items));
   calm : IsCalm (g.K.Sink.counters l.fn.sink) (g.K.Sink.counters l.sink);
 }

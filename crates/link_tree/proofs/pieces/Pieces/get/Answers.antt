@@ -1,7 +1,9 @@
 use Rattle.std.proofs.Common.{◌≡◌, Option, Some, false, ap, sym, ◌∙◌}
 use Rattle.std.specs.FinMap as map
 use Rattle.std.specs.Option.{option_map, option_copied}
+use Rattle.std.specs.Ordering.{eq_by_cmp}
 use Rattle.link_tree.specs.Trees.{path_cmp}
+use Rattle.link_tree.specs.declared.entry.Entry.{Entry}
 use Rattle.link_tree.specs.Pieces.{Item, behind, first_of, is_first}
 use Rattle.link_tree.proofs.Aboves.{same_test}
 use Rattle.link_tree.proofs.Spots.{first_is}
@@ -17,8 +19,8 @@ returns-in-Some c =
     let items = behind pieces spot.piece spot.at in
     let item = c.in-Some.item.now in
     let first : first_of items ≡ Some item = sym c.in-Some.ensures in
-    let taken = sym (first_is path item items first) ∙ same_test path item.0 ∙ sym c.eq.ensures ∙ c.if-eq.true in
-    ap (λ (o : Option Item). option_map (λ (item : Item). item.1) o) (sym first) ∙ sym (found_there pieces c.pieces-pieces.ensures.order path spot.piece spot.at c.spot_of-spot.ensures taken)
+    let taken = sym (first_is path item items first) ∙ ap (eq_by_cmp path_cmp path) (sym c.path.ensures) ∙ same_test path c.path.result.now ∙ sym c.eq.ensures ∙ c.if-eq.true in
+    ap (λ (entry : Entry). Some entry) c.entry.ensures ∙ ap (λ (o : Option Item). option_map (λ (item : Item). item.1) o) (sym first) ∙ sym (found_there pieces c.pieces-pieces.ensures.order path spot.piece spot.at c.spot_of-spot.ensures taken)
     ∙ ap (map.find path_cmp path) c.pieces-pieces.ensures.entries ∙ sym (map.get-entries c.args.self.now path)
 
 pub returns-in_default : goal.returns-in_default
@@ -28,7 +30,7 @@ returns-in_default c =
     let spot = c.spot_of-spot.result in
     let items = behind pieces spot.piece spot.at in
     let free : is_first path items ≡ false = elim c.in_default.branch [
-      | in_default-via-in-Some+else-eq w ↦ sym (first_is path w.in-Some.item.now items (sym w.in-Some.ensures)) ∙ same_test path w.in-Some.item.now.0 ∙ sym w.eq.ensures ∙ w.if-eq.false
+      | in_default-via-in-Some+else-eq w ↦ sym (first_is path w.in-Some.item.now items (sym w.in-Some.ensures)) ∙ ap (eq_by_cmp path_cmp path) (sym w.path.ensures) ∙ same_test path w.path.result.now ∙ sym w.eq.ensures ∙ w.if-eq.false
       | in_default-via-in_default w ↦ not_first path items (sym c.item_at.ensures ∙ ap option_copied w.in_default.is)
     ] in
     sym (not_there pieces c.pieces-pieces.ensures.order path spot.piece spot.at c.spot_of-spot.ensures free)

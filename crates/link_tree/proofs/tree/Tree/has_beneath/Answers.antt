@@ -4,6 +4,7 @@ use Rattle.std.specs.Ordering.{is_le}
 use Rattle.link_tree.specs.Trees.{path_cmp}
 use Rattle.link_tree.specs.Pieces.{Item, first_of}
 use Rattle.std.specs.FinMap as map
+use Rattle.unit_paths.specs.Shape.{is_beneath}
 use Rattle.link_tree.proofs.Aboves.{key_path}
 use Rattle.link_tree.proofs.Beneaths.{first_is, first_found, none_beneath}
 use Rattle.link_tree.proofs.tree.Tree.has_beneath.Goals as goal
@@ -18,7 +19,7 @@ returns-in-Some-first_from c =
     let m = c.args.self.now in
     let path = c.args.path.now in
     let from : first_of (filter (λ (item : Item). is_le (path_cmp c.in-Some.first item.0)) (map.entries m)) ≡ Some c.in-Some-first_from.item.now = search rules in
-    c.is_beneath.ensures ∙ ap (first_is path) (sym from) ∙ first_found path c.in-Some.first m c.requires (sym c.in_ok-first.ensures.first ∙ c.in-Some.is)
+    c.is_beneath.ensures ∙ ap (λ below. is_beneath below path) c.path.ensures ∙ ap (first_is path) (sym from) ∙ first_found path c.in-Some.first m c.requires (sym c.in_ok-first.ensures.first ∙ c.in-Some.is)
 
 pub returns : goal.returns
 returns c =
