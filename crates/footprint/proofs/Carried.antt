@@ -1,45 +1,63 @@
--- Commands that carry out steps keep the laws of operations.
-use Rattle.std.proofs.Common.{◌≡◌, ℕ, true, false, List, [], ◌∷◌, map as list_map, All, Contains, Ok, Err, refl, sym}
+-- Commands that are carried out keep the laws of operations.
+use Rattle.std.proofs.Common.{◌≡◌, true, false, List, [], ◌++◌, All, Contains, Result, Ok, Err, refl, sym, ap, ◌∙◌}
 use Rattle.std.specs.Prelude.{◌≢◌}
 use Rattle.std.specs.List.Sorted.{IsStrictlySortedBy}
 use Rattle.std.proofs.lemmas.Bool.{true≢false}
-use Rattle.std.proofs.lemmas.List.Elements.{All-head, All-tail, All-nil, All-cons, All-contains, All-contains_itself}
+use Rattle.std.proofs.lemmas.List.Elements.{All-nil}
+use Rattle.unit_file.specs.Notices.{NoticeMap}
 use Rattle.link_tree.specs.Trees.{path_cmp, Entries}
 use Rattle.link_tree.proofs.Leads.{leads, changes_at}
 use Rattle.footprint.specs.declared.key.Key.{Key}
 use Rattle.footprint.specs.declared.key.Key.TheVariants.{Cell}
-use Rattle.footprint.specs.Operations.{AreChanges, OperationLaws, is_refused}
-use Rattle.footprint.specs.Placing.{Verdict, placed_in, effect, IsLookedAt}
-use Rattle.footprint.specs.PlacingLaws.{differs_at_cell}
-use Rattle.footprint.specs.Steps.{Step, carried_out}
+use Rattle.footprint.specs.declared.refusal.Refusal.{Refusal}
+use Rattle.footprint.specs.Commands.{Command, silent, carried_out}
+use Rattle.footprint.specs.Edits.{stepped, ended, Carries}
+use Rattle.footprint.specs.Operations.{AreChanges, OperationLaws, is_refused, outcome_of}
+use Rattle.footprint.specs.Placing.{Ruling, placed_in, effect, IsLookedAt}
+use Rattle.footprint.specs.PlacingLaws.{differs_at_key, looked_before}
+use Rattle.footprint.specs.Readings.{reading_of}
+use Rattle.footprint.specs.Steps.{Step}
 
-all_cells : (P : Key → Type 0) (cells : List (List ℕ)) → All P (list_map Cell cells) → All (λ cell. P (Cell cell)) cells
-all_cells P [] all = All-nil (λ cell. P (Cell cell))
-all_cells P (cell ∷ cells) all = All-cons (λ cell. P (Cell cell)) cell cells (All-head P (Cell cell) (list_map Cell cells) all) (all_cells P cells (All-tail P (Cell cell) (list_map Cell cells) all))
+effect_confined : (keys : List Key) (t : Entries) (notices : NoticeMap) (ruling : Ruling) → IsLookedAt keys ruling → All (λ change. Contains keys (Cell change.path)) (effect t notices ruling).changes
+effect_confined keys t notices (Ok placed) looked = changes_at t (placed_in placed t) (λ path. Contains keys (Cell path)) (differs_at_key keys placed t looked)
+effect_confined keys t notices (Err refusal) looked = All-nil (λ change. Contains keys (Cell change.path))
 
-cell_in : (cells : List (List ℕ)) (cell : List ℕ) → Contains cells cell → Contains (list_map Cell cells) (Cell cell)
-cell_in cells cell here = All-contains (λ cell. Contains (list_map Cell cells) (Cell cell)) cells cell (all_cells (Contains (list_map Cell cells)) cells (All-contains_itself (list_map Cell cells))) here
-
-effect_confined : (cells : List (List ℕ)) (t : Entries) (verdict : Verdict) → IsLookedAt cells verdict → All (λ change. Contains (list_map Cell cells) (Cell change.path)) (effect t verdict).changes
-effect_confined cells t (Ok placed) looked = changes_at t (placed_in placed t) (λ path. Contains (list_map Cell cells) (Cell path)) (λ path differs. cell_in cells path (differs_at_cell cells placed t looked path differs))
-effect_confined cells t (Err refusal) looked = All-nil (λ change. Contains (list_map Cell cells) (Cell change.path))
-
-none_in_order : IsStrictlySortedBy path_cmp []
+pub none_in_order : IsStrictlySortedBy path_cmp []
 unfolding IsStrictlySortedBy
 none_in_order = tt
 
-effect_changes : (t : Entries) (verdict : Verdict) → AreChanges t (effect t verdict).changes
-effect_changes t (Ok placed) = let these = leads t (placed_in placed t) in record { from = these.from; real = these.real; in_order = these.in_order }
-effect_changes t (Err refusal) = record { from = tt; real = All-nil (λ change. change.before ≢ change.after); in_order = none_in_order }
+effect_changes : (t : Entries) (notices : NoticeMap) (ruling : Ruling) → AreChanges t (effect t notices ruling).changes
+effect_changes t notices (Ok placed) = let these = leads t (placed_in placed t) in record { from = these.from; real = these.real; in_order = these.in_order }
+effect_changes t notices (Err refusal) = record { from = tt; real = All-nil (λ change. change.before ≢ change.after); in_order = none_in_order }
 
-refused_changes : (t : Entries) (verdict : Verdict) → is_refused (effect t verdict).answer ≡ true → (effect t verdict).changes ≡ []
-refused_changes t (Ok placed) refused = absurd (true≢false (sym refused))
-refused_changes t (Err refusal) refused = refl
+refused_changes : (t : Entries) (notices : NoticeMap) (ruling : Ruling) → is_refused (effect t notices ruling).answer ≡ true → (effect t notices ruling).changes ≡ []
+refused_changes t notices (Ok placed) refused = absurd (true≢false (sym refused))
+refused_changes t notices (Err refusal) refused = refl
 
-pub laws_of : {C : Type 0} (steps : C → Step) → OperationLaws (λ c. false) (λ c. carried_out (steps c))
-laws_of steps = record {
-  confinement = λ c t. effect_confined ((steps c).cells t) t ((steps c).conclusion t) ((steps c).looked t);
-  changes = λ c t. effect_changes t ((steps c).conclusion t);
-  refusal = λ c t. refused_changes t ((steps c).conclusion t);
-  question = λ c t asks. absurd (true≢false (sym asks));
-}
+module _ {C : Type 0} (command : C → Command) where
+  pub laws_of : OperationLaws (λ c. false) (λ c. carried_out (command c))
+  laws_of = record {
+    confinement = λ c t. let told = (command c).conclusion t in
+        effect_confined ((command c).keys t ++ told.1.keys t) t told.0 (told.1.conclusion t) (looked_before ((command c).keys t) (told.1.keys t) (told.1.conclusion t) (told.1.looked t));
+    changes = λ c t. let told = (command c).conclusion t in effect_changes t told.0 (told.1.conclusion t);
+    refusal = λ c t. let told = (command c).conclusion t in refused_changes t told.0 (told.1.conclusion t);
+    question = λ c t asks. absurd (true≢false (sym asks));
+  }
+
+-- so do steps alone
+pub laws_of_steps : {C : Type 0} (steps : C → Step) → OperationLaws (λ c. false) (λ c. carried_out (silent (steps c)))
+laws_of_steps steps = laws_of (λ c. silent (steps c))
+
+-- the outcome of what was done from a tree
+begun : (keys : List Key) (notices : NoticeMap) (ruling : Ruling) (t : Entries)
+    → ended t keys notices (stepped ruling (t, t)) ≡ record { answer = (effect t notices ruling).answer; changes = (effect t notices ruling).changes; reading = reading_of keys t }
+begun keys notices (Ok placed) t = refl
+begun keys notices (Err refusal) t = refl
+
+-- What a command comes to that was carried out, from a tree at which nothing was looked.
+pub comes_to : {C : Type 0} (command : C → Command) (c : C) (t : Entries) (before after : List Key) (notices : NoticeMap) (done : Result (Entries × Entries) Refusal)
+    → before ≡ [] → Carries (command c) t before after notices done → ended t after notices done ≡ outcome_of (λ c. carried_out (command c)) c t
+comes_to command c t before after notices done none carries =
+    let told = (command c).conclusion t in
+    let here : after ≡ (command c).keys t ++ told.1.keys t = carries.1.1 ∙ ap (λ before. (before ++ (command c).keys t) ++ told.1.keys t) none in
+    (λ i. ended t (here i) (carries.0 i) (carries.1.0 i)) ∙ begun ((command c).keys t ++ told.1.keys t) told.0 (told.1.conclusion t) t

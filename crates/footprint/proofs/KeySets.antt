@@ -1,5 +1,5 @@
 -- Sets of keys.
-use Rattle.std.proofs.Common.{◌≡◌, Bool, true, false, cond, T, ◌&&◌, ◌||◌, List, [], ◌∷◌, map as list_map, All, Contains, Option, Some, None, refl, sym, ap, subst, ◌∙◌}
+use Rattle.std.proofs.Common.{◌≡◌, Bool, true, false, cond, T, ◌&&◌, ◌||◌, List, [], ◌∷◌, ◌++◌, map as list_map, All, Contains, Option, Some, None, refl, sym, ap, subst, ◌∙◌}
 use Rattle.std.specs.Prelude.{is_some}
 use Rattle.std.specs.BTreeSet.{BTreeSet, contains}
 use Rattle.std.specs.List.{list_any, AllByRecursion}
@@ -129,3 +129,19 @@ one_gathered these key rest all h q = ap (λ there. cond (is_among rest q) (Some
 
 pub all_gathered : (these : KeySet) (all : List Key) → AreGathered these [] all → these ≡ set_of all
 all_gathered these all h = same_keys these (set_of all) (λ q. h q ∙ sym (get-set_of all q))
+
+among-append : (keys more : List Key) (key : Key) → is_among (keys ++ more) key ≡ (is_among keys key || is_among more key)
+among-append [] more key = refl
+among-append (k ∷ ks) more key = ap (λ b. eq_by_cmp key_cmp key k || b) (among-append ks more key) ∙ or_assoc (eq_by_cmp key_cmp key k) _ _
+  where
+    or_assoc : (x y z : Bool) → (x || (y || z)) ≡ ((x || y) || z)
+    or_assoc true y z = refl
+    or_assoc false y z = refl
+
+-- keys in order, and more of them in order, are all of them in order
+pub in_order-both : (keys more : List Key) → in_order (in_order keys ++ in_order more) ≡ in_order (keys ++ more)
+unfolding in_order
+in_order-both keys more = ap map.keys (same_keys (set_of (in_order keys ++ in_order more)) (set_of (keys ++ more)) (λ key.
+    get-set_of (in_order keys ++ in_order more) key
+    ∙ ap mark (among-append (in_order keys) (in_order more) key ∙ (λ i. any-in_order keys key i || any-in_order more key i) ∙ sym (among-append keys more key))
+    ∙ sym (get-set_of (keys ++ more) key)))

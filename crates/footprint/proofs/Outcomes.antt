@@ -1,15 +1,16 @@
 -- The keys of a reading are those by which it was made, so operations come to the same where trees agree on either.
-use Rattle.std.proofs.Common.{◌≡◌, false, List, [], ◌∷◌, map as list_map, All, refl, ap, ◌∙◌, subst}
+use Rattle.std.proofs.Common.{◌≡◌, Bool, false, List, [], ◌∷◌, map as list_map, All, refl, ap, ◌∙◌, subst}
 use Rattle.std.proofs.lemmas.List.Elements.{All-head, All-tail}
 use Rattle.link_tree.specs.declared.change.Change.{Change}
 use Rattle.link_tree.specs.Trees.{Entries}
+use Rattle.link_tree.proofs.Changed.{inverse_from, inverse_undoes}
 use Rattle.footprint.specs.declared.key.Key.{Key}
 use Rattle.footprint.specs.declared.outcome.Outcome.{Outcome}
 use Rattle.footprint.specs.declared.reading.Observation.{Observation}
 use Rattle.footprint.specs.Inquiry.{Inquiry}
 use Rattle.footprint.specs.Keys.{seen, touches, Agree, AgreeOn, Untouched}
-use Rattle.footprint.specs.Laws.{ComesToTheSame}
-use Rattle.footprint.specs.Operations.{Effect, outcome_of}
+use Rattle.footprint.specs.Laws.{ComesToTheSame, IsTakenBack}
+use Rattle.footprint.specs.Operations.{Effect, outcome_of, OperationLaws}
 use Rattle.footprint.specs.Readings.{in_order, observed, reading_of, keys_of}
 use Rattle.footprint.proofs.KeySets.{All-in_order, in_order-All}
 
@@ -55,3 +56,10 @@ comes_to_the_same meaning c t u agree =
     let keys = (meaning c).keys t in
     let P : Key → Type 0 = λ key. Agree key t u in
     outcome_agrees meaning c t u (in_order-All P keys (subst (All P) (keys_of_reading keys t) agree))
+
+-- What an operation changes can be taken back.
+pub is_taken_back : {O : Type 0} {asks : O → Bool} {meaning : O → Inquiry Effect} → OperationLaws asks meaning → IsTakenBack meaning
+is_taken_back {meaning = meaning} laws = λ c t.
+    let changes = (outcome_of meaning c t).changes in
+    let from = (laws.changes c t).from in
+    (inverse_from t changes from, inverse_undoes t changes from)

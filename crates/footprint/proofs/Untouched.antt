@@ -15,7 +15,7 @@ use Rattle.footprint.specs.declared.key.Key.{Key}
 use Rattle.footprint.specs.declared.key.Key.TheVariants.{Cell, Marked, Presets, Links}
 use Rattle.footprint.specs.Inquiry.{Inquiry}
 use Rattle.footprint.specs.Keys.{shows, shown, is_marked, is_preset, is_dependency, touches, Agree, AgreeOn, Untouched}
-use Rattle.footprint.specs.KeyLaws.{AgreeAt, agree_from, is_changed, unchanged}
+use Rattle.footprint.specs.KeyLaws.{AgreeAt, agree_from, is_changed, unchanged, at_changed}
 use Rattle.footprint.specs.Operations.{Effect, outcome_of, OperationLaws}
 use Rattle.footprint.proofs.Outcomes.{outcome_agrees}
 
@@ -113,14 +113,6 @@ cell_kept [] path h = refl
 cell_kept (c ∷ cs) path h =
     ap (λ b. cond b true (is_changed cs path)) (other_bytes c.path path (All-head (λ d. touches d (Cell path) ≡ false) c cs h))
     ∙ cell_kept cs path (All-tail (λ d. touches d (Cell path) ≡ false) c cs h)
-
--- what holds of each changed path holds of a path that is changed
-at_changed : (P : List ℕ → Type 0) (ds : List Change) (path : List ℕ) → All (λ d. P d.path) ds → is_changed ds path ≡ true → P path
-at_changed P [] path all h = absurd (false≢true h)
-at_changed P (d ∷ ds) path all h = elim (cases_Bool (bytes_eq path d.path)) [
-  | inl here ↦ subst P (sym (same_bytes path d.path here)) (All-head (λ x. P x.path) d ds all)
-  | inr away ↦ at_changed P ds path (All-tail (λ x. P x.path) d ds all) (sym (ap (λ b. cond b true (is_changed ds path)) away) ∙ h)
-]
 
 -- what an operation changes it looks at, so changes that touch nothing of that are of other paths
 pub apart_from : (keys : List Key) (ds cs : List Change) → All (λ d. Contains keys (Cell d.path)) ds → Untouched cs keys → AreApart ds cs

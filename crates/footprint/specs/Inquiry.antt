@@ -1,15 +1,16 @@
 -- What is asked of a tree by keys.
-use Rattle.std.specs.Prelude.{◌≡◌, List, [], ◌∷◌, ◌++◌, map as list_map, refl}
+use Rattle.std.specs.Prelude.{◌≡◌, ℕ, List, [], ◌∷◌, ◌++◌, map as list_map, Option, refl}
 use Rattle.std.proofs.Common.{ap}
 use Rattle.std.proofs.lemmas.List.Elements.{All-head}
 use Rattle.link_tree.specs.declared.change.Change.{Change}
+use Rattle.link_tree.specs.declared.entry.Entry.{Entry}
 use Rattle.link_tree.specs.Trees.{Entries, after_changes}
-use Rattle.load_path.specs.Search.{Search}
+use Rattle.load_path.specs.Search.{Search, look as look_at_cell}
 use Rattle.footprint.specs.declared.key.Key.{Key}
 use Rattle.footprint.specs.declared.key.Key.TheVariants.{Cell}
 use Rattle.footprint.specs.declared.reading.Seen.{Seen}
-use Rattle.footprint.specs.Keys.{seen, Agree, AgreeOn}
-use Rattle.footprint.specs.KeyLaws.{same_cells, agree_on_after, both_agree}
+use Rattle.footprint.specs.Keys.{seen, those, any_selects, part, Agree, AgreeOn}
+use Rattle.footprint.specs.KeyLaws.{same_cells, same_part, same_any, agree_at, agree_on_after, both_agree}
 
 -- What an inquiry comes to in a tree, the keys that it looks at, in order, and that it comes to the same, by the same keys, in a
 -- tree that agrees on them.
@@ -30,6 +31,22 @@ look key = record {
   agreement = λ t u agree. (All-head (λ key. Agree key t u) key [] agree, refl);
 }
 
+-- the entries at which a key looks
+abbrev pub entries_seen : Key → Inquiry Entries
+entries_seen key = record {
+  conclusion = part key;
+  keys = λ t. key ∷ [];
+  agreement = λ t u agree. (same_part key t u (agree_at key t u (All-head (λ key. Agree key t u) key [] agree)), refl);
+}
+
+-- the entries at which one of several keys looks
+abbrev pub entries_of_all : List Key → Inquiry Entries
+entries_of_all keys = record {
+  conclusion = those (any_selects keys);
+  keys = λ t. keys;
+  agreement = λ t u agree. (same_any keys t u agree, refl);
+}
+
 -- these keys are looked at too
 abbrev pub beside : List Key → Inquiry (Unit {0})
 beside keys = record { conclusion = λ t. tt; keys = λ t. keys; agreement = λ t u agree. (refl, refl) }
@@ -41,6 +58,10 @@ by_cells s = record {
   keys = λ t. list_map Cell (s.cells t);
   agreement = λ t u agree. let same = s.agreement t u (same_cells (s.cells t) t u agree) in (same.0, ap (list_map Cell) same.1);
 }
+
+-- what stands at a path
+abbrev pub stands_at : List ℕ → Inquiry (Option Entry)
+stands_at path = by_cells (look_at_cell path)
 
 -- by what it comes to
 abbrev pub giving : {X Y : Type 0} → Inquiry X → (X → Y) → Inquiry Y
@@ -66,3 +87,7 @@ q >>= f = record {
   keys = λ t. q.keys t ++ (f (q.conclusion t)).keys t;
   agreement = both_agree q.conclusion q.keys (λ x. (f x).conclusion) (λ x. (f x).keys) q.agreement (λ x. (f x).agreement);
 }
+
+-- For functions that ask: the inquiry comes to x in the tree, and its keys have been added to those before.
+abbrev pub Asks : {X : Type 0} → Entries → Inquiry X → (before after : List Key) → X → Type 0
+Asks t q before after x = (x ≡ q.conclusion t) × (after ≡ before ++ q.keys t)

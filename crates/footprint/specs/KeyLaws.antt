@@ -1,10 +1,10 @@
 -- For the proofs of this crate: the definitions cite it where an agreement is to be shown, and a reader needs nothing of it. What
 -- keys see of trees, path by path, and after changes.
-use Rattle.std.proofs.Common.{◌≡◌, ℕ, Bool, true, false, cond, List, [], ◌∷◌, ◌++◌, map as list_map, Contains, Option, Some, None, refl, sym, ap, ◌∙◌, inl, inr, subst}
+use Rattle.std.proofs.Common.{◌≡◌, All, ℕ, Bool, true, false, ◌||◌, cond, List, [], ◌∷◌, ◌++◌, map as list_map, Contains, Option, Some, None, refl, sym, ap, ◌∙◌, inl, inr, subst}
 use Rattle.std.specs.FinMap as map
 use Rattle.std.specs.FinMap.{get-retain_keys}
 use Rattle.std.specs.Str.{bytes_eq}
-use Rattle.std.proofs.lemmas.Bool.{cases_Bool}
+use Rattle.std.proofs.lemmas.Bool.{cases_Bool, false≢true}
 use Rattle.std.proofs.lemmas.List.Elements.{All-head, All-tail, All-nil, All-cons, All-weaker, All-contains, All-contains_itself, Contains-append_left, Contains-append_right}
 use Rattle.std.proofs.lemmas.Map.Lookups.{exact_bytes}
 use Rattle.std.proofs.lemmas.Slice.Eq.{bytes_eq-Decides}
@@ -16,11 +16,17 @@ use Rattle.load_path.specs.Search.{SameAt}
 use Rattle.footprint.specs.declared.key.Key.{Key}
 use Rattle.footprint.specs.declared.key.Key.TheVariants.{Cell, Marked, Presets, Links}
 use Rattle.footprint.specs.declared.reading.Seen.TheVariants as seens
-use Rattle.footprint.specs.Keys.{shows, shown, part, Agree, AgreeOn}
+use Rattle.footprint.specs.Keys.{Chosen, is_chosen, chosen_at, those, selects, any_selects, shows, shown, part, Agree, AgreeOn}
 
 -- the key sees the same at each path
 abbrev pub AgreeAt : Key → Entries → Entries → Type 0
 AgreeAt key t u = (path : List ℕ) → shown key path (map.get t path) ≡ shown key path (map.get u path)
+
+-- what stands at a path among the chosen entries of a tree
+pub get-those : (chosen : Chosen) (t : Entries) (path : List ℕ) → map.get (those chosen t) path ≡ chosen_at chosen path (map.get t path)
+unfolding those
+get-those chosen t path =
+    get-retain_keys t (λ p. is_chosen chosen p (map.get t p)) path (λ x same. ap (λ p. is_chosen chosen p (map.get t p)) (sym (exact_bytes path x same)))
 
 -- what stands in the part of a tree that a key looks at
 pub get-part : (key : Key) (t : Entries) (path : List ℕ) → map.get (part key t) path ≡ shown key path (map.get t path)
@@ -28,8 +34,45 @@ unfolding part
 get-part key t path =
     get-retain_keys t (λ p. shows key p (map.get t p)) path (λ x same. ap (λ p. shows key p (map.get t p)) (sym (exact_bytes path x same)))
 
+-- which is the same as those that it selects
+pub part_is : (key : Key) (t : Entries) → part key t ≡ those (selects key) t
+part_is key t = same_tree _ _ (λ path. get-part key t path ∙ sym (get-those (selects key) t path))
+
 pub same_part : (key : Key) (t u : Entries) → AgreeAt key t u → part key t ≡ part key u
 same_part key t u alike = same_tree _ _ (λ path. get-part key t path ∙ alike path ∙ sym (get-part key u path))
+
+module _ (path : List ℕ) where
+  none_selects : (there : Option Entry) → chosen_at (any_selects []) path there ≡ None
+  none_selects None = refl
+  none_selects (Some entry) = refl
+
+  -- one key more
+  more_select : (key : Key) (keys : List Key) (there : Option Entry) → chosen_at (any_selects (key ∷ keys)) path there ≡ cond (shows key path there) there (chosen_at (any_selects keys) path there)
+  more_select key keys None = refl
+  more_select key keys (Some entry) = elim (selects key path entry) as (λ (here : Bool). cond (here || any_selects keys path entry) (Some entry) None ≡ cond here (Some entry) (chosen_at (any_selects keys) path (Some entry))) [
+    | true ↦ refl
+    | false ↦ refl
+  ]
+
+  shown_is_some : {P : Type 0} (key : Key) (there : Option Entry) → shows key path there ≡ true → there ≡ None → P
+  shown_is_some key None is none = absurd (false≢true is)
+  shown_is_some key (Some entry) is none = cc
+
+  -- what one key sees alike, and the others too, they all see alike
+  first_alike : (key : Key) (keys : List Key) (there other : Option Entry) → shown key path there ≡ shown key path other
+      → chosen_at (any_selects keys) path there ≡ chosen_at (any_selects keys) path other → chosen_at (any_selects (key ∷ keys)) path there ≡ chosen_at (any_selects (key ∷ keys)) path other
+  first_alike key keys there other same rest = more_select key keys there ∙ by_shown (shows key path there) refl (shows key path other) refl ∙ sym (more_select key keys other)
+    where
+      by_shown : (here : Bool) → shows key path there ≡ here → (too : Bool) → shows key path other ≡ too
+          → cond (shows key path there) there (chosen_at (any_selects keys) path there) ≡ cond (shows key path other) other (chosen_at (any_selects keys) path other)
+      by_shown true is true also =
+          ap (λ b. cond b there (chosen_at (any_selects keys) path there)) is
+          ∙ (sym (ap (λ b. cond b there None) is) ∙ same ∙ ap (λ b. cond b other None) also)
+          ∙ sym (ap (λ b. cond b other (chosen_at (any_selects keys) path other)) also)
+      by_shown false is false also =
+          ap (λ b. cond b there (chosen_at (any_selects keys) path there)) is ∙ rest ∙ sym (ap (λ b. cond b other (chosen_at (any_selects keys) path other)) also)
+      by_shown true is false also = shown_is_some key there is (sym (ap (λ b. cond b there None) is) ∙ same ∙ ap (λ b. cond b other None) also)
+      by_shown false is true also = shown_is_some key other also (sym (ap (λ b. cond b other None) also) ∙ sym same ∙ ap (λ b. cond b there None) is)
 
 part_alike : (key : Key) (t u : Entries) → part key t ≡ part key u → AgreeAt key t u
 part_alike key t u same path = sym (get-part key t path) ∙ ap (λ m. map.get m path) same ∙ get-part key u path
@@ -65,6 +108,16 @@ agree_at (Marked scope name) t u agree = let same : part (Marked scope name) t �
 agree_at Presets t u agree = let same : part Presets t ≡ part Presets u = cc in part_alike Presets t u same
 agree_at Links t u agree = let same : part Links t ≡ part Links u = cc in part_alike Links t u same
 
+-- Trees that agree on several keys have the same entries at which one of them looks.
+pub same_any : (keys : List Key) (t u : Entries) → AgreeOn keys t u → those (any_selects keys) t ≡ those (any_selects keys) u
+same_any keys t u agree = same_tree _ _ (λ path. get-those (any_selects keys) t path ∙ alike keys path agree ∙ sym (get-those (any_selects keys) u path))
+  where
+    alike : (keys : List Key) (path : List ℕ) → AgreeOn keys t u → chosen_at (any_selects keys) path (map.get t path) ≡ chosen_at (any_selects keys) path (map.get u path)
+    alike [] path agree = none_selects path (map.get t path) ∙ sym (none_selects path (map.get u path))
+    alike (key ∷ keys) path agree =
+        first_alike path key keys (map.get t path) (map.get u path) (agree_at key t u (All-head (λ key. Agree key t u) key keys agree) path)
+        (alike keys path (All-tail (λ key. Agree key t u) key keys agree))
+
 -- whether some change is of the path
 abbrev pub is_changed : List Change → List ℕ → Bool
 is_changed [] path = false
@@ -79,6 +132,14 @@ unchanged (c ∷ cs) path there away = elim (cases_Bool (bytes_eq path c.path)) 
   where
     true_false : true ≡ false → ⊥
     true_false h = cc
+
+-- what holds of each changed path holds of a path that is changed
+pub at_changed : (P : List ℕ → Type 0) (ds : List Change) (path : List ℕ) → All (λ d. P d.path) ds → is_changed ds path ≡ true → P path
+at_changed P [] path all h = absurd (false≢true h)
+at_changed P (d ∷ ds) path all h = elim (cases_Bool (bytes_eq path d.path)) [
+  | inl here ↦ subst P (sym (same_bytes path d.path here)) (All-head (λ x. P x.path) d ds all)
+  | inr away ↦ at_changed P ds path (All-tail (λ x. P x.path) d ds all) (sym (ap (λ b. cond b true (is_changed ds path)) away) ∙ h)
+]
 
 -- what changes leave at a path that one of them is of, whatever stood there
 pub after_any : (changes : List Change) (path : List ℕ) (there other : Option Entry) → is_changed changes path ≡ true → after_at changes path there ≡ after_at changes path other

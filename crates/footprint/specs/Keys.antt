@@ -1,5 +1,6 @@
 -- What a key sees of a tree, and which changes touch it.
 use Rattle.std.specs.Prelude.{◌≡◌, ℕ, Bool, true, false, ◌||◌, if◌then◌else◌, List, All, Option, Some, None}
+use Rattle.std.specs.List.{list_any}
 use Rattle.std.specs.Str.{bytes_eq}
 use Rattle.std.specs.FinMap as map
 use Rattle.link_tree.specs.declared.entry.Entry.{Entry}
@@ -7,7 +8,7 @@ use Rattle.link_tree.specs.declared.change.Change.{Change}
 use Rattle.unit_paths.specs.declared.place.Scope.{Scope}
 use Rattle.unit_paths.specs.declared.slot.Slot.{Slot}
 use Rattle.unit_paths.specs.declared.slot.Slot.TheVariants as slots
-use Rattle.unit_paths.specs.Slots.{slot_of}
+use Rattle.unit_paths.specs.Slots.{slot_of, is_slot}
 use Rattle.link_tree.specs.Trees.{Entries}
 use Rattle.footprint.specs.declared.key.Key.{Key}
 use Rattle.footprint.specs.declared.key.Key.TheVariants.{Cell, Marked, Presets, Links}
@@ -35,18 +36,40 @@ selects (Marked scope name) path entry = belongs scope name path entry
 selects Presets path entry = is_preset (slot_of path)
 selects Links path entry = is_dependency (slot_of path)
 
--- whether it looks at what stands there, if anything does
+-- which entries are chosen, by their paths
+abbrev pub Chosen : Type 0
+Chosen = (path : List ℕ) → Entry → Bool
+
+abbrev pub is_chosen : Chosen → (path : List ℕ) → Option Entry → Bool
+is_chosen chosen path None = false
+is_chosen chosen path (Some entry) = chosen path entry
+
+abbrev pub chosen_at : Chosen → (path : List ℕ) → Option Entry → Option Entry
+chosen_at chosen path there = if is_chosen chosen path there then there else None
+
+-- whether a key looks at what stands there, if anything does
 abbrev pub shows : Key → (path : List ℕ) → Option Entry → Bool
-shows key path None = false
-shows key path (Some entry) = selects key path entry
+shows key path there = is_chosen (selects key) path there
 
 -- what it sees there
 abbrev pub shown : Key → (path : List ℕ) → Option Entry → Option Entry
-shown key path there = if shows key path there then there else None
+shown key path there = chosen_at (selects key) path there
+
+-- the chosen entries of a tree
+unfoldable pub those : Chosen → Entries → Entries
+those chosen t = map.retain_keys t (λ path. is_chosen chosen path (map.get t path))
 
 -- the entries of a tree that a key looks at
 unfoldable pub part : Key → Entries → Entries
 part key t = map.retain_keys t (λ path. shows key path (map.get t path))
+
+-- whether one of several keys looks at an entry
+abbrev pub any_selects : List Key → Chosen
+any_selects keys path entry = list_any (λ key. selects key path entry) keys
+
+-- Entries stand at slots alone.
+abbrev pub StandAtSlots : Entries → Type 0
+StandAtSlots t = (path : List ℕ) (entry : Entry) → map.get t path ≡ Some entry → is_slot path ≡ true
 
 -- What a key sees of a tree: what stands at the cell, or the set of entries that it looks at.
 abbrev pub seen : Key → Entries → Seen

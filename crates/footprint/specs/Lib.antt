@@ -6,9 +6,17 @@ pub mod Seeing
 pub mod KeyLaws
 pub mod Inquiry
 pub mod Operations
+pub mod Rules
 pub mod Placing
 pub mod PlacingLaws
+pub mod WantedLaws
 pub mod Steps
+pub mod Units
+pub mod Commands
+pub mod Net
+pub mod NetLaws
+pub mod Then
+pub mod ThenLaws
 pub mod EditLaws
 pub mod Edits
 pub mod Laws

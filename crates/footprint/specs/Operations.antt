@@ -4,7 +4,7 @@ use Rattle.std.specs.List.Sorted.{IsStrictlySortedBy}
 use Rattle.link_tree.specs.declared.change.Change.{Change}
 use Rattle.link_tree.specs.Trees.{path_cmp, Entries, AreFrom}
 use Rattle.footprint.specs.declared.answer.Answer.{Answer}
-use Rattle.footprint.specs.declared.answer.Answer.TheVariants.{Refused}
+use Rattle.footprint.specs.declared.answer.Answer.TheVariants.{Done, Refused}
 use Rattle.footprint.specs.declared.key.Key.TheVariants.{Cell}
 use Rattle.footprint.specs.declared.outcome.Outcome.{Outcome}
 use Rattle.footprint.specs.Inquiry.{Inquiry}
@@ -18,6 +18,11 @@ pub record Effect : Type 0 where
 abbrev pub is_refused : Answer → Bool
 is_refused (Refused refusal) = true
 is_refused answer = false
+
+abbrev pub is_question : Answer → Bool
+is_question (Done notices) = false
+is_question (Refused refusal) = false
+is_question answer = true
 
 -- What an operation comes to in a tree, by what it asks of it: its effect, and the reading of the tree by its keys.
 abbrev pub outcome_of : {O : Type 0} → (O → Inquiry Effect) → O → Entries → Outcome

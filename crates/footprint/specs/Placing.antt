@@ -1,56 +1,75 @@
 -- What commands place: which entries are to stand where, and what that does to a tree.
 use Rattle.std.specs.FinMap as map
-use Rattle.std.specs.Prelude.{ℕ, List, [], ◌∷◌, ◌++◌, All, Contains, Option, Result, Ok, Err}
+use Rattle.std.specs.Prelude.{ℕ, List, [], ◌∷◌, ◌++◌, map as list_map, All, Contains, Option, Some, None, Result, Ok, Err}
+use Rattle.unit_file.specs.Notices.{NoticeMap}
 use Rattle.link_tree.specs.declared.entry.Entry.{Entry}
-use Rattle.link_tree.specs.Trees.{Entries, set_entry}
+use Rattle.link_tree.specs.Trees.{path_cmp, Entries, set_entry}
 use Rattle.link_tree.specs.Differences.{changes_between}
 use Rattle.footprint.specs.declared.answer.Answer.TheVariants.{Done, Refused}
+use Rattle.footprint.specs.declared.key.Key.{Key}
+use Rattle.footprint.specs.declared.key.Key.TheVariants.{Cell}
 use Rattle.footprint.specs.declared.refusal.Refusal.{Refusal}
 use Rattle.footprint.specs.Operations.{Effect}
+use Rattle.footprint.specs.Rules.{Rule, link_at}
 
 -- what is to stand at a path: an entry, or nothing
 abbrev pub Placed : Type 0
 Placed = List ℕ × Option Entry
 
 -- what is to stand at which paths, in order, or why the command is refused
-abbrev pub Verdict : Type 0
-Verdict = Result (List Placed) Refusal
+abbrev pub Ruling : Type 0
+Ruling = Result (List Placed) Refusal
 
 -- the tree in which these have been placed, in order
 abbrev pub placed_in : List Placed → Entries → Entries
 placed_in [] t = t
 placed_in (p ∷ placed) t = placed_in placed (set_entry t p.0 p.1)
 
--- What a verdict on a tree answers and changes: a refusal changes nothing.
-abbrev pub effect : Entries → Verdict → Effect
-effect t (Ok placed) = record { answer = Done map.empty; changes = changes_between t (placed_in placed t) }
-effect t (Err refusal) = record { answer = Refused refusal; changes = [] }
+-- What a ruling on a tree answers and changes, with what is told of skipped words: a refusal changes nothing, and tells nothing
+-- of them.
+abbrev pub effect : Entries → NoticeMap → Ruling → Effect
+effect t notices (Ok placed) = record { answer = Done notices; changes = changes_between t (placed_in placed t) }
+effect t notices (Err refusal) = record { answer = Refused refusal; changes = [] }
 
--- Each path where something is to stand is among these cells.
-abbrev pub IsLookedAt : List (List ℕ) → Verdict → Type 0
-IsLookedAt cells (Ok placed) = All (λ p. Contains cells p.0) placed
-IsLookedAt cells (Err refusal) = Unit {0}
-
--- what is to stand at a path, by what stands there, or a refusal
-abbrev pub Rule : Type 0
-Rule = List ℕ → Option Entry → Result (Option Entry) Refusal
+-- The cell of each path where something is to stand is among these keys.
+abbrev pub IsLookedAt : List Key → Ruling → Type 0
+IsLookedAt keys (Ok placed) = All (λ p. Contains keys (Cell p.0)) placed
+IsLookedAt keys (Err refusal) = Unit {0}
 
 -- one path is left as a rule says
-abbrev pub ruled_at : List ℕ → Result (Option Entry) Refusal → Verdict
+abbrev pub ruled_at : List ℕ → Result (Option Entry) Refusal → Ruling
 ruled_at path (Ok entry) = Ok ((path, entry) ∷ [])
 ruled_at path (Err refusal) = Err refusal
 
--- these, and what a later verdict places, unless that is a refusal
-abbrev pub placed_before : List Placed → Verdict → Verdict
+-- these, and what a later ruling places, unless that is a refusal
+abbrev pub placed_before : List Placed → Ruling → Ruling
 placed_before placed (Ok more) = Ok (placed ++ more)
 placed_before placed (Err refusal) = Err refusal
 
--- What is concluded next, in the tree that a verdict leaves; nothing follows a refusal.
-abbrev pub concluded_after : Verdict → (Entries → Verdict) → Entries → Verdict
+-- What is concluded next, in the tree that a ruling leaves; nothing follows a refusal.
+abbrev pub concluded_after : Ruling → (Entries → Ruling) → Entries → Ruling
 concluded_after (Ok placed) next t = placed_before placed (next (placed_in placed t))
 concluded_after (Err refusal) next t = Err refusal
 
--- the cells that are looked at next, in the tree that a verdict leaves
-abbrev pub cells_after : Verdict → (Entries → List (List ℕ)) → Entries → List (List ℕ)
-cells_after (Ok placed) next t = next (placed_in placed t)
-cells_after (Err refusal) next t = []
+-- the keys by which is looked next, in the tree that a ruling leaves
+abbrev pub keys_after : Ruling → (Entries → List Key) → Entries → List Key
+keys_after (Ok placed) next t = next (placed_in placed t)
+keys_after (Err refusal) next t = []
+
+-- Links that are wanted, by their paths: the path of the file to which each is to lead, or none where nothing is to stand.
+abbrev pub Wanted : Type 0
+Wanted = map.FinMap path_cmp (Option (List ℕ))
+
+-- nothing is to stand where these entries are
+unfoldable pub cleared : Entries → Wanted
+cleared t = map.from_entries (list_map (λ e. (e.0, None)) (map.entries t))
+
+-- what a wanted link leaves at its path: nothing where nothing is to stand, whatever stands there
+abbrev pub wanted_at : Option (List ℕ) → Rule
+wanted_at (Some file) path there = link_at file path there
+wanted_at None path there = Ok None
+
+-- what is left at these paths, at each by what stands there in the tree, or the refusal at the first of them that has one
+abbrev pub all_wanted : List (List ℕ × Option (List ℕ)) → Entries → Ruling
+all_wanted [] t = Ok []
+all_wanted (link ∷ links) t = concluded_after (ruled_at link.0 (wanted_at link.1 link.0 (map.get t link.0))) (λ left. all_wanted links t) t

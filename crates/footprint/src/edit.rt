@@ -16,7 +16,6 @@ use crate::outcome::Outcome;
 use crate::reading::Reading;
 use crate::refusal::Refusal;
 use link_tree::{Entry, Tree, TreePath};
-use load_path::Cells;
 use std::alloc::{AllocError, Global};
 use std::marker::Model;
 use unit_file::Notices;
@@ -117,23 +116,22 @@ impl<'a> Edit<'a> {
 }
 
 impl Outcome {
-    /// The outcome of a command: the changes of its edit, or its refusal, with the reading of the tree at the cells that it
-    /// looked at. Fails only where memory runs out.
+    /// The outcome of a command: the changes of its edit, with the notices of words that it skipped, or its refusal, and the reading
+    /// of the tree by the keys of what it looked at. Fails only where memory runs out.
     pub fn of(
         alloc: Global,
         tree: &Tree,
-        cells: &Cells,
+        keys: Keys,
+        notices: Notices,
         done: Result<Edit<'_>, Refusal>,
     ) -> Result<Outcome, AllocError>
-        ensures outcome { IfOk result (λ outcome. outcome ≡ ended tree.now cells.now done.entry) }
+        ensures outcome { IfOk result (λ outcome. outcome ≡ ended tree.now keys notices done.entry) }
         ensures slots { IfOk result (λ outcome. All (λ change. is_slot change.path ≡ true) outcome.changes) }
     {
-        let mut keys = Keys::none(alloc);
-        keys.push_cells(cells)?;
         let reading = Reading::of(alloc, tree, keys)?;
         match done {
             Ok(edit) => Ok(Outcome {
-                answer: Answer::Done(Notices::none(alloc)),
+                answer: Answer::Done(notices),
                 changes: edit.into_changes(alloc)?,
                 reading,
             }),

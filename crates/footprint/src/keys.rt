@@ -51,11 +51,21 @@ impl Keys {
     }
 
     /// Adds a key for each of the cells, in order. Where memory runs out some of them may have been added.
-    pub(crate) fn push_cells(&mut self, cells: &Cells) -> Result<(), AllocError>
-        ensures { OnOk result (self.new ≡ self.old ++ list_map keys.Cell cells.now) }
+    pub fn push_cells(&mut self, cells: Cells) -> Result<(), AllocError>
+        ensures { OnOk result (self.new ≡ self.old ++ list_map keys.Cell cells) }
     {
-        for path in cells.as_slice() {
-            self.push(Key::Cell(path.copy()?))?;
+        for path in cells.into_paths() {
+            self.push(Key::Cell(path))?;
+        }
+        Ok(())
+    }
+
+    /// Adds these keys, in their order. Where memory runs out some of them may have been added.
+    pub(crate) fn append(&mut self, more: Keys) -> Result<(), AllocError>
+        ensures { OnOk result (self.new ≡ self.old ++ more) }
+    {
+        for key in more.items {
+            self.push(key)?;
         }
         Ok(())
     }

@@ -1,5 +1,6 @@
 //! What holds of all operations and keys: each function does nothing, and its contract is the law.
-ghost use Rattle.footprint.specs.Laws.{AgreeAfterChanges, ComesToTheSame, IsTakenBack, MayChangePlaces};
+ghost use Rattle.footprint.specs.Then.{then_meaning};
+ghost use Rattle.footprint.specs.Laws.{AgreeAfterChanges, ComesToTheSame, IsTakenBack, LeftAllAtOnce, MayChangePlaces, RefusedAtTheLeast, ThenAnswers, ThenInSteps, ThenLeads};
 
 use crate::operation::Operation;
 
@@ -22,4 +23,22 @@ pub fn operations_are_taken_back<A: Operation>()
 /// change places.
 pub fn commands_may_change_places<A: Operation, B: Operation>()
     ensures { MayChangePlaces A.meaning B.meaning }
+{}
+
+/// Two operations, one after the other, are what they are alone: accepted, they leave the tree that the second leaves after
+/// the first. Where the changes of the first touch no key of the second, both answer what the second alone answers. What they
+/// change is taken back at once. Of three it doesn't matter which two are taken together, but for notices: where the second is
+/// a question and is taken together with the first, those of the first are lost.
+pub fn then_is_one_after_the_other<A: Operation, B: Operation, C: Operation>()
+    ensures leads { ThenLeads A.meaning B.meaning }
+    ensures answers { ThenAnswers A.meaning B.meaning }
+    ensures taken_back { IsTakenBack (then_meaning A.meaning B.meaning) }
+    ensures in_steps { ThenInSteps A.meaning B.meaning C.meaning }
+{}
+
+/// Links that are wanted all at once are refused exactly where something is in the way of one, and the refusal tells of the
+/// least such path. Else each of them is left, and all other entries stay.
+pub fn all_at_once_is_refused_at_the_least_path()
+    ensures refused { RefusedAtTheLeast }
+    ensures left { LeftAllAtOnce }
 {}

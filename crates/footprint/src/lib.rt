@@ -8,14 +8,18 @@ mod edit;
 mod key;
 mod keys;
 mod laws;
+mod looking;
 mod net;
 mod operation;
 mod outcome;
 mod reading;
 mod refusal;
+mod rules;
 mod seeing;
+mod then;
 mod touching;
 mod units;
+mod wanted;
 
 pub use answer::{Answer, StateWord};
 pub use changes::Changes;
@@ -23,16 +27,20 @@ pub use edit::Edit;
 pub use key::Key;
 pub use keys::Keys;
 pub use laws::{
-    commands_may_change_places, operations_are_taken_back, outcomes_follow_from_what_is_seen,
+    all_at_once_is_refused_at_the_least_path, commands_may_change_places,
+    operations_are_taken_back, outcomes_follow_from_what_is_seen, then_is_one_after_the_other,
     trees_agree_after_the_same_changes,
 };
 pub use operation::Operation;
 pub use outcome::Outcome;
 pub use reading::{Observation, Reading, Seen, agrees};
 pub use refusal::{Refusal, Subject};
+pub use rules::{link_at, relink_at};
+pub use then::Then;
 pub use touching::touches;
 pub use unit_file::{Notice, NoticeKey, Notices, Reason};
 pub use units::Units;
+pub use wanted::WantedLinks;
 
 #[cfg(test)]
 mod tests;

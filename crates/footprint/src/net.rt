@@ -3,9 +3,13 @@ ghost use Rattle.std.specs.Prelude.{◌≡◌, IfOk, OnOk};
 ghost use Rattle.std.specs.Option.{option_copied};
 ghost use Rattle.std.specs.FinMap as map;
 ghost use Rattle.link_tree.specs.Differences.{same, with_change};
+ghost use Rattle.link_tree.specs.Trees.{after_changes};
+ghost use Rattle.footprint.specs.EditLaws.{noted};
+ghost use Rattle.footprint.specs.Net.{net};
+ghost use Rattle.footprint.specs.Operations.{AreChanges};
 
 use crate::changes::Changes;
-use link_tree::{Change, Entry, TreePath, copy_of};
+use link_tree::{Change, Entry, Tree, TreePath, copy_of};
 use std::alloc::{AllocError, Global};
 use std::collections::BTreeMap;
 use std::marker::Model;
@@ -84,6 +88,16 @@ impl NetChanges {
         )
     }
 
+    /// Says it of each of the changes, by the tree in which they begin.
+    fn note_all(&mut self, tree: &Tree, changes: &[Change]) -> Result<(), AllocError>
+        ensures { OnOk result (self.new ≡ noted self.old tree.now changes.now) }
+    {
+        for change in changes {
+            self.note(&change.path, tree.get(&change.path), &change.after)?;
+        }
+        Ok(())
+    }
+
     fn remove(&mut self, path: &TreePath)
         ensures { self.new ≡ map.remove self.old path.now }
     {
@@ -107,4 +121,22 @@ impl NetChanges {
         }
         Ok(changes)
     }
+}
+
+/// What the changes make of the tree in all, the second after the first: at each path from what stands in the tree to what
+/// stands there after both. Fails only where memory runs out.
+pub(crate) fn net_changes(
+    alloc: Global,
+    tree: &Tree,
+    first: &Changes,
+    second: &Changes,
+) -> Result<Changes, AllocError>
+    requires first { AreChanges tree.now first.now }
+    requires second { AreChanges (after_changes first.now tree.now) second.now }
+    ensures { IfOk result (λ changes. changes ≡ net first.now second.now) }
+{
+    let mut net = NetChanges::none(alloc);
+    net.note_all(tree, first.as_slice())?;
+    net.note_all(tree, second.as_slice())?;
+    net.into_changes(alloc)
 }

@@ -1,8 +1,9 @@
 //! What an operation looked at, with what it saw.
 ghost use Rattle.std.specs.Prelude.{◌≡◌, ◌++◌, ◌∷◌, [], IfOk, OnOk, OnErr, MatchResult};
-ghost use Rattle.footprint.specs.Readings.{HoldsIn, IsFirstOther};
+ghost use Rattle.footprint.specs.Readings.{keys_of, HoldsIn, IsFirstOther};
 
 use crate::key::Key;
+use crate::keys::Keys;
 use link_tree::{Entry, Tree, copy_of};
 use smallvec::SmallVec;
 use std::alloc::{AllocError, Global};
@@ -110,6 +111,17 @@ impl Reading {
         ensures { result.now ≡ self.now }
     {
         self.observations.as_slice()
+    }
+
+    /// The keys alone, in their order.
+    pub(crate) fn into_keys(self, alloc: Global) -> Result<Keys, AllocError>
+        ensures { IfOk result (λ keys. keys ≡ keys_of self) }
+    {
+        let mut keys = Keys::none(alloc);
+        for observation in self.observations {
+            keys.push(observation.key)?;
+        }
+        Ok(keys)
     }
 
     /// A copy of the reading. Fails only where memory runs out.

@@ -1,12 +1,13 @@
 //! What keys see of trees.
-ghost use Rattle.std.specs.Prelude.{◌≡◌, IfOk, Some, true, false};
+ghost use Rattle.std.specs.Prelude.{◌≡◌, All, IfOk, Some, true, false};
 ghost use Rattle.std.specs.FinMap as map;
 ghost use Rattle.footprint.specs.Keys as keys;
-ghost use Rattle.footprint.specs.Keys.{part, is_cell, selects};
+ghost use Rattle.footprint.specs.Keys.{part, is_cell, selects, those, any_selects};
 ghost use Rattle.footprint.specs.Seeing.{AllStand, AllSelected};
 ghost use Rattle.footprint.specs.Readings.{Holds};
 
 use crate::key::Key;
+use crate::keys::Keys;
 use crate::net::copied;
 use crate::reading::{Observation, Seen};
 use link_tree::{Entry, Tree, TreePath};
@@ -19,23 +20,47 @@ impl Key {
     {
         match self {
             Key::Cell(path) => Ok(Seen::Entry(copied(tree.get(path))?)),
-            key => Ok(Seen::Entries(part(alloc, tree, key)?)),
+            key => Ok(Seen::Entries(key.entries(alloc, tree)?)),
         }
+    }
+
+    /// The entries of a tree at which a key looks that is no cell; they all stand at slots, and share their texts with the tree.
+    /// Fails only where memory runs out.
+    pub fn entries(&self, alloc: Global, tree: &Tree) -> Result<Tree, AllocError>
+        requires { is_cell self.now ≡ false }
+        ensures { IfOk result (λ found. found ≡ part self.now tree.now) }
+    {
+        let mut found = Tree::empty(alloc)?;
+        for (path, entry) in tree.iter() {
+            if self.selects(path, entry) {
+                found.set_as_in(path, tree)?;
+            }
+        }
+        Ok(found)
     }
 }
 
-/// The entries of a tree that a key looks at, which all stand at slots.
-fn part(alloc: Global, tree: &Tree, key: &Key) -> Result<Tree, AllocError>
-    requires { is_cell key.now ≡ false }
-    ensures { IfOk result (λ found. found ≡ part key.now tree.now) }
-{
-    let mut found = Tree::empty(alloc)?;
-    for (path, entry) in tree.iter() {
-        if key.selects(path, entry) {
-            found.set(path, Some(entry.copy()?))?;
-        }
+impl Keys {
+    /// Whether one of the keys looks at an entry that stands at a path.
+    fn any_selects(&self, path: &TreePath, entry: &Entry) -> bool
+        ensures { result ≡ any_selects self.now path.now entry.now }
+    {
+        self.as_slice().iter().any(|key| key.selects(path, entry))
     }
-    Ok(found)
+
+    /// The entries of a tree at which one of the keys looks, none of which is a cell.
+    pub(crate) fn entries_of(&self, alloc: Global, tree: &Tree) -> Result<Tree, AllocError>
+        requires { All (λ key. is_cell key ≡ false) self.now }
+        ensures { IfOk result (λ found. found ≡ those (any_selects self.now) tree.now) }
+    {
+        let mut found = Tree::empty(alloc)?;
+        for (path, entry) in tree.iter() {
+            if self.any_selects(path, entry) {
+                found.set_as_in(path, tree)?;
+            }
+        }
+        Ok(found)
+    }
 }
 
 /// Whether this entry stands at a path.

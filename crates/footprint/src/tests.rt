@@ -1,3 +1,4 @@
+mod at_once;
 mod copying;
 mod observing;
 mod touching;

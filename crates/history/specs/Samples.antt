@@ -1,20 +1,27 @@
 -- What the operations mean that the tests run.
-use Rattle.std.specs.Prelude.{◌≡◌, ◌≢◌, ℕ, Bool, true, false, List, [], All, Contains, Option, Some, None, Ok, Err, refl}
+use Rattle.std.specs.Prelude.{◌≡◌, ◌≢◌, ℕ, Bool, true, false, if◌then◌else◌, List, [], ◌∷◌, All, Contains, Option, Some, None, Ok, Err, refl}
 use Rattle.std.specs.List.Sorted.{IsStrictlySortedBy}
 use Rattle.std.proofs.Common.{sym}
 use Rattle.std.proofs.lemmas.Bool.{true≢false}
 use Rattle.std.proofs.lemmas.List.Elements.{All-nil}
+use Rattle.std.specs.FinMap as map
+use Rattle.unit_file.specs.declared.notice.NoticeKey.TheVariants.{Also}
+use Rattle.unit_file.specs.declared.notice.Reason.TheVariants.{NotFound}
+use Rattle.unit_file.specs.Notices.{NoticeMap, with_notice}
+use Rattle.unit_paths.specs.Slots.{is_slot}
 use Rattle.link_tree.specs.declared.entry.Entry.TheVariants.{File}
 use Rattle.link_tree.specs.Trees.{Entries}
 use Rattle.footprint.specs.declared.answer.Answer.TheVariants.{State}
 use Rattle.footprint.specs.declared.answer.StateWord.TheVariants.{Static}
+use Rattle.footprint.specs.declared.key.Key.{Key}
 use Rattle.footprint.specs.declared.key.Key.TheVariants.{Cell}
-use Rattle.footprint.specs.declared.refusal.Refusal.TheVariants.{Exists, Absent}
-use Rattle.footprint.specs.Inquiry.{Inquiry, look, giving}
+use Rattle.footprint.specs.declared.refusal.Refusal.TheVariants.{Exists, Absent, NotASlot}
+use Rattle.footprint.specs.Inquiry.{Inquiry, look, beside, giving, ◌>>=◌}
 use Rattle.footprint.specs.Operations.{Effect, AreChanges, OperationLaws, is_refused}
-use Rattle.footprint.specs.Placing.{Rule}
-use Rattle.footprint.specs.Steps.{ruled, carried_out}
-use Rattle.footprint.proofs.Carried.{laws_of}
+use Rattle.footprint.specs.Rules.{Rule, link_at}
+use Rattle.footprint.specs.Commands.{Command, silent, telling, carried_out}
+use Rattle.footprint.specs.Steps.{Step as OneStep, refuse, ruled}
+use Rattle.footprint.proofs.Carried.{laws_of_steps}
 
 -- an empty file is put where nothing stands, or what stands there is taken away, or it is only looked at
 abbrev pub left : Option Bool → Rule
@@ -25,7 +32,7 @@ left (Some false) slot None = Err (Absent slot)
 left (Some false) slot (Some entry) = Ok None
 
 abbrev pub commanded : Option Bool → List ℕ → Inquiry Effect
-commanded how slot = carried_out (ruled (left how) slot)
+commanded how slot = carried_out (silent (ruled (left how) slot))
 
 -- a step that asks changes nothing
 abbrev pub step_meaning : Bool → Option Bool → List ℕ → Inquiry Effect
@@ -33,7 +40,7 @@ step_meaning true how slot = giving (look (Cell slot)) (λ seen. record { answer
 step_meaning false how slot = commanded how slot
 
 commanded_laws : OperationLaws {O = Option Bool × List ℕ} (λ c. false) (λ c. commanded c.0 c.1)
-commanded_laws = laws_of (λ c. ruled (left c.0) c.1)
+commanded_laws = laws_of_steps (λ c. ruled (left c.0) c.1)
 
 -- no changes are changes of any tree
 no_changes : (t : Entries) → AreChanges t []
@@ -64,3 +71,18 @@ step_laws asks how slot = record {
   refusal = λ c t. refused (asks c) (how c) (slot c) t;
   question = λ c t. asked (asks c) (how c) (slot c) t;
 }
+
+-- what is told of a word of a unit, if it is told
+abbrev pub told_of : Option (List ℕ) → NoticeMap
+told_of None = map.empty
+told_of (Some unit) = with_notice map.empty (record { unit = unit; key = Also; word = unit; reason = NotFound })
+
+-- a file is linked at a path that is a slot
+abbrev pub linked_at : (file path : List ℕ) → OneStep
+linked_at file path = if is_slot path then ruled (link_at file) path else refuse (NotASlot path)
+
+-- it is looked by the key, and a file is linked
+abbrev pub watch_command : (key : Key) (told : Option (List ℕ)) → (file path : List ℕ) → Command
+watch_command key told file path = do
+  looked ← beside (key ∷ [])
+  telling (told_of told) (linked_at file path)

@@ -1,3 +1,5 @@
+mod kinds;
 mod replies;
 mod steps;
 mod undoing;
+mod watching;

@@ -156,12 +156,12 @@ module _ (ps : List (List Item)) (order : AreInOrder ps) where
           (gone ps i p is at there.0 there.1 (let within = spot.within p is in omega arith) ∙ others_there taken)
 
   -- what was asked of a spot, of the pieces as borrows show them
-  module _ {path : List ℕ} {i at : ℕ} {qs rs : List (List Item)} {taken : Bool} (first : qs ≡ ps) (second : rs ≡ ps) (spot : IsSpot path qs i at) (asked : taken ≡ is_first path (behind rs i at)) where
+  module _ {path own : List ℕ} {i at : ℕ} {qs rs : List (List Item)} {taken : Bool} (of : own ≡ path) (first : qs ≡ ps) (second : rs ≡ ps) (spot : IsSpot own qs i at) (asked : taken ≡ is_first own (behind rs i at)) where
     here : IsSpot path ps i at
-    here = subst (λ xs. IsSpot path xs i at) first spot
+    here = subst (λ p. IsSpot p ps i at) of (subst (λ xs. IsSpot own xs i at) first spot)
 
     answered : is_first path (behind ps i at) ≡ taken
-    answered = ap (λ xs. is_first path (behind xs i at)) (sym second) ∙ sym asked
+    answered = (λ j. is_first (sym of j) (behind (sym second j) i at)) ∙ sym asked
 
     pub found_free : taken ≡ false → find path_cmp path (joined ps) ≡ None
     found_free is = not_there path i at here (answered ∙ is)

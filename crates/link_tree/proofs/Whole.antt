@@ -1,6 +1,7 @@
 -- Pieces in order as a finite map.
-use Rattle.std.proofs.Common.{◌≡◌, ℕ, ◌+◌, ◌-◌, ◌≤◌, Bool, true, false, not, cond, List, [], Option, None, length, sym, ap, ◌∙◌, refl, arith}
+use Rattle.std.proofs.Common.{◌≡◌, ℕ, ◌+◌, ◌-◌, ◌≤◌, Bool, true, false, not, cond, List, [], Option, Some, None, length, sym, ap, ◌∙◌, refl, arith}
 use Rattle.std.specs.Prelude.{is_some}
+use Rattle.std.specs.Option.{option_map}
 use Rattle.std.specs.Cmp.{eq_by_cmp_equiv}
 use Rattle.std.specs.Cmp.Lexicographic.{nat_list_cmp_total}
 use Rattle.std.specs.Ordering.{eq_by_cmp}
@@ -72,3 +73,8 @@ none_whole = map.empty_of_len (whole []) (map.len-entries (whole []) ∙ ap leng
 
 pub one_back : (n m : ℕ) → 1 + m ≡ n → (1 ≤ n) × (n - 1 ≡ m)
 one_back n m more = (omega arith, omega arith)
+
+-- what is found with its path stands there
+pub placed_is : (path : List ℕ) (there : Option Entry) (item : Item) → Some item ≡ option_map (λ entry. (path, entry)) there → (item.0 ≡ path) × (there ≡ Some item.1)
+placed_is path None item is = cc
+placed_is path (Some entry) item is = let same : item ≡ (path, entry) = cc in (ap (λ (x : Item). x.0) same, ap (λ (x : Item). Some x.1) (sym same))

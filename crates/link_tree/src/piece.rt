@@ -5,7 +5,6 @@ ghost use Rattle.link_tree.specs.Trees.{path_cmp};
 ghost use Rattle.link_tree.specs.Pieces.{AllBelow, StartsFrom, ends_before};
 ghost use Rattle.link_tree.specs.declared.piece.TheConstants.{MAX_PIECE};
 
-use crate::entry::Entry;
 use crate::placed_entry::PlacedEntry;
 use std::alloc::{AllocError, Global};
 use std::marker::Model;
@@ -47,11 +46,11 @@ impl Clone for Piece {
 
 impl Piece {
     /// A piece of one entry.
-    pub(crate) fn of_one(alloc: Global, path: TreePath, entry: Entry) -> Result<Piece, AllocError>
-        ensures { IfOk result (λ piece. piece ≡ (path, entry) ∷ []) }
+    pub(crate) fn of_one(alloc: Global, placed: PlacedEntry) -> Result<Piece, AllocError>
+        ensures { IfOk result (λ piece. piece ≡ placed ∷ []) }
     {
         let mut items = Vec::new(alloc);
-        items.push(PlacedEntry::new(alloc, path, entry)?)?;
+        items.push(placed)?;
         Ok(Piece {
             items: Arc::new(alloc, items)?,
         })
@@ -92,33 +91,21 @@ impl Piece {
     }
 
     /// Puts an entry before the one at this place, or at the end.
-    pub(crate) fn insert(
-        &mut self,
-        at: usize,
-        path: TreePath,
-        entry: Entry,
-    ) -> Result<(), AllocError>
+    pub(crate) fn insert(&mut self, at: usize, placed: PlacedEntry) -> Result<(), AllocError>
         requires { at ≤ length self.old }
-        ensures ok { OnOk result (self.new ≡ take at self.old ++ (path, entry) ∷ drop at self.old) }
+        ensures ok { OnOk result (self.new ≡ take at self.old ++ placed ∷ drop at self.old) }
         ensures err { OnErr result (self.new ≡ self.old) }
     {
-        let placed = PlacedEntry::new(*self.items.allocator(), path, entry)?;
         Arc::make_mut(&mut self.items)?.insert(at, placed)?;
         Ok(())
     }
 
     /// Puts an entry in place of the one here.
-    pub(crate) fn replace(
-        &mut self,
-        at: usize,
-        path: TreePath,
-        entry: Entry,
-    ) -> Result<(), AllocError>
+    pub(crate) fn replace(&mut self, at: usize, placed: PlacedEntry) -> Result<(), AllocError>
         requires { at < length self.old }
-        ensures ok { OnOk result (self.new ≡ slice_set self.old at (path, entry)) }
+        ensures ok { OnOk result (self.new ≡ slice_set self.old at placed) }
         ensures err { OnErr result (self.new ≡ self.old) }
     {
-        let placed = PlacedEntry::new(*self.items.allocator(), path, entry)?;
         Arc::make_mut(&mut self.items)?[at] = placed;
         Ok(())
     }

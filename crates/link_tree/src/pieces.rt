@@ -2,7 +2,7 @@
 ghost use Rattle.std.specs.Prelude.{◌≡◌, ◌<◌, ◌≤◌, true, [], length, slice_index_or, IfOk, OnOk, OnErr, None, is_some};
 ghost use Rattle.std.specs.Ordering.{is_le};
 ghost use Rattle.std.specs.List.{AllWithin, filter};
-ghost use Rattle.std.specs.Option.{option_copied};
+ghost use Rattle.std.specs.Option.{option_copied, option_map};
 ghost use Rattle.std.specs.FinMap as map;
 ghost use Rattle.std.specs.FinMap.{find, put};
 ghost use Rattle.link_tree.specs.Trees.{path_cmp};
@@ -84,12 +84,27 @@ impl Pieces {
     pub(crate) fn get(&self, path: &TreePath) -> Option<&Entry>
         ensures { option_copied result ≡ map.get self.now path.now }
     {
+        match self.placed(path) {
+            Some(placed) => Some(placed.entry()),
+            None => None,
+        }
+    }
+
+    /// What stands at the path, with the path.
+    pub(crate) fn placed(&self, path: &TreePath) -> Option<&PlacedEntry>
+        ensures { option_copied result ≡ option_map (λ entry. (path.now, entry)) (map.get self.now path.now) }
+    {
         let pieces = self.pieces();
         let spot = spot_of(pieces, path);
         match item_at(pieces, spot) {
-            Some(item) if *item.path() == *path => Some(item.entry()),
+            Some(item) if *item.path() == *path => Some(item),
             _ => None,
         }
+    }
+
+    /// Where the entries take their memory.
+    pub(crate) fn allocator(&self) -> Global {
+        *self.pieces.allocator()
     }
 
     /// The first entry at the path or after it.
@@ -100,23 +115,24 @@ impl Pieces {
         item_at(pieces, spot_of(pieces, path))
     }
 
-    /// Puts an entry at the path, and answers whether another stood there.
-    pub(crate) fn insert(&mut self, path: TreePath, entry: Entry) -> Result<bool, AllocError>
-        ensures ok { OnOk result (self.new ≡ map.insert self.old path entry) }
-        ensures stood { IfOk result (λ stood. stood ≡ is_some (map.get self.old path)) }
+    /// Puts an entry at its path, and answers whether another stood there.
+    pub(crate) fn put(&mut self, placed: PlacedEntry) -> Result<bool, AllocError>
+        ensures ok { OnOk result (self.new ≡ map.insert self.old placed.0 placed.1) }
+        ensures stood { IfOk result (λ stood. stood ≡ is_some (map.get self.old placed.0)) }
         ensures err { OnErr result (self.new ≡ self.old) }
     {
-        let spot = spot_near(&self.pieces, self.near, &path);
+        let path = placed.path();
+        let spot = spot_near(&self.pieces, self.near, path);
         self.near = spot.piece;
-        if stands_at(&self.pieces, spot, &path) {
-            replace(&mut self.pieces, spot, path, entry)?;
+        if stands_at(&self.pieces, spot, path) {
+            replace(&mut self.pieces, spot, placed)?;
             return Ok(true);
         }
         // More entries than can be counted are more than memory holds.
         if self.count == usize::MAX {
             return Err(AllocError);
         }
-        add(&mut self.pieces, spot, path, entry)?;
+        add(&mut self.pieces, spot, placed)?;
         self.count += 1;
         Ok(false)
     }
@@ -225,69 +241,59 @@ fn stands_at(pieces: &[Piece], spot: Spot, path: &TreePath) -> bool
 }
 
 /// Puts an entry in place of the one that stands at its path.
-fn replace(
-    pieces: &mut Vec<Piece>,
-    spot: Spot,
-    path: TreePath,
-    entry: Entry,
-) -> Result<(), AllocError>
+fn replace(pieces: &mut Vec<Piece>, spot: Spot, placed: PlacedEntry) -> Result<(), AllocError>
     requires order { AreInOrder pieces.old.items }
-    requires spot { IsSpot path pieces.old.items spot.piece spot.at }
-    requires taken { is_first path (behind pieces.old.items spot.piece spot.at) ≡ true }
-    ensures { Become pieces.old.items pieces.new.items (put path_cmp path entry (joined pieces.old.items)) result }
+    requires spot { IsSpot placed.0 pieces.old.items spot.piece spot.at }
+    requires taken { is_first placed.0 (behind pieces.old.items spot.piece spot.at) ≡ true }
+    ensures { Become pieces.old.items pieces.new.items (put path_cmp placed.0 placed.1 (joined pieces.old.items)) result }
 {
-    pieces[spot.piece].replace(spot.at, path, entry)
+    pieces[spot.piece].replace(spot.at, placed)
 }
 
 /// Adds an entry at a path where none stands. A full piece is cut in two first.
-fn add(pieces: &mut Vec<Piece>, spot: Spot, path: TreePath, entry: Entry) -> Result<(), AllocError>
+fn add(pieces: &mut Vec<Piece>, spot: Spot, placed: PlacedEntry) -> Result<(), AllocError>
     requires order { AreInOrder pieces.old.items }
-    requires spot { IsSpot path pieces.old.items spot.piece spot.at }
-    requires free { find path_cmp path (joined pieces.old.items) ≡ None }
-    ensures { Become pieces.old.items pieces.new.items (put path_cmp path entry (joined pieces.old.items)) result }
+    requires spot { IsSpot placed.0 pieces.old.items spot.piece spot.at }
+    requires free { find path_cmp placed.0 (joined pieces.old.items) ≡ None }
+    ensures { Become pieces.old.items pieces.new.items (put path_cmp placed.0 placed.1 (joined pieces.old.items)) result }
 {
     if spot.piece < pieces.len() && pieces[spot.piece].is_full() {
         cut(pieces, spot.piece)?;
-        let spot = spot_of(pieces, &path);
-        add_at(pieces, spot, path, entry)
+        let spot = spot_of(pieces, placed.path());
+        add_at(pieces, spot, placed)
     } else {
-        add_at(pieces, spot, path, entry)
+        add_at(pieces, spot, placed)
     }
 }
 
-fn add_at(
-    pieces: &mut Vec<Piece>,
-    spot: Spot,
-    path: TreePath,
-    entry: Entry,
-) -> Result<(), AllocError>
+fn add_at(pieces: &mut Vec<Piece>, spot: Spot, placed: PlacedEntry) -> Result<(), AllocError>
     requires order { AreInOrder pieces.old.items }
-    requires spot { IsSpot path pieces.old.items spot.piece spot.at }
-    requires free { find path_cmp path (joined pieces.old.items) ≡ None }
-    ensures { Become pieces.old.items pieces.new.items (put path_cmp path entry (joined pieces.old.items)) result }
+    requires spot { IsSpot placed.0 pieces.old.items spot.piece spot.at }
+    requires free { find path_cmp placed.0 (joined pieces.old.items) ≡ None }
+    ensures { Become pieces.old.items pieces.new.items (put path_cmp placed.0 placed.1 (joined pieces.old.items)) result }
 {
     if spot.piece < pieces.len() {
-        pieces[spot.piece].insert(spot.at, path, entry)
+        pieces[spot.piece].insert(spot.at, placed)
     } else {
-        add_behind(pieces, path, entry)
+        add_behind(pieces, placed)
     }
 }
 
 /// Adds an entry behind all others: to the last piece, or where that is full, or there is none, as a piece of its own. So pieces
 /// that are filled in order are full.
-fn add_behind(pieces: &mut Vec<Piece>, path: TreePath, entry: Entry) -> Result<(), AllocError>
+fn add_behind(pieces: &mut Vec<Piece>, placed: PlacedEntry) -> Result<(), AllocError>
     requires order { AreInOrder pieces.old.items }
-    requires below { AllBelow path (joined pieces.old.items) }
-    ensures { Become pieces.old.items pieces.new.items (put path_cmp path entry (joined pieces.old.items)) result }
+    requires below { AllBelow placed.0 (joined pieces.old.items) }
+    ensures { Become pieces.old.items pieces.new.items (put path_cmp placed.0 placed.1 (joined pieces.old.items)) result }
 {
     let alloc = *pieces.allocator();
     if let Some(last) = pieces.len().checked_sub(1)
         && !pieces[last].is_full()
     {
         let end = pieces[last].items().len();
-        return pieces[last].insert(end, path, entry);
+        return pieces[last].insert(end, placed);
     }
-    pieces.push(Piece::of_one(alloc, path, entry)?)?;
+    pieces.push(Piece::of_one(alloc, placed)?)?;
     Ok(())
 }
 

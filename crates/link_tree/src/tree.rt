@@ -16,6 +16,7 @@ use crate::entry::Entry;
 use crate::iter::Iter;
 use crate::piece::Piece;
 use crate::pieces::Pieces;
+use crate::placed_entry::PlacedEntry;
 use std::alloc::{AllocError, Global};
 use std::marker::Model;
 use std::sync::Arc;
@@ -127,6 +128,22 @@ impl Tree {
         }
     }
 
+    /// Leaves at a slot what stands there in another tree, and shares it with that tree: an entry, or nothing.
+    pub fn set_as_in(&mut self, slot: &TreePath, other: &Tree) -> Result<(), AllocError>
+        requires { is_slot slot.now ≡ true }
+        ensures ok { OnOk result (self.new ≡ set_entry self.old slot.now (map.get other.now slot.now)) }
+        ensures err { OnErr result (self.new ≡ self.old) }
+    {
+        let Some(placed) = other.pieces.placed(slot) else {
+            return self.remove(slot);
+        };
+        let _path = placed.path().text();
+        let _valid = placed.entry().bytes();
+        self.shape();
+        self.put(placed.clone()?)?;
+        Ok(())
+    }
+
     /// The tree with these changes made: each replaces what stands at a slot. `self` is unchanged.
     pub fn with_changes(&self, changes: &[Change]) -> Result<Tree, AllocError>
         requires slots { All (λ change. is_slot change.path ≡ true) changes.now }
@@ -169,7 +186,19 @@ impl Tree {
         ensures stood { IfOk result (λ stood. stood ≡ is_some (map.get self.old path)) }
         ensures err { OnErr result (self.new ≡ self.old) }
     {
-        Arc::make_mut(&mut self.pieces)?.insert(path, entry)
+        let placed = PlacedEntry::new(self.pieces.allocator(), path, entry)?;
+        self.put(placed)
+    }
+
+    /// The same, where the entry has its path with it.
+    fn put(&mut self, placed: PlacedEntry) -> Result<bool, AllocError>
+        requires fits { fits_at placed.0 placed.1 ≡ true }
+        requires apart { is_crowded self.old placed.0 ≡ false }
+        ensures ok { OnOk result (self.new ≡ map.insert self.old placed.0 placed.1) }
+        ensures stood { IfOk result (λ stood. stood ≡ is_some (map.get self.old placed.0)) }
+        ensures err { OnErr result (self.new ≡ self.old) }
+    {
+        Arc::make_mut(&mut self.pieces)?.put(placed)
     }
 
     /// Takes the entry at the path away.

@@ -54,6 +54,14 @@ impl Cells {
         &self.paths
     }
 
+    /// The paths, in the order in which they were looked at.
+    pub fn into_paths(self) -> Vec<TreePath>
+        ensures { result.items ≡ self }
+    {
+        let Cells { paths } = self;
+        paths
+    }
+
     /// Each of the paths once, where it was looked at first.
     pub fn each_once(self) -> Result<Cells, AllocError>
         ensures { IfOk result (λ cells. cells ≡ each_once self) }

@@ -1,7 +1,7 @@
 //! Where links lead.
 ghost use Rattle.std.specs.Prelude.{◌≡◌, IfOk, OnErr};
 ghost use Rattle.std.specs.Option.{option_copied};
-ghost use Rattle.load_path.specs.Search.{Finds, each_once, look};
+ghost use Rattle.load_path.specs.Search.{Finds, each_once, look, giving};
 ghost use Rattle.load_path.specs.Follow.{is_null, at_file, chain, chain_from, end_of, follow};
 
 use crate::cells::Cells;
@@ -70,6 +70,24 @@ pub fn follow_into(
 {
     let mut more = Cells::new(alloc);
     let end = end_from(alloc, tree, path, &mut more)?;
+    cells.append(more)?;
+    Ok(end)
+}
+
+/// Where an entry leads that stands at a path, as `follow` says, with the paths to which links lead added to these. The path itself is
+/// not looked at. Where memory runs out, they stay as they were.
+pub fn follow_entry_into(
+    alloc: Global,
+    tree: &Tree,
+    path: &TreePath,
+    entry: &Entry,
+    cells: &mut Cells,
+) -> Result<End, AllocError>
+    ensures ok { IfOk result (Finds tree.now (giving (chain_from path.now entry.now) end_of) cells.old cells.new) }
+    ensures err { OnErr result (cells.new ≡ cells.old) }
+{
+    let mut more = Cells::new(alloc);
+    let end = end_of(chain_from(alloc, tree, path, entry, &mut more)?);
     cells.append(more)?;
     Ok(end)
 }

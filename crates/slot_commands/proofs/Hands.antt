@@ -8,9 +8,10 @@ use Rattle.link_tree.proofs.Changed.{get-set}
 use Rattle.slot_commands.specs.declared.by_hand.PlaceEntry.{PlaceEntry}
 use Rattle.slot_commands.specs.declared.by_hand.RemoveEntry.{RemoveEntry}
 use Rattle.footprint.specs.declared.refusal.Refusal.TheVariants.{NotASlot, Absent, Exists}
-use Rattle.footprint.specs.Placing.{Rule, ruled_at}
+use Rattle.footprint.specs.Placing.{ruled_at}
+use Rattle.footprint.specs.Rules.{Rule}
 use Rattle.slot_commands.specs.ByHand.{place_at, remove_at, ruled_slot, with_one, FillsSlot, PlaceFills, EmptiesSlot, RemoveEmpties}
-use Rattle.slot_commands.proofs.Turns.{left_by}
+use Rattle.footprint.proofs.Turns.{left_by}
 use Rattle.slot_commands.proofs.Outcomes.{refuses, leaves_tree}
 
 -- what a path that is a slot, or none, is left as

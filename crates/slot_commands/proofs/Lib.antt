@@ -1,4 +1,3 @@
-pub mod Turns
 pub mod Outcomes
 pub mod Masked
 pub mod Hands

@@ -26,15 +26,15 @@ use Rattle.footprint.specs.declared.answer.Answer.TheVariants.{Done}
 use Rattle.footprint.specs.declared.refusal.Refusal.{Refusal}
 use Rattle.footprint.specs.declared.refusal.Refusal.TheVariants.{Exists, NeedsInstance, BadType}
 use Rattle.footprint.specs.declared.refusal.Subject.TheVariants as subjects
-use Rattle.footprint.specs.Placing.{Verdict, effect, ruled_at}
+use Rattle.footprint.specs.Placing.{Ruling, effect, ruled_at}
 use Rattle.footprint.specs.Steps.{Step, ruled, unless_refused, each_in_turn}
-use Rattle.slot_commands.specs.Links.{is_same_path, leads_alike, link_at, relink_at, LeadsAs}
+use Rattle.footprint.specs.Rules.{is_same_path, leads_alike, link_at, relink_at, LeadsAs}
 use Rattle.slot_commands.specs.LinkUnits.{is_of_unit, link_file, link_end, link_unit, IsLinked, FilesAreLinked}
-use Rattle.slot_commands.specs.Units.{found_unit, IsFound}
+use Rattle.footprint.specs.Units.{found_unit, IsFound}
 use Rattle.slot_commands.specs.AddTo.{is_template_name, default_of, listed_name, add_listed, add_file, add_unit, add_units, IsListedBetween, DependenciesAreAdded}
 use Rattle.slot_commands.specs.SetDefault.{default_slot, is_target_type, default_file, DefaultIsSet}
 use Rattle.slot_commands.specs.Effects.{Keeps, AddsOnly}
-use Rattle.slot_commands.proofs.Turns.{left_by, leaves, goes_on, in_turn, all_turns}
+use Rattle.footprint.proofs.Turns.{left_by, leaves, goes_on, in_turn, all_turns}
 use Rattle.slot_commands.proofs.Outcomes.{placed_leads}
 
 some_none : {P : Type 0} (entry : Entry) → None ≡ Some entry → P
@@ -149,7 +149,7 @@ module _ {A : Type 0} (first : Entries) (step : A → Step) (IsNew : Entries →
     every args v is = every_since args first v (λ path entry there. there) is
 
 -- an accepted command leaves the tree in which something was placed
-left_tree : (t : Entries) (verdict : Verdict) → (effect t verdict).answer ≡ Done map.empty → left_by verdict t ≡ Ok (after_changes (effect t verdict).changes t)
+left_tree : (t : Entries) (ruling : Ruling) → (effect t map.empty ruling).answer ≡ Done map.empty → left_by ruling t ≡ Ok (after_changes (effect t map.empty ruling).changes t)
 left_tree t (Ok placed) is = ap (λ m. Ok m) (sym (placed_leads t placed))
 left_tree t (Err refusal) is = cc
 
@@ -192,8 +192,8 @@ module _ (place : Place) where
 pub files_are_linked : FilesAreLinked
 files_are_linked = λ link t done.
     let place = scope_place link.scope in
-    let verdict = (each_in_turn (link_unit place) link.paths).conclusion t in
-    let all = every t (link_unit place) (λ u. IsNewLink place) (IsLinked place) (λ file u v path entry kept new. new) (linked_kept place) (λ file u v since is. one_linked place file u v is) link.paths (after_changes (effect t verdict).changes t) (sym (all_turns (link_unit place) link.paths t) ∙ left_tree t verdict done) in
+    let ruling = (each_in_turn (link_unit place) link.paths).conclusion t in
+    let all = every t (link_unit place) (λ u. IsNewLink place) (IsLinked place) (λ file u v path entry kept new. new) (linked_kept place) (λ file u v since is. one_linked place file u v is) link.paths (after_changes (effect t map.empty ruling).changes t) (sym (all_turns (link_unit place) link.paths t) ∙ left_tree t ruling done) in
     record { kept = all.0; only = all.1.0; linked = all.1.1 }
 
 -- one unit is listed by another
@@ -240,12 +240,12 @@ module _ (first : Entries) (place : Place) (dependency : Dependency) (by : List 
 
 -- what is found
 module _ (name : List ℕ) (t : Entries) (on : (real file : List ℕ) → Step) where
-  abbrev verdict_of : Found → Verdict
-  verdict_of found = (unless_refused (λ (unit : List ℕ × List ℕ). on unit.0 unit.1) (found_unit name found)).conclusion t
+  abbrev ruling_of : Found → Ruling
+  ruling_of found = (unless_refused (λ (unit : List ℕ × List ℕ). on unit.0 unit.1) (found_unit name found)).conclusion t
 
   -- an accepted command has found the unit
-  was_found : (found : Found) → (find name).conclusion t ≡ found → (effect t (verdict_of found)).answer ≡ Done map.empty
-      → (real : List ℕ) × (file : List ℕ) × IsFound t name real file × (verdict_of found ≡ (on real file).conclusion t)
+  was_found : (found : Found) → (find name).conclusion t ≡ found → (effect t map.empty (ruling_of found)).answer ≡ Done map.empty
+      → (real : List ℕ) × (file : List ℕ) × IsFound t name real file × (ruling_of found ≡ (on real file).conclusion t)
   was_found founds.Missing at is = cc
   was_found (founds.Masked place) at is = cc
   was_found (founds.Dangling link) at is = cc
@@ -257,9 +257,9 @@ dependencies_are_added = λ add t done.
     let on : List ℕ → List ℕ → Step = λ real file. add_units place add.dependency add.units real in
     let unit = was_found add.target t on ((find add.target).conclusion t) refl done in
     let by = unit.0 in
-    let verdict = verdict_of add.target t on ((find add.target).conclusion t) in
-    let left : left_by ((add_units place add.dependency add.units by).conclusion t) t ≡ Ok (after_changes (effect t verdict).changes t) = ap (λ v. left_by v t) (sym unit.3) ∙ left_tree t verdict done in
-    let all = every t (add_unit place add.dependency by) (IsNewListing t place add.dependency by) (IsListing t place add.dependency by) (new_kept t place add.dependency by) (listing_kept t place add.dependency by) (one_listed t place add.dependency by) add.units (after_changes (effect t verdict).changes t) (sym (all_turns (add_unit place add.dependency by) add.units t) ∙ left) in
+    let ruling = ruling_of add.target t on ((find add.target).conclusion t) in
+    let left : left_by ((add_units place add.dependency add.units by).conclusion t) t ≡ Ok (after_changes (effect t map.empty ruling).changes t) = ap (λ v. left_by v t) (sym unit.3) ∙ left_tree t ruling done in
+    let all = every t (add_unit place add.dependency by) (IsNewListing t place add.dependency by) (IsListing t place add.dependency by) (new_kept t place add.dependency by) (listing_kept t place add.dependency by) (one_listed t place add.dependency by) add.units (after_changes (effect t map.empty ruling).changes t) (sym (all_turns (add_unit place add.dependency by) add.units t) ∙ left) in
     record {
       by = by;
       file = unit.1;
@@ -300,6 +300,6 @@ pub default_is_set : DefaultIsSet
 default_is_set = λ set_default t done.
     let on = default_file set_default.unit in
     let unit = was_found set_default.unit t on ((find set_default.unit).conclusion t) refl done in
-    let verdict = verdict_of set_default.unit t on ((find set_default.unit).conclusion t) in
-    let set = file_set t unit.1 set_default.unit unit.0 (after_changes (effect t verdict).changes t) (ap (λ v. left_by v t) (sym unit.3) ∙ left_tree t verdict done) in
+    let ruling = ruling_of set_default.unit t on ((find set_default.unit).conclusion t) in
+    let set = file_set t unit.1 set_default.unit unit.0 (after_changes (effect t map.empty ruling).changes t) (ap (λ v. left_by v t) (sym unit.3) ∙ left_tree t ruling done) in
     (unit.0, unit.1, unit.2, set.0, set.1)

@@ -14,16 +14,16 @@ use Rattle.unit_paths.specs.declared.place.Place.{Place}
 use Rattle.unit_paths.specs.Slots.{dependency_slot}
 use Rattle.unit_paths.specs.Places.{scope_place}
 use Rattle.link_tree.specs.Trees.{Entries, after_changes}
-use Rattle.load_path.specs.Search.{look}
 use Rattle.footprint.specs.declared.answer.Answer.TheVariants.{Done}
 use Rattle.footprint.specs.declared.refusal.Refusal.TheVariants.{NeedsInstance}
-use Rattle.footprint.specs.Inquiry.{Inquiry}
+use Rattle.footprint.specs.Commands.{silent, carried_out}
+use Rattle.footprint.specs.Inquiry.{Inquiry, stands_at}
 use Rattle.footprint.specs.Operations.{Effect}
-use Rattle.footprint.specs.Steps.{Step, refuse, ruled, each_in_turn, carried_out, ◌>>=◌}
+use Rattle.footprint.specs.Rules.{link_at, LeadsAs}
+use Rattle.footprint.specs.Steps.{Step, refuse, ruled, each_in_turn, ◌>>=◌}
 use Rattle.slot_commands.specs.declared.add_to.AddTo.{AddTo}
 use Rattle.slot_commands.specs.Effects.{Keeps, AddsOnly}
-use Rattle.slot_commands.specs.Links.{link_at, LeadsAs}
-use Rattle.slot_commands.specs.Units.{with_unit, IsFound}
+use Rattle.footprint.specs.Units.{with_unit, IsFound}
 
 -- whether a name is that of a template: systemd.unit(5)
 abbrev pub is_template_name : List ℕ → Bool
@@ -54,7 +54,7 @@ add_listed place dependency by real file None = refuse (NeedsInstance real)
 -- a unit that was found, by its own name and its file
 unfoldable pub add_file : Place → Dependency → (by real file : List ℕ) → Step
 add_file place dependency by real file = do
-  there ← look file
+  there ← stands_at file
   add_listed place dependency by real file (listed_name by real (default_of there))
 
 -- one unit
@@ -71,7 +71,7 @@ add_steps add = with_unit add.target (λ real file. add_units (scope_place add.s
 
 -- What the command asks of a tree, and what effect that has.
 abbrev pub add_meaning : AddTo → Inquiry Effect
-add_meaning add = carried_out (add_steps add)
+add_meaning add = carried_out (silent (add_steps add))
 
 -- In a tree a unit is found with this file, and this is the name of the link to it.
 abbrev pub IsListed : Entries → (by unit name file : List ℕ) → Type 0

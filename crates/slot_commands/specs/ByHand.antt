@@ -6,10 +6,11 @@ use Rattle.link_tree.specs.declared.entry.Entry.{Entry}
 use Rattle.unit_paths.specs.Slots.{is_slot}
 use Rattle.link_tree.specs.Trees.{Entries}
 use Rattle.footprint.specs.declared.refusal.Refusal.TheVariants.{NotASlot, Absent, Exists}
+use Rattle.footprint.specs.Commands.{silent, carried_out}
 use Rattle.footprint.specs.Inquiry.{Inquiry}
 use Rattle.footprint.specs.Operations.{Effect}
-use Rattle.footprint.specs.Placing.{Rule}
-use Rattle.footprint.specs.Steps.{Step, refuse, ruled, carried_out}
+use Rattle.footprint.specs.Rules.{Rule}
+use Rattle.footprint.specs.Steps.{Step, refuse, ruled}
 use Rattle.slot_commands.specs.declared.by_hand.PlaceEntry.{PlaceEntry}
 use Rattle.slot_commands.specs.declared.by_hand.RemoveEntry.{RemoveEntry}
 use Rattle.slot_commands.specs.Effects.{Refuses, Leaves}
@@ -36,10 +37,10 @@ remove_steps remove = ruled_slot remove_at remove.path
 
 -- What the commands ask of a tree, and what effect that has.
 abbrev pub place_meaning : PlaceEntry → Inquiry Effect
-place_meaning place = carried_out (place_steps place)
+place_meaning place = carried_out (silent (place_steps place))
 
 abbrev pub remove_meaning : RemoveEntry → Inquiry Effect
-remove_meaning remove = carried_out (remove_steps remove)
+remove_meaning remove = carried_out (silent (remove_steps remove))
 
 -- what stands at a path where one entry was placed or taken away
 abbrev pub with_one : Entries → (slot : List ℕ) → Option Entry → List ℕ → Option Entry

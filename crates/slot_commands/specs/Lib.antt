@@ -1,6 +1,4 @@
 pub mod Effects
-pub mod Links
-pub mod Units
 pub mod Masks
 pub mod LinkUnits
 pub mod AddTo

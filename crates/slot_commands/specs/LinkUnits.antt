@@ -17,12 +17,13 @@ use Rattle.load_path.specs.Follow.{follow}
 use Rattle.footprint.specs.declared.answer.Answer.TheVariants.{Done}
 use Rattle.footprint.specs.declared.refusal.Subject.TheVariants.{Path}
 use Rattle.footprint.specs.declared.refusal.Refusal.TheVariants.{NotFound, Masked, Dangling, BadType}
-use Rattle.footprint.specs.Inquiry.{Inquiry}
+use Rattle.footprint.specs.Commands.{silent, carried_out}
+use Rattle.footprint.specs.Inquiry.{Inquiry, by_cells}
 use Rattle.footprint.specs.Operations.{Effect}
-use Rattle.footprint.specs.Steps.{Step, nothing, refuse, ruled, each_in_turn, carried_out, ◌>>=◌}
+use Rattle.footprint.specs.Rules.{link_at, LeadsAs}
+use Rattle.footprint.specs.Steps.{Step, nothing, refuse, ruled, each_in_turn, ◌>>=◌}
 use Rattle.slot_commands.specs.declared.link_units.LinkUnits.{LinkUnits}
 use Rattle.slot_commands.specs.Effects.{Keeps, AddsOnly}
-use Rattle.slot_commands.specs.Links.{link_at, LeadsAs}
 
 -- whether a slot is that of a unit
 abbrev pub is_of_unit : Option Slot → Bool
@@ -45,7 +46,7 @@ link_end place path (ends.File file) = link_file place path
 -- one path
 unfoldable pub link_unit : Place → (path : List ℕ) → Step
 link_unit place path = do
-  end ← follow path
+  end ← by_cells (follow path)
   link_end place path end
 
 -- each of the paths
@@ -54,7 +55,7 @@ link_steps link = each_in_turn (link_unit (scope_place link.scope)) link.paths
 
 -- What the command asks of a tree, and what effect that has.
 abbrev pub link_meaning : LinkUnits → Inquiry Effect
-link_meaning link = carried_out (link_steps link)
+link_meaning link = carried_out (silent (link_steps link))
 
 -- One of the files is linked under its name.
 abbrev pub IsLinkToOne : Place → (files : List (List ℕ)) → List ℕ → Entry → Type 0

@@ -12,10 +12,11 @@ use Rattle.unit_paths.specs.Slots.{unit_slot}
 use Rattle.unit_paths.specs.Places.{scope_place}
 use Rattle.link_tree.specs.Trees.{Entries}
 use Rattle.footprint.specs.declared.refusal.Refusal.TheVariants.{Exists}
+use Rattle.footprint.specs.Commands.{silent, carried_out}
 use Rattle.footprint.specs.Inquiry.{Inquiry}
 use Rattle.footprint.specs.Operations.{Effect}
-use Rattle.footprint.specs.Placing.{Rule}
-use Rattle.footprint.specs.Steps.{Step, each_in_turn, ruled, carried_out}
+use Rattle.footprint.specs.Rules.{Rule}
+use Rattle.footprint.specs.Steps.{Step, each_in_turn, ruled}
 use Rattle.slot_commands.specs.declared.mask.Mask.{Mask}
 use Rattle.slot_commands.specs.declared.mask.Unmask.{Unmask}
 use Rattle.slot_commands.specs.declared.mask.Rule.{Rule as RuleSeen}
@@ -65,10 +66,10 @@ unmask_steps unmask = each_ruled unmask_at unmask.scope unmask.units
 
 -- What the commands ask of a tree, and what effect that has.
 abbrev pub mask_meaning : Mask → Inquiry Effect
-mask_meaning mask = carried_out (mask_steps mask)
+mask_meaning mask = carried_out (silent (mask_steps mask))
 
 abbrev pub unmask_meaning : Unmask → Inquiry Effect
-unmask_meaning unmask = carried_out (unmask_steps unmask)
+unmask_meaning unmask = carried_out (silent (unmask_steps unmask))
 
 -- the slots of units in a scope
 abbrev pub slots_of : Scope → (units : List (List ℕ)) → List (List ℕ)

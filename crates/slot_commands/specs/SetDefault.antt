@@ -9,13 +9,14 @@ use Rattle.link_tree.specs.Trees.{Entries, after_changes}
 use Rattle.footprint.specs.declared.answer.Answer.TheVariants.{Done}
 use Rattle.footprint.specs.declared.refusal.Subject.TheVariants.{Unit}
 use Rattle.footprint.specs.declared.refusal.Refusal.TheVariants.{BadType, NeedsInstance}
+use Rattle.footprint.specs.Commands.{silent, carried_out}
 use Rattle.footprint.specs.Inquiry.{Inquiry}
 use Rattle.footprint.specs.Operations.{Effect}
-use Rattle.footprint.specs.Steps.{Step, refuse, ruled, carried_out}
+use Rattle.footprint.specs.Rules.{relink_at, LeadsAs}
+use Rattle.footprint.specs.Steps.{Step, refuse, ruled}
 use Rattle.slot_commands.specs.declared.set_default.SetDefault.{SetDefault}
 use Rattle.slot_commands.specs.AddTo.{is_template_name}
-use Rattle.slot_commands.specs.Links.{relink_at, LeadsAs}
-use Rattle.slot_commands.specs.Units.{with_unit, IsFound}
+use Rattle.footprint.specs.Units.{with_unit, IsFound}
 
 -- the path of the link that names the default target
 abbrev pub default_slot : List ℕ
@@ -36,7 +37,7 @@ default_steps set_default = with_unit set_default.unit (default_file set_default
 
 -- What the command asks of a tree, and what effect that has.
 abbrev pub default_meaning : SetDefault → Inquiry Effect
-default_meaning set_default = carried_out (default_steps set_default)
+default_meaning set_default = carried_out (silent (default_steps set_default))
 
 -- The link of default.target leads to the file of the unit that is found, and all else stays.
 abbrev pub SetsDefault : SetDefault → (t u : Entries) → Type 0

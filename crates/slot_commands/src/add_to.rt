@@ -7,11 +7,8 @@ ghost use Rattle.unit_paths.specs.Places.{scope_place};
 ghost use Rattle.footprint.specs.Edits.{GoesOn};
 ghost use Rattle.slot_commands.specs.AddTo.{is_template_name, default_of, listed_name, add_file, add_unit, add_units, add_steps};
 
-use crate::found::find_unit;
-use crate::link::link_at;
-use footprint::{Edit, Operation, Outcome, Refusal, Units};
+use footprint::{Edit, Key, Keys, Notices, Operation, Outcome, Refusal, Units, link_at};
 use link_tree::{Contents, Dependency, Entry, Scope, Tree, TreePath};
-use load_path::Cells;
 use std::alloc::{AllocError, Global};
 use unit_file::{InstallError, InstallFault, InstallText, identity, install_of};
 use unit_name::{Kind, UnitName};
@@ -93,17 +90,17 @@ impl AddTo {
         real: UnitName,
         file: &TreePath,
         edit: Edit<'a>,
-        cells: &mut Cells,
+        keys: &mut Keys,
     ) -> Result<Result<Edit<'a>, Refusal>, AllocError>
-        ensures { IfOk result (GoesOn (add_file (scope_place self.now.scope) self.now.dependency by.now real file.now) edit.entry cells.old cells.new) }
+        ensures { IfOk result (GoesOn (add_file (scope_place self.now.scope) self.now.dependency by.now real file.now) edit.entry keys.old keys.new) }
     {
-        cells.push(file.copy()?)?;
+        keys.push(Key::Cell(file.copy()?))?;
         let Some(name) = listed_name(alloc, by, &real, edit.get(file))? else {
             return Ok(Err(Refusal::NeedsInstance(real)));
         };
         let place = self.scope.place();
         let slot = place.dependency_slot(alloc, self.dependency, by, &name)?;
-        cells.push(slot.copy()?)?;
+        keys.push(Key::Cell(slot.copy()?))?;
         let ruled = link_at(alloc, file, &slot, edit.get(&slot))?;
         edit.ruled(&slot, ruled)
     }
@@ -116,12 +113,12 @@ impl AddTo {
         by: &UnitName,
         unit: &UnitName,
         edit: Edit<'a>,
-        cells: &mut Cells,
+        keys: &mut Keys,
     ) -> Result<Result<Edit<'a>, Refusal>, AllocError>
-        ensures { IfOk result (GoesOn (add_unit (scope_place self.now.scope) self.now.dependency by.now unit.now) edit.entry cells.old cells.new) }
+        ensures { IfOk result (GoesOn (add_unit (scope_place self.now.scope) self.now.dependency by.now unit.now) edit.entry keys.old keys.new) }
     {
-        match find_unit(alloc, edit.tree(), unit, cells)? {
-            Ok((real, file)) => self.add_file(alloc, by, real, &file, edit, cells),
+        match keys.find_unit(alloc, edit.tree(), unit)? {
+            Ok((real, file)) => self.add_file(alloc, by, real, &file, edit, keys),
             Err(refusal) => Ok(Err(refusal)),
         }
     }
@@ -133,13 +130,13 @@ impl AddTo {
         by: &UnitName,
         units: &[UnitName],
         tree: &'a Tree,
-        cells: &mut Cells,
+        keys: &mut Keys,
     ) -> Result<Result<Edit<'a>, Refusal>, AllocError>
-        ensures { IfOk result (GoesOn (add_units (scope_place self.now.scope) self.now.dependency units.now by.now) (tree.now, tree.now) cells.old cells.new) }
+        ensures { IfOk result (GoesOn (add_units (scope_place self.now.scope) self.now.dependency units.now by.now) (tree.now, tree.now) keys.old keys.new) }
     {
         let mut edit = Edit::new(alloc, tree)?;
         for unit in units {
-            match self.add_unit(alloc, by, unit, edit, cells)? {
+            match self.add_unit(alloc, by, unit, edit, keys)? {
                 Ok(next) => edit = next,
                 Err(refusal) => return Ok(Err(refusal)),
             }
@@ -151,12 +148,12 @@ impl AddTo {
         &self,
         alloc: Global,
         tree: &'a Tree,
-        cells: &mut Cells,
+        keys: &mut Keys,
     ) -> Result<Result<Edit<'a>, Refusal>, AllocError>
-        ensures { IfOk result (GoesOn (add_steps self.now) (tree.now, tree.now) cells.old cells.new) }
+        ensures { IfOk result (GoesOn (add_steps self.now) (tree.now, tree.now) keys.old keys.new) }
     {
-        match find_unit(alloc, tree, &self.target, cells)? {
-            Ok((by, _file)) => self.add_units(alloc, &by, self.units.as_slice(), tree, cells),
+        match keys.find_unit(alloc, tree, &self.target)? {
+            Ok((by, _file)) => self.add_units(alloc, &by, self.units.as_slice(), tree, keys),
             Err(refusal) => Ok(Err(refusal)),
         }
     }
@@ -164,7 +161,7 @@ impl AddTo {
 
 impl Operation for AddTo {
     ghost use Rattle.std.specs.Prelude.{false};
-    ghost use Rattle.footprint.proofs.Carried.{laws_of};
+    ghost use Rattle.footprint.proofs.Carried.{laws_of_steps};
     ghost use Rattle.slot_commands.specs.AddTo.{add_steps, add_meaning};
 
     ghost meaning = { add_meaning };
@@ -172,9 +169,9 @@ impl Operation for AddTo {
     ghost asks = { λ c. false };
 
     fn run(&self, alloc: Global, tree: &Tree) -> Result<Outcome, AllocError> {
-        let mut cells = Cells::new(alloc);
-        let done = self.added(alloc, tree, &mut cells)?;
-        Outcome::of(alloc, tree, &cells, done)
+        let mut keys = Keys::none(alloc);
+        let done = self.added(alloc, tree, &mut keys)?;
+        Outcome::of(alloc, tree, keys, Notices::none(alloc), done)
     }
 
     fn asks_only(&self) -> bool {
@@ -197,5 +194,5 @@ impl Operation for AddTo {
             && self.units.same(&other.units)
     }
 
-    ghost laws = { laws_of add_steps };
+    ghost laws = { laws_of_steps add_steps };
 }

@@ -4,9 +4,8 @@ ghost use Rattle.std.specs.Option.{option_copied};
 ghost use Rattle.footprint.specs.Edits.{GoesOn};
 ghost use Rattle.slot_commands.specs.ByHand.{place_at, remove_at, place_steps, remove_steps};
 
-use footprint::{Edit, Operation, Outcome, Refusal};
+use footprint::{Edit, Key, Keys, Notices, Operation, Outcome, Refusal};
 use link_tree::{Entry, Slot, Tree, TreePath};
-use load_path::Cells;
 use std::alloc::{AllocError, Global};
 
 /// Puts a file or a link into an empty slot. It is refused by `NotASlot`, where the path is none, and then by `Exists`, where
@@ -54,14 +53,14 @@ impl PlaceEntry {
         &self,
         alloc: Global,
         tree: &'a Tree,
-        cells: &mut Cells,
+        keys: &mut Keys,
     ) -> Result<Result<Edit<'a>, Refusal>, AllocError>
-        ensures { IfOk result (GoesOn (place_steps self.now) (tree.now, tree.now) cells.old cells.new) }
+        ensures { IfOk result (GoesOn (place_steps self.now) (tree.now, tree.now) keys.old keys.new) }
     {
         if Slot::of(&self.path).is_none() {
             return Ok(Err(Refusal::NotASlot(self.path.copy()?)));
         }
-        cells.push(self.path.copy()?)?;
+        keys.push(Key::Cell(self.path.copy()?))?;
         let ruled = place_at(&self.entry, &self.path, tree.get(&self.path))?;
         Edit::new(alloc, tree)?.ruled(&self.path, ruled)
     }
@@ -69,7 +68,7 @@ impl PlaceEntry {
 
 impl Operation for PlaceEntry {
     ghost use Rattle.std.specs.Prelude.{false};
-    ghost use Rattle.footprint.proofs.Carried.{laws_of};
+    ghost use Rattle.footprint.proofs.Carried.{laws_of_steps};
     ghost use Rattle.slot_commands.specs.ByHand.{place_steps, place_meaning};
 
     ghost meaning = { place_meaning };
@@ -77,9 +76,9 @@ impl Operation for PlaceEntry {
     ghost asks = { λ c. false };
 
     fn run(&self, alloc: Global, tree: &Tree) -> Result<Outcome, AllocError> {
-        let mut cells = Cells::new(alloc);
-        let done = self.placed(alloc, tree, &mut cells)?;
-        Outcome::of(alloc, tree, &cells, done)
+        let mut keys = Keys::none(alloc);
+        let done = self.placed(alloc, tree, &mut keys)?;
+        Outcome::of(alloc, tree, keys, Notices::none(alloc), done)
     }
 
     fn asks_only(&self) -> bool {
@@ -97,7 +96,7 @@ impl Operation for PlaceEntry {
         self.path == other.path && self.entry.same(&other.entry)
     }
 
-    ghost laws = { laws_of place_steps };
+    ghost laws = { laws_of_steps place_steps };
 }
 
 impl RemoveEntry {
@@ -105,14 +104,14 @@ impl RemoveEntry {
         &self,
         alloc: Global,
         tree: &'a Tree,
-        cells: &mut Cells,
+        keys: &mut Keys,
     ) -> Result<Result<Edit<'a>, Refusal>, AllocError>
-        ensures { IfOk result (GoesOn (remove_steps self.now) (tree.now, tree.now) cells.old cells.new) }
+        ensures { IfOk result (GoesOn (remove_steps self.now) (tree.now, tree.now) keys.old keys.new) }
     {
         if Slot::of(&self.path).is_none() {
             return Ok(Err(Refusal::NotASlot(self.path.copy()?)));
         }
-        cells.push(self.path.copy()?)?;
+        keys.push(Key::Cell(self.path.copy()?))?;
         let ruled = remove_at(&self.path, tree.get(&self.path))?;
         Edit::new(alloc, tree)?.ruled(&self.path, ruled)
     }
@@ -120,7 +119,7 @@ impl RemoveEntry {
 
 impl Operation for RemoveEntry {
     ghost use Rattle.std.specs.Prelude.{false};
-    ghost use Rattle.footprint.proofs.Carried.{laws_of};
+    ghost use Rattle.footprint.proofs.Carried.{laws_of_steps};
     ghost use Rattle.slot_commands.specs.ByHand.{remove_steps, remove_meaning};
 
     ghost meaning = { remove_meaning };
@@ -128,9 +127,9 @@ impl Operation for RemoveEntry {
     ghost asks = { λ c. false };
 
     fn run(&self, alloc: Global, tree: &Tree) -> Result<Outcome, AllocError> {
-        let mut cells = Cells::new(alloc);
-        let done = self.removed(alloc, tree, &mut cells)?;
-        Outcome::of(alloc, tree, &cells, done)
+        let mut keys = Keys::none(alloc);
+        let done = self.removed(alloc, tree, &mut keys)?;
+        Outcome::of(alloc, tree, keys, Notices::none(alloc), done)
     }
 
     fn asks_only(&self) -> bool {
@@ -147,5 +146,5 @@ impl Operation for RemoveEntry {
         self.path == other.path
     }
 
-    ghost laws = { laws_of remove_steps };
+    ghost laws = { laws_of_steps remove_steps };
 }

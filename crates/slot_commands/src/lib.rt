@@ -3,9 +3,7 @@
 
 mod add_to;
 mod by_hand;
-mod found;
 mod laws;
-mod link;
 mod link_units;
 mod mask;
 mod paths;

@@ -5,14 +5,13 @@ ghost use Rattle.unit_paths.specs.Slots.{slot_of, unit_slot};
 ghost use Rattle.load_path.specs.RealNames.{named};
 ghost use Rattle.footprint.specs.Steps.{each_in_turn, ruled};
 ghost use Rattle.footprint.specs.Edits.{GoesOn};
-ghost use Rattle.slot_commands.specs.Links.{link_at};
+ghost use Rattle.footprint.specs.Rules.{link_at};
 ghost use Rattle.slot_commands.specs.LinkUnits.{is_of_unit, link_file, link_unit};
 
-use crate::link::link_at;
 use crate::paths::Paths;
-use footprint::{Edit, Operation, Outcome, Refusal, Subject};
+use footprint::{Edit, Key, Keys, Notices, Operation, Outcome, Refusal, Subject, link_at};
 use link_tree::{Place, Scope, Slot, Tree, TreePath};
-use load_path::{Cells, End, follow_into};
+use load_path::End;
 use std::alloc::{AllocError, Global};
 use unit_name::{NameError, UnitName};
 
@@ -55,12 +54,12 @@ fn link_named<'a>(
     path: &TreePath,
     name: &UnitName,
     edit: Edit<'a>,
-    cells: &mut Cells,
+    keys: &mut Keys,
 ) -> Result<Result<Edit<'a>, Refusal>, AllocError>
-    ensures { IfOk result (GoesOn (ruled (link_at path.now) (unit_slot place name.now)) edit.entry cells.old cells.new) }
+    ensures { IfOk result (GoesOn (ruled (link_at path.now) (unit_slot place name.now)) edit.entry keys.old keys.new) }
 {
     let slot = place.slot(alloc, name)?;
-    cells.push(slot.copy()?)?;
+    keys.push(Key::Cell(slot.copy()?))?;
     let ruled = link_at(alloc, path, &slot, edit.get(&slot))?;
     edit.ruled(&slot, ruled)
 }
@@ -70,9 +69,9 @@ fn link_file<'a>(
     place: Place,
     path: &TreePath,
     edit: Edit<'a>,
-    cells: &mut Cells,
+    keys: &mut Keys,
 ) -> Result<Result<Edit<'a>, Refusal>, AllocError>
-    ensures { IfOk result (GoesOn (link_file place path.now) edit.entry cells.old cells.new) }
+    ensures { IfOk result (GoesOn (link_file place path.now) edit.entry keys.old keys.new) }
 {
     let Some(name) = unit_named(alloc, path)? else {
         return Ok(Err(Refusal::BadType(Subject::Path(path.copy()?))));
@@ -80,7 +79,7 @@ fn link_file<'a>(
     if is_of_unit(path) {
         return Ok(Ok(edit));
     }
-    link_named(alloc, place, path, &name, edit, cells)
+    link_named(alloc, place, path, &name, edit, keys)
 }
 
 #[tactic(auto, unfolding(crate::specs::LinkUnits::link_unit))]
@@ -89,15 +88,15 @@ fn link_unit<'a>(
     place: Place,
     path: &TreePath,
     edit: Edit<'a>,
-    cells: &mut Cells,
+    keys: &mut Keys,
 ) -> Result<Result<Edit<'a>, Refusal>, AllocError>
-    ensures { IfOk result (GoesOn (link_unit place path.now) edit.entry cells.old cells.new) }
+    ensures { IfOk result (GoesOn (link_unit place path.now) edit.entry keys.old keys.new) }
 {
-    match follow_into(alloc, edit.tree(), path, cells)? {
+    match keys.follow(alloc, edit.tree(), path)? {
         End::Missing => Ok(Err(Refusal::NotFound(Subject::Path(path.copy()?)))),
         End::Null => Ok(Err(Refusal::Masked(Subject::Path(path.copy()?)))),
         End::Dangling(link) => Ok(Err(Refusal::Dangling(link))),
-        End::File(_) => link_file(alloc, place, path, edit, cells),
+        End::File(_) => link_file(alloc, place, path, edit, keys),
     }
 }
 
@@ -107,13 +106,13 @@ fn link_each<'a>(
     place: Place,
     paths: &[TreePath],
     tree: &'a Tree,
-    cells: &mut Cells,
+    keys: &mut Keys,
 ) -> Result<Result<Edit<'a>, Refusal>, AllocError>
-    ensures { IfOk result (GoesOn (each_in_turn (link_unit place) paths.now) (tree.now, tree.now) cells.old cells.new) }
+    ensures { IfOk result (GoesOn (each_in_turn (link_unit place) paths.now) (tree.now, tree.now) keys.old keys.new) }
 {
     let mut edit = Edit::new(alloc, tree)?;
     for path in paths {
-        match link_unit(alloc, place, path, edit, cells)? {
+        match link_unit(alloc, place, path, edit, keys)? {
             Ok(next) => edit = next,
             Err(refusal) => return Ok(Err(refusal)),
         }
@@ -123,7 +122,7 @@ fn link_each<'a>(
 
 impl Operation for LinkUnits {
     ghost use Rattle.std.specs.Prelude.{false};
-    ghost use Rattle.footprint.proofs.Carried.{laws_of};
+    ghost use Rattle.footprint.proofs.Carried.{laws_of_steps};
     ghost use Rattle.slot_commands.specs.LinkUnits.{link_steps, link_meaning};
 
     ghost meaning = { link_meaning };
@@ -131,15 +130,15 @@ impl Operation for LinkUnits {
     ghost asks = { λ c. false };
 
     fn run(&self, alloc: Global, tree: &Tree) -> Result<Outcome, AllocError> {
-        let mut cells = Cells::new(alloc);
+        let mut keys = Keys::none(alloc);
         let done = link_each(
             alloc,
             self.scope.place(),
             self.paths.as_slice(),
             tree,
-            &mut cells,
+            &mut keys,
         )?;
-        Outcome::of(alloc, tree, &cells, done)
+        Outcome::of(alloc, tree, keys, Notices::none(alloc), done)
     }
 
     fn asks_only(&self) -> bool {
@@ -157,5 +156,5 @@ impl Operation for LinkUnits {
         self.scope == other.scope && self.paths.same(&other.paths)
     }
 
-    ghost laws = { laws_of link_steps };
+    ghost laws = { laws_of_steps link_steps };
 }

@@ -4,9 +4,8 @@ ghost use Rattle.std.specs.Option.{option_copied};
 ghost use Rattle.footprint.specs.Edits.{GoesOn};
 ghost use Rattle.slot_commands.specs.Masks.{mask_link, is_empty_file, is_mask, mask_at, unmask_at, rule_of, ruled_unit, each_ruled};
 
-use footprint::{Edit, Operation, Outcome, Refusal, Units};
+use footprint::{Edit, Key, Keys, Notices, Operation, Outcome, Refusal, Units};
 use link_tree::{Entry, Scope, TargetError, Tree, TreePath, is_null_link};
-use load_path::Cells;
 use std::alloc::{AllocError, Global};
 use unit_name::UnitName;
 
@@ -109,12 +108,12 @@ impl Rule {
         scope: Scope,
         unit: &UnitName,
         edit: Edit<'a>,
-        cells: &mut Cells,
+        keys: &mut Keys,
     ) -> Result<Result<Edit<'a>, Refusal>, AllocError>
-        ensures { IfOk result (GoesOn (ruled_unit (rule_of self) scope unit.now) edit.entry cells.old cells.new) }
+        ensures { IfOk result (GoesOn (ruled_unit (rule_of self) scope unit.now) edit.entry keys.old keys.new) }
     {
         let slot = scope.place().slot(alloc, unit)?;
-        cells.push(slot.copy()?)?;
+        keys.push(Key::Cell(slot.copy()?))?;
         let ruled = self.at(alloc, &slot, edit.get(&slot))?;
         edit.ruled(&slot, ruled)
     }
@@ -126,13 +125,13 @@ impl Rule {
         scope: Scope,
         units: &[UnitName],
         tree: &'a Tree,
-        cells: &mut Cells,
+        keys: &mut Keys,
     ) -> Result<Result<Edit<'a>, Refusal>, AllocError>
-        ensures { IfOk result (GoesOn (each_ruled (rule_of self) scope units.now) (tree.now, tree.now) cells.old cells.new) }
+        ensures { IfOk result (GoesOn (each_ruled (rule_of self) scope units.now) (tree.now, tree.now) keys.old keys.new) }
     {
         let mut edit = Edit::new(alloc, tree)?;
         for unit in units {
-            match self.step(alloc, scope, unit, edit, cells)? {
+            match self.step(alloc, scope, unit, edit, keys)? {
                 Ok(next) => edit = next,
                 Err(refusal) => return Ok(Err(refusal)),
             }
@@ -143,7 +142,7 @@ impl Rule {
 
 impl Operation for Mask {
     ghost use Rattle.std.specs.Prelude.{false};
-    ghost use Rattle.footprint.proofs.Carried.{laws_of};
+    ghost use Rattle.footprint.proofs.Carried.{laws_of_steps};
     ghost use Rattle.slot_commands.specs.Masks.{mask_steps, mask_meaning};
 
     ghost meaning = { mask_meaning };
@@ -151,9 +150,9 @@ impl Operation for Mask {
     ghost asks = { λ c. false };
 
     fn run(&self, alloc: Global, tree: &Tree) -> Result<Outcome, AllocError> {
-        let mut cells = Cells::new(alloc);
-        let done = Rule::Mask.each(alloc, self.scope, self.units.as_slice(), tree, &mut cells)?;
-        Outcome::of(alloc, tree, &cells, done)
+        let mut keys = Keys::none(alloc);
+        let done = Rule::Mask.each(alloc, self.scope, self.units.as_slice(), tree, &mut keys)?;
+        Outcome::of(alloc, tree, keys, Notices::none(alloc), done)
     }
 
     fn asks_only(&self) -> bool {
@@ -171,12 +170,12 @@ impl Operation for Mask {
         self.scope == other.scope && self.units.same(&other.units)
     }
 
-    ghost laws = { laws_of mask_steps };
+    ghost laws = { laws_of_steps mask_steps };
 }
 
 impl Operation for Unmask {
     ghost use Rattle.std.specs.Prelude.{false};
-    ghost use Rattle.footprint.proofs.Carried.{laws_of};
+    ghost use Rattle.footprint.proofs.Carried.{laws_of_steps};
     ghost use Rattle.slot_commands.specs.Masks.{unmask_steps, unmask_meaning};
 
     ghost meaning = { unmask_meaning };
@@ -184,9 +183,9 @@ impl Operation for Unmask {
     ghost asks = { λ c. false };
 
     fn run(&self, alloc: Global, tree: &Tree) -> Result<Outcome, AllocError> {
-        let mut cells = Cells::new(alloc);
-        let done = Rule::Unmask.each(alloc, self.scope, self.units.as_slice(), tree, &mut cells)?;
-        Outcome::of(alloc, tree, &cells, done)
+        let mut keys = Keys::none(alloc);
+        let done = Rule::Unmask.each(alloc, self.scope, self.units.as_slice(), tree, &mut keys)?;
+        Outcome::of(alloc, tree, keys, Notices::none(alloc), done)
     }
 
     fn asks_only(&self) -> bool {
@@ -204,5 +203,5 @@ impl Operation for Unmask {
         self.scope == other.scope && self.units.same(&other.units)
     }
 
-    ghost laws = { laws_of unmask_steps };
+    ghost laws = { laws_of_steps unmask_steps };
 }

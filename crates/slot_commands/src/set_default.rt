@@ -6,11 +6,8 @@ ghost use Rattle.footprint.specs.Edits.{GoesOn};
 ghost use Rattle.slot_commands.specs.SetDefault.{default_slot, is_target_type, default_file, default_steps};
 
 use crate::add_to::is_template;
-use crate::found::find_unit;
-use crate::link::relink_at;
-use footprint::{Edit, Operation, Outcome, Refusal, Subject};
+use footprint::{Edit, Key, Keys, Notices, Operation, Outcome, Refusal, Subject, relink_at};
 use link_tree::{PathError, Tree, TreePath};
-use load_path::Cells;
 use std::alloc::{AllocError, Global};
 use unit_name::{UnitName, UnitType};
 
@@ -51,9 +48,9 @@ impl SetDefault {
         real: UnitName,
         file: &TreePath,
         tree: &'a Tree,
-        cells: &mut Cells,
+        keys: &mut Keys,
     ) -> Result<Result<Edit<'a>, Refusal>, AllocError>
-        ensures { IfOk result (GoesOn (default_file self.now.unit real file.now) (tree.now, tree.now) cells.old cells.new) }
+        ensures { IfOk result (GoesOn (default_file self.now.unit real file.now) (tree.now, tree.now) keys.old keys.new) }
     {
         if !is_target(&self.unit) {
             return Ok(Err(Refusal::BadType(Subject::Unit(self.unit.copy()?))));
@@ -62,7 +59,7 @@ impl SetDefault {
             return Ok(Err(Refusal::NeedsInstance(real)));
         }
         let slot = default_slot(alloc)?;
-        cells.push(slot.copy()?)?;
+        keys.push(Key::Cell(slot.copy()?))?;
         let ruled = relink_at(alloc, file, &slot, tree.get(&slot))?;
         Edit::new(alloc, tree)?.ruled(&slot, ruled)
     }
@@ -71,12 +68,12 @@ impl SetDefault {
         &self,
         alloc: Global,
         tree: &'a Tree,
-        cells: &mut Cells,
+        keys: &mut Keys,
     ) -> Result<Result<Edit<'a>, Refusal>, AllocError>
-        ensures { IfOk result (GoesOn (default_steps self.now) (tree.now, tree.now) cells.old cells.new) }
+        ensures { IfOk result (GoesOn (default_steps self.now) (tree.now, tree.now) keys.old keys.new) }
     {
-        match find_unit(alloc, tree, &self.unit, cells)? {
-            Ok((real, file)) => self.default_file(alloc, real, &file, tree, cells),
+        match keys.find_unit(alloc, tree, &self.unit)? {
+            Ok((real, file)) => self.default_file(alloc, real, &file, tree, keys),
             Err(refusal) => Ok(Err(refusal)),
         }
     }
@@ -84,7 +81,7 @@ impl SetDefault {
 
 impl Operation for SetDefault {
     ghost use Rattle.std.specs.Prelude.{false};
-    ghost use Rattle.footprint.proofs.Carried.{laws_of};
+    ghost use Rattle.footprint.proofs.Carried.{laws_of_steps};
     ghost use Rattle.slot_commands.specs.SetDefault.{default_steps, default_meaning};
 
     ghost meaning = { default_meaning };
@@ -92,9 +89,9 @@ impl Operation for SetDefault {
     ghost asks = { λ c. false };
 
     fn run(&self, alloc: Global, tree: &Tree) -> Result<Outcome, AllocError> {
-        let mut cells = Cells::new(alloc);
-        let done = self.made(alloc, tree, &mut cells)?;
-        Outcome::of(alloc, tree, &cells, done)
+        let mut keys = Keys::none(alloc);
+        let done = self.made(alloc, tree, &mut keys)?;
+        Outcome::of(alloc, tree, keys, Notices::none(alloc), done)
     }
 
     fn asks_only(&self) -> bool {
@@ -111,5 +108,5 @@ impl Operation for SetDefault {
         self.unit == other.unit
     }
 
-    ghost laws = { laws_of default_steps };
+    ghost laws = { laws_of_steps default_steps };
 }

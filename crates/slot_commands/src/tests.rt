@@ -1,4 +1,5 @@
 mod adds;
+mod both;
 mod defaults;
 mod hands;
 mod links;

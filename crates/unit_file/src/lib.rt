@@ -16,6 +16,7 @@ pub use default_instance::identity;
 pub use fault::{InstallError, InstallFault, MAX_LINE};
 pub use install::InstallText;
 pub use laws::{comments_say_nothing, files_add_up, last_line_ends_itself, notices_are_a_set};
+pub use line::{is_blank, stripped};
 pub use notice::{Notice, NoticeKey, Reason};
 pub use notices::{Notices, NoticesIter};
 pub use reading::install_of;

@@ -6,7 +6,8 @@ ghost use Rattle.std.specs.List.{find, position};
 ghost use Rattle.unit_file.specs.Lines.{is_blank, begins_with, ends_with, without_leading, without_trailing, stripped, is_comment, is_continued, without_last};
 ghost use Rattle.unit_file.specs.Install.{opens_section, is_equals_sign, assignment};
 
-pub(crate) fn is_blank(b: u8) -> bool
+/// Whether a byte is a blank: a space, a TAB or a CR. Takes no memory.
+pub fn is_blank(b: u8) -> bool
     ensures { result ≡ is_blank b }
 {
     matches!(b, b' ' | b'\t' | b'\r')
@@ -34,9 +35,9 @@ fn without_trailing(text: &[u8]) -> &[u8]
     &[]
 }
 
-/// Without the blanks at both ends.
+/// A text without the blanks at both ends. Takes no memory.
 #[tactic(auto, unfolding(crate::specs::Lines::stripped))]
-pub(crate) fn stripped(text: &[u8]) -> &[u8]
+pub fn stripped(text: &[u8]) -> &[u8]
     ensures { result.now ≡ stripped text.now }
 {
     without_trailing(without_leading(text))

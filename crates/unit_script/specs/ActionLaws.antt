@@ -2,7 +2,7 @@
 use Rattle.std.proofs.Common.{sym}
 use Rattle.std.proofs.lemmas.Bool.{true≢false}
 use Rattle.footprint.specs.Operations.{OperationLaws}
-use Rattle.footprint.proofs.Carried.{laws_of}
+use Rattle.footprint.proofs.Carried.{laws_of_steps}
 use Rattle.slot_commands.specs.Masks.{mask_steps, unmask_steps}
 use Rattle.slot_commands.specs.LinkUnits.{link_steps}
 use Rattle.slot_commands.specs.AddTo.{add_steps}
@@ -14,31 +14,31 @@ use Rattle.unit_script.specs.Actions.{asks, meaning}
 pub action_laws : OperationLaws asks meaning
 action_laws = record {
   confinement = elim [
-    | Mask mask ↦ (laws_of mask_steps).confinement mask
-    | Unmask unmask ↦ (laws_of unmask_steps).confinement unmask
-    | LinkUnits link ↦ (laws_of link_steps).confinement link
-    | AddTo add ↦ (laws_of add_steps).confinement add
-    | SetDefault set ↦ (laws_of default_steps).confinement set
-    | PlaceEntry place ↦ (laws_of place_steps).confinement place
-    | RemoveEntry remove ↦ (laws_of remove_steps).confinement remove
+    | Mask mask ↦ (laws_of_steps mask_steps).confinement mask
+    | Unmask unmask ↦ (laws_of_steps unmask_steps).confinement unmask
+    | LinkUnits link ↦ (laws_of_steps link_steps).confinement link
+    | AddTo add ↦ (laws_of_steps add_steps).confinement add
+    | SetDefault set ↦ (laws_of_steps default_steps).confinement set
+    | PlaceEntry place ↦ (laws_of_steps place_steps).confinement place
+    | RemoveEntry remove ↦ (laws_of_steps remove_steps).confinement remove
   ];
   changes = elim [
-    | Mask mask ↦ (laws_of mask_steps).changes mask
-    | Unmask unmask ↦ (laws_of unmask_steps).changes unmask
-    | LinkUnits link ↦ (laws_of link_steps).changes link
-    | AddTo add ↦ (laws_of add_steps).changes add
-    | SetDefault set ↦ (laws_of default_steps).changes set
-    | PlaceEntry place ↦ (laws_of place_steps).changes place
-    | RemoveEntry remove ↦ (laws_of remove_steps).changes remove
+    | Mask mask ↦ (laws_of_steps mask_steps).changes mask
+    | Unmask unmask ↦ (laws_of_steps unmask_steps).changes unmask
+    | LinkUnits link ↦ (laws_of_steps link_steps).changes link
+    | AddTo add ↦ (laws_of_steps add_steps).changes add
+    | SetDefault set ↦ (laws_of_steps default_steps).changes set
+    | PlaceEntry place ↦ (laws_of_steps place_steps).changes place
+    | RemoveEntry remove ↦ (laws_of_steps remove_steps).changes remove
   ];
   refusal = elim [
-    | Mask mask ↦ (laws_of mask_steps).refusal mask
-    | Unmask unmask ↦ (laws_of unmask_steps).refusal unmask
-    | LinkUnits link ↦ (laws_of link_steps).refusal link
-    | AddTo add ↦ (laws_of add_steps).refusal add
-    | SetDefault set ↦ (laws_of default_steps).refusal set
-    | PlaceEntry place ↦ (laws_of place_steps).refusal place
-    | RemoveEntry remove ↦ (laws_of remove_steps).refusal remove
+    | Mask mask ↦ (laws_of_steps mask_steps).refusal mask
+    | Unmask unmask ↦ (laws_of_steps unmask_steps).refusal unmask
+    | LinkUnits link ↦ (laws_of_steps link_steps).refusal link
+    | AddTo add ↦ (laws_of_steps add_steps).refusal add
+    | SetDefault set ↦ (laws_of_steps default_steps).refusal set
+    | PlaceEntry place ↦ (laws_of_steps place_steps).refusal place
+    | RemoveEntry remove ↦ (laws_of_steps remove_steps).refusal remove
   ];
   question = λ c t asked. absurd (true≢false (sym asked));
 }

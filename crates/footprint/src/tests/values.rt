@@ -103,7 +103,7 @@ pub(crate) fn reading(alloc: Global, tree: &Tree, texts: &[u8]) -> Result<Readin
     )?)
 }
 
-fn push_key(text: &mut Vec<u8>, key: &Key) -> Result<(), AllocError> {
+pub(crate) fn push_key(text: &mut Vec<u8>, key: &Key) -> Result<(), AllocError> {
     match key {
         Key::Cell(path) => Ok(text.extend_from_slice(path.text())?),
         Key::Marked(scope, name) => {

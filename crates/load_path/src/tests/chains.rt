@@ -1,7 +1,7 @@
 //! Chains of links.
 use super::trees::{
     Row, assert_cells, assert_dangling, assert_ends_at_link, assert_file, assert_unit, followed,
-    found, put_all, tree,
+    found, led, put_all, tree,
 };
 use crate::End;
 use link_tree::{FromRead, InventoryError, Place, Tree, read_inventory};
@@ -33,6 +33,18 @@ fn eight_links_are_followed(rt: HostRuntime) -> Result<(), Fail> {
     assert_eq!(rt; look.cells.as_slice().len(), 9);
     let trail = followed(rt.alloc(), &tree, b"/etc/systemd/system/a2.service")?;
     assert_file(&rt, &trail, file);
+    Ok(())
+}
+
+#[test]
+fn the_path_of_an_entry_is_no_cell(rt: HostRuntime) -> Result<(), Fail> {
+    let tree = nine_links(rt.alloc())?;
+    let led = led(rt.alloc(), &tree, b"/etc/systemd/system/a8.service")?;
+    let (link, file) = (
+        b"/etc/systemd/system/a9.service",
+        b"/etc/systemd/system/ae.service",
+    );
+    assert_cells(&rt, &led, &[link, file]);
     Ok(())
 }
 

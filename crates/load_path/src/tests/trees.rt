@@ -1,5 +1,5 @@
 //! Trees of units, and what is found in them.
-use crate::{Cells, End, Found, Look, Trail, find, follow};
+use crate::{Cells, End, Found, Look, Trail, find, follow, follow_entry_into};
 use link_tree::{Entry, FileError, PathError, Place, TargetError, Tree, TreePath};
 use std::alloc::{AllocError, Global};
 use std::process::Abort;
@@ -66,6 +66,23 @@ pub(crate) fn found(alloc: Global, tree: &Tree, name: &[u8]) -> Result<Look, Fai
 pub(crate) fn followed(alloc: Global, tree: &Tree, path: &[u8]) -> Result<Trail, Fail> {
     let path = ample!(TreePath::parse(alloc, path), PathError::OutOfMemory)?;
     Ok(ample!(follow(alloc, tree, &path), AllocError)?)
+}
+
+/// The paths to which the entry at a path leads, if it leads to a file.
+pub(crate) fn led(alloc: Global, tree: &Tree, path: &[u8]) -> Result<Cells, Fail> {
+    let path = ample!(TreePath::parse(alloc, path), PathError::OutOfMemory)?;
+    let Some(entry) = tree.get(&path) else {
+        return Err("nothing stands there".into());
+    };
+    let mut cells = Cells::new(alloc);
+    let end = ample!(
+        follow_entry_into(alloc, tree, &path, entry, &mut cells),
+        AllocError
+    )?;
+    match end {
+        End::File(_) => Ok(cells),
+        End::Missing | End::Null | End::Dangling(_) => Err("no file".into()),
+    }
 }
 
 pub(crate) fn assert_cells(rt: &impl Abort, cells: &Cells, paths: &[&[u8]]) {

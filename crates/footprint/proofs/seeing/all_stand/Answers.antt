@@ -2,7 +2,8 @@ use Rattle.std.proofs.Common.{◌≡◌, true, Some, sym, subst}
 use Rattle.std.specs.Prelude.{IsPermutation}
 use Rattle.std.specs.FinMap as map
 use Rattle.footprint.specs.Keys.{selects}
-use Rattle.footprint.proofs.Parts.{Standing, AreChecked, one_checked, one_stands, all_checked}
+use Rattle.footprint.proofs.Those.{Standing}
+use Rattle.footprint.proofs.Parts.{AreChecked, one_checked, one_stands, all_checked}
 use Rattle.footprint.proofs.seeing.all_stand.Goals as goal
 
 pub returns-then-not-stands_if_selected-clause-no : goal.returns-then-not-stands_if_selected-clause-no

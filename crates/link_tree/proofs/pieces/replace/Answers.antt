@@ -22,8 +22,8 @@ returns c =
     let i = c.args.spot.piece in
     let at = c.args.spot.at in
     let piece = c.index_mut.result.now in
-    let wanted = put path_cmp c.args.path c.args.entry (joined pieces) in
-    let inside = taken_at pieces c.requires.order c.args.path i at c.requires.spot refl c.requires.taken in
+    let wanted = put path_cmp c.args.placed.0 c.args.placed.1 (joined pieces) in
+    let inside = taken_at pieces c.requires.order c.args.placed.0 i at c.requires.spot refl c.requires.taken in
     let found = index_found pieces i piece piece inside (sym c.index_mut.ensures.value) in
     set_becomes pieces c.requires.order wanted c.replace.result i piece c.replace.new.self found c.replace.ensures.err
-    (on_ok c.replace.result (λ is. subst (λ (q : List Item). AreInOrder (slice_set pieces i q) × (joined (slice_set pieces i q) ≡ wanted)) (sym is) (put_over_here pieces c.requires.order c.args.path i at c.requires.spot piece found c.args.entry c.requires.taken)) c.replace.ensures.ok)
+    (on_ok c.replace.result (λ is. subst (λ (q : List Item). AreInOrder (slice_set pieces i q) × (joined (slice_set pieces i q) ≡ wanted)) (sym is) (put_over_here pieces c.requires.order c.args.placed.0 i at c.requires.spot piece found c.args.placed.1 c.requires.taken)) c.replace.ensures.ok)

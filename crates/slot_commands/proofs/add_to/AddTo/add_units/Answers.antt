@@ -1,14 +1,14 @@
 use Rattle.std.proofs.Common.{sym, ◌∙◌}
 use Rattle.unit_paths.specs.Places.{scope_place}
 use Rattle.slot_commands.specs.AddTo.{add_unit}
-use Rattle.slot_commands.proofs.Turns.{next_turn, refused_turn, last_turn}
+use Rattle.footprint.proofs.Turns.{next_turn, refused_turn, last_turn}
 use Rattle.slot_commands.proofs.add_to.AddTo.add_units.Goals as goal
 
 pub loop-unit-preserved : goal.loop-unit-preserved
-loop-unit-preserved c = next_turn (add_unit (scope_place c.args.self.now.scope) c.args.self.now.dependency c.args.by.now) c.args.units.now c.loop-unit.unit-index c.args.tree.now c.loop-unit.edit c.args.cells.now c.loop-unit.cells c.loop-unit.invariant c.unit-item.result c.unit-item.is c.loop-unit-test.true c.in-Ok.next _ (sym c.in-Ok.is ∙ c.in_ok-next.ensures.0, c.in_ok-next.ensures.1)
+loop-unit-preserved c = next_turn (add_unit (scope_place c.args.self.now.scope) c.args.self.now.dependency c.args.by.now) c.args.units.now c.loop-unit.unit-index c.args.tree.now c.loop-unit.edit c.args.keys.now c.loop-unit.keys c.loop-unit.invariant c.unit-item.result c.unit-item.is c.loop-unit-test.true c.in-Ok.next _ (sym c.in-Ok.is ∙ c.in_ok-next.ensures.0, c.in_ok-next.ensures.1)
 
 pub returns-in-Err : goal.returns-in-Err
-returns-in-Err c = refused_turn (add_unit (scope_place c.args.self.now.scope) c.args.self.now.dependency c.args.by.now) c.args.units.now c.loop-unit.unit-index c.args.tree.now c.loop-unit.edit c.args.cells.now c.loop-unit.cells c.loop-unit.invariant c.unit-item.result c.unit-item.is c.loop-unit-test.true c.in-Err.refusal _ (sym c.in-Err.is ∙ c.in_ok-next.ensures.0, c.in_ok-next.ensures.1)
+returns-in-Err c = refused_turn (add_unit (scope_place c.args.self.now.scope) c.args.self.now.dependency c.args.by.now) c.args.units.now c.loop-unit.unit-index c.args.tree.now c.loop-unit.edit c.args.keys.now c.loop-unit.keys c.loop-unit.invariant c.unit-item.result c.unit-item.is c.loop-unit-test.true c.in-Err.refusal _ (sym c.in-Err.is ∙ c.in_ok-next.ensures.0, c.in_ok-next.ensures.1)
 
 pub returns : goal.returns
-returns c = last_turn (add_unit (scope_place c.args.self.now.scope) c.args.self.now.dependency c.args.by.now) c.args.units.now c.loop-unit.unit-index c.args.tree.now c.loop-unit.edit c.args.cells.now c.loop-unit.cells c.loop-unit.invariant c.loop-unit-test.false
+returns c = last_turn (add_unit (scope_place c.args.self.now.scope) c.args.self.now.dependency c.args.by.now) c.args.units.now c.loop-unit.unit-index c.args.tree.now c.loop-unit.edit c.args.keys.now c.loop-unit.keys c.loop-unit.invariant c.loop-unit-test.false

@@ -1,0 +1,95 @@
+//! What commands leave at a path, by what stands there.
+ghost use Rattle.std.specs.Prelude.{◌≡◌, IfOk};
+ghost use Rattle.std.specs.Option.{option_copied};
+ghost use Rattle.link_tree.specs.declared.entry.Entry.TheVariants as entries;
+ghost use Rattle.footprint.specs.Placing.{wanted_at};
+ghost use Rattle.footprint.specs.Rules.{leads_alike, link_at, relink_at};
+
+use crate::refusal::Refusal;
+use link_tree::{Entry, Target, TargetError, TreePath, canonical};
+use std::alloc::{AllocError, Global};
+
+/// A link with this path as its target.
+fn link_to(alloc: Global, path: &TreePath) -> Result<Entry, AllocError>
+    ensures { IfOk result (λ entry. entry ≡ entries.Link path.now) }
+{
+    match Entry::link(alloc, path.text()) {
+        Ok(entry) => Ok(entry),
+        Err(TargetError::BadTarget) => unreachable!(),
+        Err(TargetError::OutOfMemory) => Err(AllocError),
+    }
+}
+
+/// Whether links at this path with these targets lead to the same path.
+fn leads_alike(
+    alloc: Global,
+    path: &TreePath,
+    one: &Target,
+    other: &TreePath,
+) -> Result<bool, AllocError>
+    ensures { IfOk result (λ alike. alike ≡ leads_alike path.now one.now other.now) }
+{
+    let one = canonical(alloc, path, one.text())?;
+    let other = canonical(alloc, path, other.text())?;
+    match (one, other) {
+        (Some(one), Some(other)) => Ok(one.text() == other.text()),
+        _ => Ok(false),
+    }
+}
+
+/// A link that is to be made to `target`: where nothing stands at the path it is made, and a link that leads to the same path stays.
+/// Anything else is in the way (`Exists`). The outer error is want of memory alone.
+pub fn link_at(
+    alloc: Global,
+    target: &TreePath,
+    path: &TreePath,
+    there: Option<&Entry>,
+) -> Result<Result<Option<Entry>, Refusal>, AllocError>
+    ensures { IfOk result (λ ruled. ruled ≡ link_at target.now path.now (option_copied there.entry)) }
+{
+    match there {
+        None => Ok(Ok(Some(link_to(alloc, target)?))),
+        Some(Entry::Link(other)) if leads_alike(alloc, path, other, target)? => {
+            Ok(Ok(Some(Entry::Link(other.copy()?))))
+        }
+        Some(_) => Ok(Err(Refusal::Exists(path.copy()?))),
+    }
+}
+
+/// The same, but any other link makes way: only a file is in the way.
+pub fn relink_at(
+    alloc: Global,
+    target: &TreePath,
+    path: &TreePath,
+    there: Option<&Entry>,
+) -> Result<Result<Option<Entry>, Refusal>, AllocError>
+    ensures { IfOk result (λ ruled. ruled ≡ relink_at target.now path.now (option_copied there.entry)) }
+{
+    match there {
+        None => Ok(Ok(Some(link_to(alloc, target)?))),
+        Some(Entry::File(_)) => Ok(Err(Refusal::Exists(path.copy()?))),
+        Some(Entry::Link(other)) => {
+            if leads_alike(alloc, path, other, target)? {
+                Ok(Ok(Some(Entry::Link(other.copy()?))))
+            } else {
+                Ok(Ok(Some(link_to(alloc, target)?)))
+            }
+        }
+    }
+}
+
+/// What a wanted link leaves at its path: `link_at` to the file where one is wanted; where nothing is to stand, nothing, whatever
+/// stands there.
+pub(crate) fn wanted_at(
+    alloc: Global,
+    file: Option<&TreePath>,
+    path: &TreePath,
+    there: Option<&Entry>,
+) -> Result<Result<Option<Entry>, Refusal>, AllocError>
+    ensures { IfOk result (λ ruled. ruled ≡ wanted_at (option_copied file.entry) path.now (option_copied there.entry)) }
+{
+    match file {
+        Some(file) => link_at(alloc, file, path, there),
+        None => Ok(Ok(None)),
+    }
+}

@@ -1,0 +1,152 @@
+//! Two operations, one after the other.
+ghost use Rattle.std.specs.Prelude.{◌≡◌, ◌++◌, [], if◌then◌else◌, All, true, IfOk};
+ghost use Rattle.unit_paths.specs.Slots.{is_slot};
+ghost use Rattle.link_tree.specs.Trees.{AreFrom, after_changes};
+ghost use Rattle.footprint.specs.Net.{net};
+ghost use Rattle.footprint.specs.Operations.{AreChanges, is_refused, outcome_of};
+ghost use Rattle.footprint.specs.Readings.{keys_of, reading_of};
+ghost use Rattle.footprint.specs.Then.{answer_of_both, outcome_of_both};
+
+use crate::answer::Answer;
+use crate::changes::Changes;
+use crate::net::net_changes;
+use crate::operation::Operation;
+use crate::outcome::Outcome;
+use crate::reading::Reading;
+use link_tree::Tree;
+use std::alloc::{AllocError, Global};
+
+/// Two operations, one after the other, all or nothing. The second runs on the tree after the first; a refusal of the first is the
+/// outcome, and the second isn't run. The answer is that of the second, with the notices of the first too where both are
+/// done. A refusal of the second drops the changes of the first. A path at which what stood there first stands again is no
+/// change. It reads the keys of both, each as it is in the first tree, and is a question where both are.
+#[derive(Debug, Drop)]
+pub struct Then<A, B> {
+    pub first: A,
+    pub second: B,
+}
+
+impl Answer {
+    /// Whether nothing was done.
+    pub(crate) fn is_refused(&self) -> bool
+        ensures { result ≡ is_refused self.now }
+    {
+        match self {
+            Answer::Refused(_) => true,
+            Answer::Done(_) | Answer::State(_) | Answer::Name(_) | Answer::Names(_) => false,
+        }
+    }
+
+    /// The answer of this and a later operation: the later one's, with the notices of both where both are done.
+    fn and_then(self, later: Answer) -> Result<Answer, AllocError>
+        ensures { IfOk result (λ answer. answer ≡ answer_of_both self later) }
+    {
+        match (self, later) {
+            (Answer::Done(notices), Answer::Done(more)) => {
+                let mut notices = notices;
+                notices.add_all(&more)?;
+                Ok(Answer::Done(notices))
+            }
+            (_, later) => Ok(later),
+        }
+    }
+}
+
+/// What both lists of changes make of the tree in all, or none where the second operation was refused.
+fn changes_of_both(
+    alloc: Global,
+    tree: &Tree,
+    first: &Changes,
+    second: &Changes,
+    refused: bool,
+) -> Result<Changes, AllocError>
+    requires first { AreChanges tree.now first.now }
+    requires second { AreChanges (after_changes first.now tree.now) second.now }
+    ensures { IfOk result (λ changes. changes ≡ if refused then [] else net first.now second.now) }
+{
+    if refused {
+        return Ok(Changes::none(alloc));
+    }
+    net_changes(alloc, tree, first, second)
+}
+
+impl Reading {
+    /// The reading of the tree by the keys of both.
+    fn and_then(self, alloc: Global, tree: &Tree, later: Reading) -> Result<Reading, AllocError>
+        ensures { IfOk result (λ reading. reading ≡ reading_of (keys_of self ++ keys_of later) tree.now) }
+    {
+        let mut keys = self.into_keys(alloc)?;
+        keys.append(later.into_keys(alloc)?)?;
+        Reading::of(alloc, tree, keys)
+    }
+}
+
+impl Outcome {
+    /// The outcome of both on the tree, where the later one is that on the tree after the changes of this one.
+    fn and_then(self, alloc: Global, tree: &Tree, later: Outcome) -> Result<Outcome, AllocError>
+        requires first { AreChanges tree.now self.changes }
+        requires second { AreChanges (after_changes self.changes tree.now) later.changes }
+        ensures { IfOk result (λ outcome. outcome ≡ outcome_of_both tree.now self later) }
+    {
+        let refused = later.answer.is_refused();
+        let changes = changes_of_both(alloc, tree, &self.changes, &later.changes, refused)?;
+        let reading = self.reading.and_then(alloc, tree, later.reading)?;
+        let answer = self.answer.and_then(later.answer)?;
+        Ok(Outcome {
+            answer,
+            changes,
+            reading,
+        })
+    }
+}
+
+/// What an operation comes to on the tree after changes.
+fn run_after<B: Operation>(
+    alloc: Global,
+    tree: &Tree,
+    changes: &Changes,
+    second: &B,
+) -> Result<Outcome, AllocError>
+    requires slots { All (λ change. is_slot change.path ≡ true) changes.now }
+    requires from { AreFrom tree.now changes.now }
+    ensures outcome { IfOk result (λ done. done ≡ outcome_of B.meaning second.now (after_changes changes.now tree.now)) }
+    ensures slots { IfOk result (λ done. All (λ change. is_slot change.path ≡ true) done.changes) }
+{
+    let after = tree.with_changes(changes.as_slice())?;
+    second.run(alloc, &after)
+}
+
+impl<A: Operation, B: Operation> Operation for Then<A, B> {
+    ghost use Rattle.footprint.specs.Then.{then_meaning, both_ask};
+    ghost use Rattle.footprint.specs.ThenLaws.{then_laws};
+
+    ghost meaning = { then_meaning A.meaning B.meaning };
+
+    ghost asks = { both_ask A.asks B.asks };
+
+    fn run(&self, alloc: Global, tree: &Tree) -> Result<Outcome, AllocError> {
+        let first = self.first.run(alloc, tree)?;
+        if first.answer.is_refused() {
+            return Ok(first);
+        }
+        let second = run_after(alloc, tree, &first.changes, &self.second)?;
+        first.and_then(alloc, tree, second)
+    }
+
+    fn asks_only(&self) -> bool {
+        self.first.asks_only() && self.second.asks_only()
+    }
+
+    fn copy(&self) -> Result<Then<A, B>, AllocError> {
+        Ok(Then {
+            first: self.first.copy()?,
+            second: self.second.copy()?,
+        })
+    }
+
+    fn same(&self, other: &Then<A, B>) -> bool {
+        self.first.same(&other.first) && self.second.same(&other.second)
+    }
+
+    ghost laws = { then_laws A.laws B.laws };
+}

@@ -1,0 +1,128 @@
+//! Links that are wanted, and are made all at once.
+ghost use Rattle.std.specs.Prelude.{◌≡◌, ◌++◌, true, Some, None, map as list_map, IfOk, OnOk, OnErr};
+ghost use Rattle.std.specs.FinMap as map;
+ghost use Rattle.unit_paths.specs.Slots.{is_slot};
+ghost use Rattle.footprint.specs.declared.key.Key.TheVariants.{Cell};
+ghost use Rattle.footprint.specs.Edits.{GoesOn};
+ghost use Rattle.footprint.specs.Keys.{StandAtSlots};
+ghost use Rattle.footprint.specs.Placing.{cleared};
+ghost use Rattle.footprint.specs.Steps.{all_at_once};
+
+use crate::edit::Edit;
+use crate::key::Key;
+use crate::keys::Keys;
+use crate::refusal::Refusal;
+use crate::rules::wanted_at;
+use link_tree::{Tree, TreePath};
+use std::alloc::{AllocError, Global};
+use std::collections::BTreeMap;
+use std::marker::Model;
+
+/// What is to stand at slots, one link or nothing at each: the links that `enable` makes, and those that `disable` takes away. Contracts
+/// see the finite map from paths to the file to which each link is to lead.
+#[derive(Debug, Drop)]
+pub struct WantedLinks {
+    by_path: BTreeMap<TreePath, Option<TreePath>>,
+}
+
+impl Model for WantedLinks {
+    ghost use Rattle.std.specs.Prelude.{List, ℕ, Option};
+    ghost use Rattle.std.specs.Coded.{coded_option};
+    ghost use Rattle.std.specs.FinMap as map;
+    ghost use Rattle.link_tree.specs.Trees.{path_cmp};
+    ghost use Rattle.link_tree.specs.Values.{coded_path};
+    ghost use Rattle.footprint.specs.EditLaws.{AreAtSlots};
+
+    ghost Value = { map.FinMap path_cmp (Option (List ℕ)) };
+
+    ghost coded = { map.code coded_path (coded_option coded_path) };
+
+    ghost view = { λ wanted. map.from_entries wanted.by_path.entries };
+
+    ghost invariant = { λ wanted. AreAtSlots (map.from_entries wanted.by_path.entries) };
+}
+
+impl WantedLinks {
+    /// Nothing is wanted. Takes no memory.
+    pub fn none(alloc: Global) -> WantedLinks
+        ensures { result ≡ map.empty }
+    {
+        WantedLinks {
+            by_path: BTreeMap::new(alloc),
+        }
+    }
+
+    /// Nothing is to stand where a tree has entries, all of which stand at slots. Fails only where memory runs out.
+    pub fn cleared(alloc: Global, entries: &Tree) -> Result<WantedLinks, AllocError>
+        requires { StandAtSlots entries.now }
+        ensures { IfOk result (λ wanted. wanted ≡ cleared entries.now) }
+    {
+        let mut wanted = WantedLinks::none(alloc);
+        for (path, _entry) in entries.iter() {
+            wanted.clear(path.copy()?)?;
+        }
+        Ok(wanted)
+    }
+
+    /// At a slot a link to the file is wanted, in place of what was wanted there before. Where memory runs out nothing has changed.
+    pub fn link(&mut self, slot: TreePath, file: TreePath) -> Result<(), AllocError>
+        requires { is_slot slot ≡ true }
+        ensures ok { OnOk result (self.new ≡ map.insert self.old slot (Some file)) }
+        ensures err { OnErr result (self.new ≡ self.old) }
+    {
+        self.want(slot, Some(file))
+    }
+
+    /// At a slot nothing is to stand, in place of what was wanted there before. Where memory runs out nothing has changed.
+    pub fn clear(&mut self, slot: TreePath) -> Result<(), AllocError>
+        requires { is_slot slot ≡ true }
+        ensures ok { OnOk result (self.new ≡ map.insert self.old slot None) }
+        ensures err { OnErr result (self.new ≡ self.old) }
+    {
+        self.want(slot, None)
+    }
+
+    fn want(&mut self, slot: TreePath, file: Option<TreePath>) -> Result<(), AllocError>
+        requires { is_slot slot ≡ true }
+        ensures ok { OnOk result (self.new ≡ map.insert self.old slot file) }
+        ensures err { OnErr result (self.new ≡ self.old) }
+    {
+        self.by_path.insert(slot, file)?;
+        Ok(())
+    }
+
+    /// Adds the cell of each slot, in byte order of the paths.
+    fn push_cells(&self, keys: &mut Keys) -> Result<(), AllocError>
+        ensures { OnOk result (keys.new ≡ keys.old ++ list_map Cell (map.keys self.now)) }
+    {
+        for slot in self.by_path.keys() {
+            keys.push(Key::Cell(slot.copy()?))?;
+        }
+        Ok(())
+    }
+}
+
+impl<'a> Edit<'a> {
+    /// Makes all links that are wanted in a tree, and takes away what is not to stand. The cell of each slot is added to the keys,
+    /// also where something else stands or nothing is done. `Exists` names the least path, in byte order, where something is in the
+    /// way of a link. The outer error is want of memory alone.
+    pub fn all_at_once(
+        alloc: Global,
+        tree: &'a Tree,
+        wanted: &WantedLinks,
+        keys: &mut Keys,
+    ) -> Result<Result<Edit<'a>, Refusal>, AllocError>
+        ensures { IfOk result (GoesOn (all_at_once wanted.now) (tree.now, tree.now) keys.old keys.new) }
+    {
+        wanted.push_cells(keys)?;
+        let mut edit = Edit::new(alloc, tree)?;
+        for (slot, file) in wanted.by_path.iter() {
+            let ruled = wanted_at(alloc, file.as_ref(), slot, tree.get(slot))?;
+            match edit.ruled(slot, ruled)? {
+                Ok(next) => edit = next,
+                Err(refusal) => return Ok(Err(refusal)),
+            }
+        }
+        Ok(Ok(edit))
+    }
+}

@@ -1,0 +1,114 @@
+//! An operation that looks by a key of any kind, tells of a word, and links a file.
+ghost use Rattle.std.specs.Prelude.{◌≡◌, ◌↔◌, IfOk, IsTrue};
+ghost use Rattle.footprint.specs.Edits.{Carries};
+ghost use Rattle.history.specs.Samples.{told_of, watch_command};
+
+use footprint::{
+    Edit, Key, Keys, Notice, NoticeKey, Notices, Operation, Outcome, Reason, Refusal, link_at,
+};
+use link_tree::{Slot, Tree, TreePath};
+use std::alloc::{AllocError, Global};
+use unit_file::Word;
+use unit_name::UnitName;
+
+/// Looks by a key; may tell that a word of a unit was not found; and links a file at a slot.
+#[derive(Debug, Drop)]
+pub(crate) struct Watch {
+    pub(crate) key: Key,
+    pub(crate) told: Option<UnitName>,
+    pub(crate) file: TreePath,
+    pub(crate) slot: TreePath,
+}
+
+/// Whether two keys are one.
+fn is_same_key(one: &Key, other: &Key) -> bool
+    ensures { IsTrue result ↔ (one.now ≡ other.now) }
+{
+    match (one, other) {
+        (Key::Cell(one), Key::Cell(other)) => one == other,
+        (Key::Marked(scope, one), Key::Marked(other_scope, other)) => {
+            scope == other_scope && one == other
+        }
+        (Key::Presets, Key::Presets) => true,
+        (Key::Links, Key::Links) => true,
+        _ => false,
+    }
+}
+
+impl Watch {
+    fn notices(&self, alloc: Global) -> Result<Notices, AllocError>
+        ensures { IfOk result (λ notices. notices ≡ told_of self.now.told) }
+    {
+        let mut notices = Notices::none(alloc);
+        if let Some(unit) = &self.told {
+            notices.add(Notice {
+                unit: unit.copy()?,
+                key: NoticeKey::Also,
+                word: Word::from_slice(alloc, unit.text())?,
+                reason: Reason::NotFound,
+            })?;
+        }
+        Ok(notices)
+    }
+
+    fn linked<'a>(
+        &self,
+        alloc: Global,
+        tree: &'a Tree,
+        keys: &mut Keys,
+    ) -> Result<(Notices, Result<Edit<'a>, Refusal>), AllocError>
+        ensures { IfOk result (λ done. Carries (watch_command self.now.key self.now.told self.now.file self.now.slot) tree.now keys.old keys.new done.0 done.1) }
+    {
+        keys.push(self.key.copy()?)?;
+        let notices = self.notices(alloc)?;
+        if Slot::of(&self.slot).is_none() {
+            return Ok((notices, Err(Refusal::NotASlot(self.slot.copy()?))));
+        }
+        keys.push(Key::Cell(self.slot.copy()?))?;
+        let ruled = link_at(alloc, &self.file, &self.slot, tree.get(&self.slot))?;
+        Ok((notices, Edit::new(alloc, tree)?.ruled(&self.slot, ruled)?))
+    }
+}
+
+impl Operation for Watch {
+    ghost use Rattle.std.specs.Prelude.{false};
+    ghost use Rattle.footprint.proofs.Carried.{laws_of};
+    ghost use Rattle.footprint.specs.Commands.{carried_out};
+    ghost use Rattle.history.specs.Samples.{watch_command};
+
+    ghost meaning = { λ c. carried_out (watch_command c.key c.told c.file c.slot) };
+
+    ghost asks = { λ c. false };
+
+    ghost laws = { laws_of (λ c. watch_command c.key c.told c.file c.slot) };
+
+    fn run(&self, alloc: Global, tree: &Tree) -> Result<Outcome, AllocError> {
+        let mut keys = Keys::none(alloc);
+        let (notices, done) = self.linked(alloc, tree, &mut keys)?;
+        Outcome::of(alloc, tree, keys, notices, done)
+    }
+
+    fn asks_only(&self) -> bool {
+        false
+    }
+
+    fn copy(&self) -> Result<Watch, AllocError> {
+        let told = match &self.told {
+            Some(unit) => Some(unit.copy()?),
+            None => None,
+        };
+        Ok(Watch {
+            key: self.key.copy()?,
+            told,
+            file: self.file.copy()?,
+            slot: self.slot.copy()?,
+        })
+    }
+
+    fn same(&self, other: &Watch) -> bool {
+        is_same_key(&self.key, &other.key)
+            && self.told == other.told
+            && self.file == other.file
+            && self.slot == other.slot
+    }
+}

@@ -1,0 +1,43 @@
+-- Looking up the units that are to be installed: systemctl(1), "enable".
+use Rattle.std.specs.Prelude.{ℕ, if◌then◌else◌, List, [], ◌∷◌, Result, Ok, Err}
+use Rattle.std.specs.Str.{bytes_eq}
+use Rattle.load_path.specs.Find.{find}
+use Rattle.footprint.specs.declared.refusal.Refusal.{Refusal}
+use Rattle.footprint.specs.declared.refusal.Refusal.TheVariants.{IsAlias}
+use Rattle.footprint.specs.Commands.{Command, silent, unless_refused, carried_out}
+use Rattle.footprint.specs.Inquiry.{Inquiry, over, by_cells, giving, ◌>>=◌}
+use Rattle.footprint.specs.Operations.{Effect}
+use Rattle.footprint.specs.Steps.{nothing}
+use Rattle.footprint.specs.Units.{found_unit}
+use Rattle.install_commands.specs.declared.check.Check.{Check}
+
+-- a unit that was found is to have this name of its own
+abbrev pub as_itself : (name : List ℕ) → Result (List ℕ × List ℕ) Refusal → Result (Unit {0}) Refusal
+as_itself name (Ok unit) = if bytes_eq unit.0 name then Ok tt else Err (IsAlias name unit.0)
+as_itself name (Err refusal) = Err refusal
+
+-- the rest, unless that is a refusal
+abbrev pub unless_amiss : Inquiry (Result (Unit {0}) Refusal) → Result (Unit {0}) Refusal → Inquiry (Result (Unit {0}) Refusal)
+unless_amiss rest (Ok fine) = rest
+unless_amiss rest (Err refusal) = over (Err refusal)
+
+-- one unit is found, and is no alias
+abbrev pub one_checked : (name : List ℕ) → Inquiry (Result (Unit {0}) Refusal)
+one_checked name = giving (by_cells (find name)) (λ found. as_itself name (found_unit name found))
+
+-- each of these, one after another, up to one that is refused
+abbrev pub checked : List (List ℕ) → Inquiry (Result (Unit {0}) Refusal)
+checked [] = over (Ok tt)
+checked (name ∷ names) = do
+  one ← one_checked name
+  unless_amiss (checked names) one
+
+-- the command alone changes nothing
+abbrev pub check_command : Check → Command
+check_command check = do
+  fine ← checked check.units
+  unless_refused (λ fine. silent nothing) fine
+
+-- What the command asks of a tree, and what effect that has.
+abbrev pub check_meaning : Check → Inquiry Effect
+check_meaning check = carried_out (check_command check)

@@ -1,0 +1,79 @@
+-- Disabling units: systemctl(1), "disable".
+use Rattle.std.specs.Prelude.{ℕ, Bool, false, if◌then◌else◌, List, [], ◌∷◌, ◌++◌, map as list_map}
+use Rattle.std.specs.Str.{bytes_eq}
+use Rattle.unit_file.specs.Notices.{NoticeMap}
+use Rattle.unit_paths.specs.declared.place.Scope.{Scope}
+use Rattle.load_path.specs.declared.finding.Found.{Found}
+use Rattle.load_path.specs.declared.finding.Found.TheVariants.{Unit}
+use Rattle.load_path.specs.Find.{find}
+use Rattle.install_section.specs.declared.closed.Closed.{Closed}
+use Rattle.install_section.specs.Closure.{closure}
+use Rattle.footprint.specs.declared.key.Key.TheVariants.{Marked}
+use Rattle.footprint.specs.Commands.{Command, telling, unless_refused, carried_out}
+use Rattle.footprint.specs.Inquiry.{Inquiry, over, by_cells, giving, entries_of_all, ◌>>=◌}
+use Rattle.footprint.specs.Operations.{Effect}
+use Rattle.footprint.specs.Placing.{cleared}
+use Rattle.footprint.specs.Steps.{all_at_once}
+use Rattle.install_commands.specs.declared.disable.Disable.{Disable}
+use Rattle.install_commands.specs.Enable.{unless_too_many}
+
+-- names with the own name of what was found, if that is a unit
+abbrev pub with_real : (names : List (List ℕ)) → Found → List (List ℕ)
+with_real names (Unit real file place) = names ++ real ∷ []
+with_real names other = names
+
+-- The own names of those that are found as units, in order, behind these names.
+abbrev pub reals_behind : (names : List (List ℕ)) → (units : List (List ℕ)) → Inquiry (List (List ℕ))
+reals_behind names [] = over names
+reals_behind names (unit ∷ units) = do
+  found ← by_cells (find unit)
+  reals_behind (with_real names found) units
+
+-- whether what was found is a unit of this name
+abbrev pub is_itself : (name : List ℕ) → Found → Bool
+is_itself name (Unit real file place) = bytes_eq real name
+is_itself name other = false
+
+abbrev pub with_self : (names : List (List ℕ)) → (name : List ℕ) → Found → List (List ℕ)
+with_self names name found = if is_itself name found then names ++ name ∷ [] else names
+
+-- Those that are found as themselves, in order, behind these names.
+abbrev pub selves_behind : (names : List (List ℕ)) → (units : List (List ℕ)) → Inquiry (List (List ℕ))
+selves_behind names [] = over names
+selves_behind names (unit ∷ units) = do
+  found ← by_cells (find unit)
+  selves_behind (with_self names unit found) units
+
+-- the links of the scope that belong to one of the names go
+abbrev pub links_removed : Scope → (names : List (List ℕ)) → NoticeMap → Command
+links_removed scope names notices = do
+  links ← entries_of_all (list_map (Marked scope) names)
+  telling notices (all_at_once (cleared links))
+
+-- The names: those that are given, the own names of those that are found as units,
+abbrev pub closed_disabled : Scope → (units reals : List (List ℕ)) → Closed → Command
+closed_disabled scope units reals closed = links_removed scope (units ++ (reals ++ closed.units)) closed.notices
+
+-- and the closure of those of them
+abbrev pub selves_disabled : Scope → (units reals selves : List (List ℕ)) → Command
+selves_disabled scope units reals selves = do
+  closed ← giving (by_cells (closure selves)) unless_too_many
+  unless_refused (closed_disabled scope units reals) closed
+
+-- that are found as themselves.
+abbrev pub reals_disabled : Scope → (units reals : List (List ℕ)) → Command
+reals_disabled scope units reals = do
+  selves ← selves_behind [] reals
+  selves_disabled scope units reals selves
+
+abbrev pub units_disabled : Scope → (units : List (List ℕ)) → Command
+units_disabled scope units = do
+  reals ← reals_behind [] units
+  reals_disabled scope units reals
+
+abbrev pub disable_command : Disable → Command
+disable_command disable = units_disabled disable.scope disable.units
+
+-- What the command asks of a tree, and what effect that has.
+abbrev pub disable_meaning : Disable → Inquiry Effect
+disable_meaning disable = carried_out (disable_command disable)

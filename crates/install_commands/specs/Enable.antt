@@ -1,0 +1,68 @@
+-- Enabling units: systemctl(1), "enable".
+use Rattle.std.specs.Prelude.{ℕ, Bool, false, List, [], ◌∷◌, Some, Result, Ok, Err}
+use Rattle.std.specs.FinMap as map
+use Rattle.unit_file.specs.Notices.{NoticeMap, joined}
+use Rattle.unit_paths.specs.declared.place.Scope.{Scope}
+use Rattle.install_section.specs.declared.closed.Closed.{Closed}
+use Rattle.install_section.specs.declared.closed.ClosureFault.{ClosureFault}
+use Rattle.install_section.specs.declared.closed.ClosureFault.TheVariants as closure_faults
+use Rattle.install_section.specs.declared.wants.Wanted.{Wanted}
+use Rattle.install_section.specs.declared.wants.WantedFault.{WantedFault}
+use Rattle.install_section.specs.declared.wants.WantedFault.TheVariants as wanted_faults
+use Rattle.install_section.specs.Closure.{closure}
+use Rattle.install_section.specs.LinkSlots.{LinkMap}
+use Rattle.install_section.specs.Wanted.{wanted}
+use Rattle.footprint.specs.declared.refusal.Refusal.{Refusal}
+use Rattle.footprint.specs.declared.refusal.Refusal.TheVariants.{TooMany, NeedsInstance, Clash}
+use Rattle.footprint.specs.Commands.{Command, telling, unless_refused, carried_out}
+use Rattle.footprint.specs.Inquiry.{Inquiry, by_cells, giving, ◌>>=◌}
+use Rattle.footprint.specs.Operations.{Effect}
+use Rattle.footprint.specs.Placing as placing
+use Rattle.footprint.specs.Steps.{all_at_once}
+use Rattle.install_commands.specs.declared.enable.Enable.{Enable}
+use Rattle.install_commands.specs.Check.{checked}
+
+-- a closure, unless it is of too many units
+abbrev pub unless_too_many : Result Closed ClosureFault → Result Closed Refusal
+unless_too_many (Ok closed) = Ok closed
+unless_too_many (Err closure_faults.TooMany) = Err TooMany
+
+-- the links that units want, unless one needs an instance or a path is wanted twice
+abbrev pub unless_at_odds : Result Wanted WantedFault → Result Wanted Refusal
+unless_at_odds (Ok wanted) = Ok wanted
+unless_at_odds (Err (wanted_faults.NeedsInstance unit)) = Err (NeedsInstance unit)
+unless_at_odds (Err (wanted_faults.Clash path)) = Err (Clash path)
+
+-- a link is to stand at each of the paths
+abbrev pub with_links : placing.Wanted → List (List ℕ × List ℕ) → placing.Wanted
+with_links wanted [] = wanted
+with_links wanted (link ∷ links) = with_links (map.insert wanted link.0 (Some link.1)) links
+
+abbrev pub to_stand : LinkMap → placing.Wanted
+to_stand links = with_links map.empty (map.entries links)
+
+-- the links that are wanted are made, all at once
+abbrev pub links_made : NoticeMap → Wanted → Command
+links_made notices wanted = telling (joined notices wanted.notices) (all_at_once (to_stand wanted.links))
+
+-- the units of a closure are enabled; with `skip` a word that would need an instance asks for nothing
+abbrev pub closed_enabled : Scope → (skip : Bool) → Closed → Command
+closed_enabled scope skip closed = do
+  wanted ← giving (by_cells (wanted closed.units scope skip)) unless_at_odds
+  unless_refused (links_made closed.notices) wanted
+
+-- units are enabled, and those that they name
+abbrev pub units_enabled : Scope → (skip : Bool) → (units : List (List ℕ)) → Command
+units_enabled scope skip units = do
+  closed ← giving (by_cells (closure units)) unless_too_many
+  unless_refused (closed_enabled scope skip) closed
+
+-- the units are checked before
+abbrev pub enable_command : Enable → Command
+enable_command enable = do
+  fine ← checked enable.units
+  unless_refused (λ fine. units_enabled enable.scope false enable.units) fine
+
+-- What the command asks of a tree, and what effect that has.
+abbrev pub enable_meaning : Enable → Inquiry Effect
+enable_meaning enable = carried_out (enable_command enable)

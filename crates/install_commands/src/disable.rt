@@ -1,0 +1,221 @@
+//! disable.
+ghost use Rattle.std.specs.Prelude.{◌≡◌, ◌++◌, [], map as list_map, IfOk, OnOk};
+ghost use Rattle.footprint.specs.declared.key.Key.TheVariants.{Marked};
+ghost use Rattle.footprint.specs.Edits.{Carries};
+ghost use Rattle.footprint.specs.Inquiry.{Asks};
+ghost use Rattle.install_commands.specs.Disable.{with_real, reals_behind, is_itself, with_self, selves_behind, links_removed, selves_disabled, reals_disabled, disable_command};
+ghost use Rattle.install_commands.specs.Disable as disabling;
+
+use crate::enable::closed;
+use footprint::{Edit, Key, Keys, Notices, Operation, Outcome, Refusal, Units, WantedLinks};
+use install_section::Closed;
+use link_tree::{Scope, Tree};
+use load_path::Found;
+use std::alloc::{AllocError, Global};
+use unit_name::UnitName;
+
+/// systemctl(1), `disable`: in the scope all links go that belong to the units, whoever made them. The names to which they may belong
+/// are those that are given, the own name of each that is found as a unit, and those of the units that the `Also=` of these names, in
+/// turn. Nothing is refused but `TooMany`, where that would be over 1,024 units. Words of `Also=` that name no unit are skipped,
+/// each with a notice.
+#[derive(Debug, Drop)]
+pub struct Disable {
+    pub scope: Scope,
+    pub units: Units,
+}
+
+/// Adds the own name of what was found, if that is a unit.
+fn push_real(names: &mut Units, found: Found) -> Result<(), AllocError>
+    ensures { OnOk result (names.new ≡ with_real names.old found) }
+{
+    match found {
+        Found::Unit { real, .. } => names.push(real),
+        Found::Missing | Found::Masked(_) | Found::Dangling(_) => Ok(()),
+    }
+}
+
+/// The own names of those that are found as units, in order.
+fn reals(
+    alloc: Global,
+    tree: &Tree,
+    units: &[UnitName],
+    keys: &mut Keys,
+) -> Result<Units, AllocError>
+    ensures { IfOk result (Asks tree.now (reals_behind [] units.now) keys.old keys.new) }
+{
+    let mut names = Units::none(alloc);
+    for unit in units {
+        let found = keys.find(alloc, tree, unit)?;
+        push_real(&mut names, found)?;
+    }
+    Ok(names)
+}
+
+/// Whether what was found is a unit of this name.
+fn is_itself(name: &UnitName, found: &Found) -> bool
+    ensures { result ≡ is_itself name.now found.now }
+{
+    match found {
+        Found::Unit { real, .. } => real.text() == name.text(),
+        Found::Missing | Found::Masked(_) | Found::Dangling(_) => false,
+    }
+}
+
+/// Adds a name, if what was found is a unit of this name.
+fn push_self(names: &mut Units, name: &UnitName, found: &Found) -> Result<(), AllocError>
+    ensures { OnOk result (names.new ≡ with_self names.old name.now found.now) }
+{
+    if is_itself(name, found) {
+        names.push(name.copy()?)?;
+    }
+    Ok(())
+}
+
+/// Those that are found as themselves, in order.
+fn selves(
+    alloc: Global,
+    tree: &Tree,
+    units: &[UnitName],
+    keys: &mut Keys,
+) -> Result<Units, AllocError>
+    ensures { IfOk result (Asks tree.now (selves_behind [] units.now) keys.old keys.new) }
+{
+    let mut names = Units::none(alloc);
+    for unit in units {
+        let found = keys.find(alloc, tree, unit)?;
+        push_self(&mut names, unit, &found)?;
+    }
+    Ok(names)
+}
+
+/// Adds the key of the links of each name.
+fn push_marks(marks: &mut Keys, scope: Scope, names: &[UnitName]) -> Result<(), AllocError>
+    ensures { OnOk result (marks.new ≡ marks.old ++ list_map (Marked scope) names.now) }
+{
+    for name in names {
+        marks.push(Key::Marked(scope, name.copy()?))?;
+    }
+    Ok(())
+}
+
+/// The keys of the links of all these names.
+fn marks(
+    alloc: Global,
+    scope: Scope,
+    given: &[UnitName],
+    reals: &[UnitName],
+    closed: &[UnitName],
+) -> Result<Keys, AllocError>
+    ensures { IfOk result (λ marks. marks ≡ list_map (Marked scope) (given.now ++ (reals.now ++ closed.now))) }
+{
+    let mut marks = Keys::none(alloc);
+    push_marks(&mut marks, scope, given)?;
+    push_marks(&mut marks, scope, reals)?;
+    push_marks(&mut marks, scope, closed)?;
+    Ok(marks)
+}
+
+/// The links of the scope that belong to one of the names go: of those that are given, the own names, and those of the closure.
+fn links_removed<'a>(
+    alloc: Global,
+    tree: &'a Tree,
+    scope: Scope,
+    given: &[UnitName],
+    reals: &[UnitName],
+    closed: Closed,
+    keys: &mut Keys,
+) -> Result<(Notices, Result<Edit<'a>, Refusal>), AllocError>
+    ensures { IfOk result (λ done. Carries (links_removed scope (given.now ++ (reals.now ++ closed.units)) closed.notices) tree.now keys.old keys.new done.0 done.1) }
+{
+    let marks = marks(alloc, scope, given, reals, closed.units.as_slice())?;
+    let links = keys.entries_of_all(alloc, tree, marks)?;
+    let wanted = WantedLinks::cleared(alloc, &links)?;
+    let done = Edit::all_at_once(alloc, tree, &wanted, keys)?;
+    Ok((closed.notices, done))
+}
+
+/// Units are disabled by their own names and by the closure of those that are found as themselves.
+fn selves_disabled<'a>(
+    alloc: Global,
+    tree: &'a Tree,
+    scope: Scope,
+    units: &[UnitName],
+    reals: &[UnitName],
+    selves: &[UnitName],
+    keys: &mut Keys,
+) -> Result<(Notices, Result<Edit<'a>, Refusal>), AllocError>
+    ensures { IfOk result (λ done. Carries (selves_disabled scope units.now reals.now selves.now) tree.now keys.old keys.new done.0 done.1) }
+{
+    match closed(alloc, tree, selves, keys)? {
+        Ok(closed) => links_removed(alloc, tree, scope, units, reals, closed, keys),
+        Err(refusal) => Ok((Notices::none(alloc), Err(refusal))),
+    }
+}
+
+/// Units are disabled, whose own names are known.
+fn reals_disabled<'a>(
+    alloc: Global,
+    tree: &'a Tree,
+    scope: Scope,
+    units: &[UnitName],
+    reals: &[UnitName],
+    keys: &mut Keys,
+) -> Result<(Notices, Result<Edit<'a>, Refusal>), AllocError>
+    ensures { IfOk result (λ done. Carries (reals_disabled scope units.now reals.now) tree.now keys.old keys.new done.0 done.1) }
+{
+    let selves = selves(alloc, tree, reals, keys)?;
+    selves_disabled(alloc, tree, scope, units, reals, selves.as_slice(), keys)
+}
+
+/// Units are disabled, and those that they name.
+pub(crate) fn units_disabled<'a>(
+    alloc: Global,
+    tree: &'a Tree,
+    scope: Scope,
+    units: &[UnitName],
+    keys: &mut Keys,
+) -> Result<(Notices, Result<Edit<'a>, Refusal>), AllocError>
+    ensures { IfOk result (λ done. Carries (disabling.units_disabled scope units.now) tree.now keys.old keys.new done.0 done.1) }
+{
+    let reals = reals(alloc, tree, units, keys)?;
+    reals_disabled(alloc, tree, scope, units, reals.as_slice(), keys)
+}
+
+impl Operation for Disable {
+    ghost use Rattle.std.specs.Prelude.{false};
+    ghost use Rattle.footprint.proofs.Carried.{laws_of};
+    ghost use Rattle.install_commands.specs.Disable.{disable_command, disable_meaning};
+
+    ghost meaning = { disable_meaning };
+
+    ghost asks = { λ c. false };
+
+    fn run(&self, alloc: Global, tree: &Tree) -> Result<Outcome, AllocError> {
+        let mut keys = Keys::none(alloc);
+        let (notices, done) = units_disabled(
+            alloc,
+            tree,
+            self.scope,
+            self.units.as_slice(),
+            &mut keys,
+        )?;
+        Outcome::of(alloc, tree, keys, notices, done)
+    }
+
+    fn asks_only(&self) -> bool {
+        false
+    }
+
+    fn copy(&self) -> Result<Disable, AllocError> {
+        Ok(Disable {
+            scope: self.scope,
+            units: self.units.copy()?,
+        })
+    }
+
+    fn same(&self, other: &Disable) -> bool {
+        self.scope == other.scope && self.units.same(&other.units)
+    }
+
+    ghost laws = { laws_of disable_command };
+}

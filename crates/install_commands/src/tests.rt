@@ -1,0 +1,3 @@
+mod disabling;
+mod enabling;
+mod trees;

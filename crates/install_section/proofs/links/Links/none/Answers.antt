@@ -1,0 +1,8 @@
+use Rattle.std.proofs.Common.{◌≡◌, [], rules}
+use Rattle.install_section.proofs.LinkMaps.{none_at_slots}
+use Rattle.install_section.proofs.links.Links.none.Goals as goal
+
+pub invariant_of-result : goal.invariant_of-result
+invariant_of-result c =
+    let same : c.new.result.entries ≡ [] = search rules in
+    rw same none_at_slots

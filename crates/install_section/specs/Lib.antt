@@ -1,0 +1,12 @@
+pub mod Words
+pub mod Sections
+pub mod SectionLaws
+pub mod Closure
+pub mod ClosureErrors
+pub mod ClosureLaws
+pub mod Wishes
+pub mod WishSlots
+pub mod LinkSlots
+pub mod Wanted
+pub mod WantedErrors
+pub mod WantedLaws

@@ -1,0 +1,51 @@
+//! Laws of closures and of wanted links.
+ghost use Rattle.install_section.specs.ClosureLaws.{ClosureIsLeast, RefusedWhereTooMany, NoticesAreOfSkippedWords, AnyOrder};
+ghost use Rattle.install_section.specs.SectionLaws.{SectionLooksAsFind};
+ghost use Rattle.install_section.specs.WantedLaws as wanted;
+
+/// The closure is the least set that holds the given units and, with each unit, those that its file names. Each is there once.
+pub fn closure_is_least()
+    ensures { ClosureIsLeast }
+{}
+
+/// A closure is refused exactly where that set has over 1,024 units.
+pub fn refused_where_too_many()
+    ensures { RefusedWhereTooMany }
+{}
+
+/// The notices of a closure are of the skipped words of its units: all of them, and no others.
+pub fn notices_are_of_skipped_words()
+    ensures { NoticesAreOfSkippedWords }
+{}
+
+/// In whatever order units are given, the closure is the same, and so are the lines of its notices; or it is refused.
+pub fn order_of_given_units_is_free()
+    ensures { AnyOrder }
+{}
+
+/// The wanted links are those for which a unit asks by one of three rules: it is listed by another, its default instance is, or it
+/// has an alias.
+pub fn links_are_asked_for()
+    ensures { wanted.LinksAreAskedFor }
+{}
+
+/// `NeedsInstance` stands exactly where a template needs an instance that it doesn't have, and names the least.
+pub fn instance_is_needed_by_the_least()
+    ensures { wanted.NeedsLeastInstance }
+{}
+
+/// `Clash` stands exactly where no instance is needed and a path is wanted with two targets, and names the least.
+pub fn clash_is_the_least()
+    ensures { wanted.ClashIsLeast }
+{}
+
+/// The notices of wanted links are of the skipped words: all of them, and no others.
+pub fn notices_of_links_are_of_skipped_words()
+    ensures { wanted.NoticesAreOfSkippedWords }
+{}
+
+/// Reading the section of a unit looks at the paths at which looking the unit up does, and at no others. So a closure looks where its
+/// units and the words of `Also=` are looked up, and the wanted links where the units are.
+pub fn sections_look_no_further()
+    ensures { SectionLooksAsFind }
+{}

@@ -1,0 +1,5 @@
+mod aliases;
+mod closures;
+mod large;
+mod links;
+mod units;

@@ -1,0 +1,179 @@
+//! Which units are enabled together.
+use crate::tests::units::{Row, closure_text, named, names, tree};
+use crate::{Closed, Closure, ClosureError, ClosureFault, Members, closure, closure_into};
+use link_tree::Tree;
+use load_path::Cells;
+use std::alloc::{AllocError, Global};
+use std::process::Abort;
+use std::test::Fail;
+use unit_name::{UnitName, ample};
+
+const A: Row = Row::File(
+    b"a.service",
+    b"[Install]\nWantedBy=m.target\nAlso=b.service none.service\n",
+);
+
+const B: Row = Row::File(
+    b"b.service",
+    b"[Install]\nWantedBy=m.target\nAlso=a.service\n",
+);
+
+fn assert_closure(
+    rt: &impl Abort,
+    alloc: Global,
+    rows: &[Row],
+    given: &[u8],
+    text: &[u8],
+) -> Result<(), Fail> {
+    let found = closure_text(alloc, rows, given)?;
+    assert_eq!(rt; found.as_slice(), text);
+    Ok(())
+}
+
+#[test]
+fn units_that_name_one_another_are_there_once(rt: HostRuntime) -> Result<(), Fail> {
+    let told: &[u8] = b"  ! a.service: Also none.service: not found\n";
+    let first: &[u8] = b"a.service\nb.service\n  ! a.service: Also none.service: not found\n";
+    let second: &[u8] = b"b.service\na.service\n  ! a.service: Also none.service: not found\n";
+    for (given, text) in [
+        (b"a.service".as_slice(), first),
+        (b"a.service b.service a.service".as_slice(), first),
+        (b"b.service".as_slice(), second),
+    ] {
+        assert!(rt; text.ends_with(told));
+        assert_closure(&rt, rt.alloc(), &[A, B], given, text)?;
+    }
+    Ok(())
+}
+
+#[test]
+fn each_reason_has_its_notice(rt: HostRuntime) -> Result<(), Fail> {
+    let rows = [
+        Row::File(
+            b"x.service",
+            b"[Install]\nAlso=%z x none.service masked.service loose.service other.service empty.service\n",
+        ),
+        Row::Link(b"masked.service", b"/dev/null"),
+        Row::Link(b"loose.service", b"/nowhere"),
+        Row::Link(b"other.service", b"y.service"),
+        Row::File(b"y.service", b"[Install]\n"),
+        Row::File(b"empty.service", b""),
+    ];
+    let text: &[u8] =
+        b"x.service\n  ! x.service: Also %z: bad specifier\n  ! x.service: Also empty.service: masked\n  ! x.service: Also loose.service: dangling\n  ! x.service: Also masked.service: masked\n  ! x.service: Also none.service: not found\n  ! x.service: Also other.service: is an alias\n  ! x.service: Also x: bad name\n";
+    assert_closure(&rt, rt.alloc(), &rows, b"x.service", text)
+}
+
+#[test]
+fn words_are_expanded_with_the_identity(rt: HostRuntime) -> Result<(), Fail> {
+    let rows = [
+        Row::File(
+            b"w@.service",
+            b"[Install]\nDefaultInstance=one\nAlso=h@%i.service %p.socket\n",
+        ),
+        Row::File(b"h@.service", b"[Install]\n"),
+        Row::File(b"w.socket", b"[Socket]\n"),
+    ];
+    for (given, text) in [
+        (
+            b"w@.service".as_slice(),
+            b"w@.service\nh@one.service\nw.socket\n".as_slice(),
+        ),
+        (
+            b"w@two.service".as_slice(),
+            b"w@two.service\nh@two.service\nw.socket\n".as_slice(),
+        ),
+    ] {
+        assert_closure(&rt, rt.alloc(), &rows, given, text)?;
+    }
+    Ok(())
+}
+
+#[test]
+fn a_name_without_a_unit_names_nothing(rt: HostRuntime) -> Result<(), Fail> {
+    assert_closure(&rt, rt.alloc(), &[A, B], b"none.service", b"none.service\n")
+}
+
+/// How many paths are looked at, each counted as often.
+fn looks(alloc: Global, tree: &Tree, given: &[UnitName]) -> Result<usize, AllocError> {
+    let mut cells = Cells::new(alloc);
+    let _closed = closure_into(alloc, tree, given, &mut cells)?;
+    Ok(cells.as_slice().len())
+}
+
+fn looks_for(alloc: Global, also: &[u8]) -> Result<usize, Fail> {
+    let tree = tree(
+        alloc,
+        &[
+            Row::File(b"a.service", also),
+            Row::File(b"b.service", b"[Install]\n"),
+        ],
+    )?;
+    let given = names(alloc, b"a.service")?;
+    Ok(ample!(looks(alloc, &tree, &given), AllocError)?)
+}
+
+#[test]
+fn a_word_is_looked_up_as_often_as_it_stands(rt: HostRuntime) -> Result<(), Fail> {
+    // A unit in the last directory is found by four paths, and for its words its file is looked at once more.
+    for (also, count) in [
+        (b"[Install]\n".as_slice(), 5),
+        (b"[Install]\nAlso=b.service\n".as_slice(), 14),
+        (b"[Install]\nAlso=b.service b.service\n".as_slice(), 18),
+        (b"[Install]\nAlso=a.service\n".as_slice(), 9),
+    ] {
+        assert_eq!(rt; looks_for(rt.alloc(), also)?, count);
+    }
+    Ok(())
+}
+
+fn closed(
+    alloc: Global,
+    tree: &Tree,
+    given: &[UnitName],
+) -> Result<Result<Closed, ClosureFault>, AllocError> {
+    let mut cells = Cells::new(alloc);
+    closure_into(alloc, tree, given, &mut cells)
+}
+
+fn assert_members(rt: &impl Abort, members: &Members, one: &UnitName, none: &UnitName) {
+    assert_eq!(rt; members.len(), 2);
+    assert!(rt; !members.is_empty());
+    assert!(rt; members.contains(one));
+    assert!(rt; !members.contains(none));
+    assert!(rt; members.get(1) == Some(one));
+    assert!(rt; members.get(2).is_none());
+}
+
+#[test]
+fn members_are_found_by_name_and_place(rt: HostRuntime) -> Result<(), Fail> {
+    let alloc = rt.alloc();
+    let tree = tree(alloc, &[A, B])?;
+    let given = names(alloc, b"a.service")?;
+    let one = named(alloc, b"b.service")?;
+    let none = named(alloc, b"none.service")?;
+    match ample!(closed(alloc, &tree, &given), AllocError)? {
+        Ok(closed) => assert_members(&rt, &closed.units, &one, &none),
+        Err(ClosureFault::TooMany) => assert!(rt; false),
+    }
+    Ok(())
+}
+
+fn assert_cells(rt: &impl Abort, closure: &Closure, count: usize, last: &[u8]) {
+    let cells = closure.cells.as_slice();
+    assert_eq!(rt; cells.len(), count);
+    match cells.last() {
+        Some(cell) => assert_eq!(rt; cell.text(), last),
+        None => assert!(rt; false),
+    }
+}
+
+#[test]
+fn each_path_is_listed_once(rt: HostRuntime) -> Result<(), Fail> {
+    let alloc = rt.alloc();
+    let tree = tree(alloc, &[A, B])?;
+    let given = names(alloc, b"a.service")?;
+    let closure = ample!(closure(alloc, &tree, &given), ClosureError::OutOfMemory)?;
+    assert_cells(&rt, &closure, 12, b"/usr/lib/systemd/system/none.service");
+    Ok(())
+}

@@ -1,0 +1,237 @@
+//! Which link a word of an [Install] section asks for.
+ghost use Rattle.std.specs.Prelude.{◌≡◌, ◌≢◌, IfOk, Some};
+ghost use Rattle.std.specs.Option.{option_copied};
+ghost use Rattle.unit_name.specs.Name.{instance_of, type_of};
+ghost use Rattle.unit_name.specs.Parts.{kind_of};
+ghost use Rattle.load_path.specs.RealNames.{is_same_type, put_in};
+ghost use Rattle.install_section.specs.Words.{named_by};
+ghost use Rattle.install_section.specs.Wishes.{is_template_name, listed_name, listed_under, listing, has_aliases, are_alike, may_have, alias_meant, aliased, aliasing, wish, words_for, notice_key};
+ghost use Rattle.install_section.specs.WishSlots.{IsAtSlot};
+
+use crate::word::named_by;
+use link_tree::{Dependency, Place, TreePath};
+use std::alloc::{AllocError, Global};
+use unit_file::{InstallText, NoticeKey, Reason, Word};
+use unit_name::{InstanceError, Kind, UnitName, UnitType};
+
+/// The lists of an [Install] section whose words ask for links: systemd.unit(5), "[Install] Section Options".
+#[derive(Clone, Copy, Debug, PartialEq, Eq)]
+pub(crate) enum LinkKey {
+    WantedBy,
+    RequiredBy,
+    Alias,
+}
+
+impl LinkKey {
+    /// The words of the list.
+    pub fn words(self, text: &InstallText) -> &[Word]
+        ensures { result.now ≡ words_for self text.now }
+    {
+        match self {
+            LinkKey::WantedBy => text.wanted_by.as_slice(),
+            LinkKey::RequiredBy => text.required_by.as_slice(),
+            LinkKey::Alias => text.alias.as_slice(),
+        }
+    }
+
+    /// Under which key they stand.
+    pub fn notice_key(self) -> NoticeKey
+        ensures { result ≡ notice_key self }
+    {
+        match self {
+            LinkKey::WantedBy => NoticeKey::WantedBy,
+            LinkKey::RequiredBy => NoticeKey::RequiredBy,
+            LinkKey::Alias => NoticeKey::Alias,
+        }
+    }
+}
+
+/// What a word asks for.
+#[derive(Debug, Drop)]
+pub(crate) enum Wish {
+    /// A link at this path, to the unit's file.
+    Link(TreePath),
+    /// Nothing: the word is skipped.
+    Skip(Reason),
+    /// A link to the default instance of the template, which has none.
+    NoInstance,
+}
+
+/// What a word of a unit's list asks for, in a directory of units.
+pub(crate) fn wish_of(
+    alloc: Global,
+    place: Place,
+    key: LinkKey,
+    unit: &UnitName,
+    identity: &UnitName,
+    word: &Word,
+) -> Result<Wish, AllocError>
+    ensures wish { IfOk result (λ w. w ≡ wish place key unit.now identity.now word.now) }
+    ensures slot { IfOk result IsAtSlot }
+{
+    let named = named_by(alloc, identity, word)?;
+    match key {
+        LinkKey::WantedBy => listing(alloc, place, Dependency::Wants, unit, identity, named),
+        LinkKey::RequiredBy => listing(alloc, place, Dependency::Requires, unit, identity, named),
+        LinkKey::Alias => aliasing(alloc, place, unit, named),
+    }
+}
+
+/// What a word of `WantedBy=` or `RequiredBy=` asks for.
+fn listing(
+    alloc: Global,
+    place: Place,
+    dependency: Dependency,
+    unit: &UnitName,
+    identity: &UnitName,
+    named: Result<UnitName, Reason>,
+) -> Result<Wish, AllocError>
+    ensures wish { IfOk result (λ w. w ≡ listing place dependency unit.now identity.now named) }
+    ensures slot { IfOk result IsAtSlot }
+{
+    match named {
+        Err(reason) => Ok(Wish::Skip(reason)),
+        Ok(by) => match listed_name(&by, unit, identity) {
+            None => Ok(Wish::NoInstance),
+            Some(name) => Ok(Wish::Link(place.dependency_slot(alloc, dependency, &by, name)?)),
+        },
+    }
+}
+
+fn is_template(name: &UnitName) -> bool
+    ensures { result ≡ is_template_name name.now }
+{
+    match name.kind() {
+        Kind::Template => true,
+        Kind::Plain | Kind::Instance => false,
+    }
+}
+
+/// The name under which a unit is listed by another, if there is one that serves.
+#[tactic(auto, unfolding(crate::specs::Wishes::listed_name))]
+fn listed_name<'a>(
+    by: &UnitName,
+    unit: &'a UnitName,
+    identity: &'a UnitName,
+) -> Option<&'a UnitName>
+    ensures { option_copied result ≡ listed_name by.now unit.now identity.now }
+{
+    if !is_template(unit) || is_template(by) {
+        return Some(unit);
+    }
+    match identity.kind() {
+        Kind::Instance => Some(identity),
+        Kind::Plain | Kind::Template => None,
+    }
+}
+
+/// What a word of `Alias=` asks for.
+fn aliasing(
+    alloc: Global,
+    place: Place,
+    unit: &UnitName,
+    named: Result<UnitName, Reason>,
+) -> Result<Wish, AllocError>
+    ensures wish { IfOk result (λ w. w ≡ aliasing place unit.now named) }
+    ensures slot { IfOk result IsAtSlot }
+{
+    match named {
+        Err(reason) => Ok(Wish::Skip(reason)),
+        Ok(name) => {
+            let alias = alias_meant(alloc, unit, name)?;
+            aliased(alloc, place, unit, alias)
+        }
+    }
+}
+
+fn aliased(
+    alloc: Global,
+    place: Place,
+    unit: &UnitName,
+    alias: Option<UnitName>,
+) -> Result<Wish, AllocError>
+    ensures wish { IfOk result (λ w. w ≡ aliased place unit.now alias) }
+    ensures slot { IfOk result IsAtSlot }
+{
+    match alias {
+        None => Ok(Wish::Skip(Reason::BadName)),
+        Some(alias) => {
+            if may_have(unit, &alias) {
+                return Ok(Wish::Link(place.slot(alloc, &alias)?));
+            }
+            Ok(Wish::Skip(Reason::BadAlias))
+        }
+    }
+}
+
+/// The alias that a name means: for an instance a template means its own instance, if that is a name.
+#[tactic(auto, unfolding(crate::specs::Wishes::alias_meant))]
+fn alias_meant(
+    alloc: Global,
+    unit: &UnitName,
+    name: UnitName,
+) -> Result<Option<UnitName>, AllocError>
+    ensures { IfOk result (λ alias. alias ≡ alias_meant unit.now name) }
+{
+    match (unit.kind(), name.kind()) {
+        (Kind::Instance, Kind::Template) => put_in(alloc, &name, unit.instance()),
+        _ => Ok(Some(name)),
+    }
+}
+
+/// A template with an instance put in, if that is a name.
+fn put_in(
+    alloc: Global,
+    template: &UnitName,
+    instance: Option<&[u8]>,
+) -> Result<Option<UnitName>, AllocError>
+    requires { kind_of (instance_of template.now) ≢ Kind.Plain }
+    ensures { IfOk result (λ alias. alias ≡ put_in template.now (option_copied instance.entry)) }
+{
+    match instance {
+        None => Ok(None),
+        Some(instance) => match template.with_instance(alloc, instance) {
+            Ok(name) => Ok(Some(name)),
+            Err(InstanceError::Bad(_)) => Ok(None),
+            Err(InstanceError::OutOfMemory) => Err(AllocError),
+        },
+    }
+}
+
+/// Whether a unit may have the alias: another name of its type and kind, and of a type that has aliases.
+#[tactic(auto, unfolding(crate::specs::Wishes::may_have))]
+fn may_have(unit: &UnitName, alias: &UnitName) -> bool
+    ensures { result ≡ may_have unit.now alias.now }
+{
+    is_same_type(alias, unit)
+        && has_aliases(unit.unit_type())
+        && alias != unit
+        && are_alike(alias.instance(), unit.instance())
+}
+
+fn is_same_type(one: &UnitName, other: &UnitName) -> bool
+    ensures { result ≡ is_same_type (type_of one.now) (type_of other.now) }
+{
+    one.unit_type().text() == other.unit_type().text()
+}
+
+/// Whether units of the type may have aliases.
+fn has_aliases(unit_type: UnitType) -> bool
+    ensures { result ≡ has_aliases (Some unit_type) }
+{
+    match unit_type {
+        UnitType::Mount | UnitType::Automount | UnitType::Swap | UnitType::Slice => false,
+        _ => true,
+    }
+}
+
+/// Whether both have no instance, or both have the same, or both are templates.
+fn are_alike(one: Option<&[u8]>, other: Option<&[u8]>) -> bool
+    ensures { result ≡ are_alike (option_copied one.entry) (option_copied other.entry) }
+{
+    match (one, other) {
+        (None, None) => true,
+        (Some(one), Some(other)) => one == other,
+        _ => false,
+    }
+}

@@ -1,0 +1,10 @@
+pub mod Agreeing
+pub mod Gathered
+pub mod Matching
+pub mod MatchSteps
+pub mod Members
+pub mod RuleLists
+pub mod Stars
+pub mod Tried
+pub mod WinnersFound
+pub mod Winning

@@ -1,0 +1,7 @@
+use Rattle.std.proofs.Common.{◌≡◌}
+use Rattle.preset_rules.proofs.RuleLists.{with_lines}
+use Rattle.preset_rules.proofs.line.push_rules.Given as goal
+
+-- the lines that are left add to the rules what all lines do
+abbrev pub invariant-loop-line : goal.invariant-loop-line
+invariant-loop-line l = with_lines l.rules.items l.line-iterator ≡ with_lines l.fn.rules.items l.initial.line-iterator

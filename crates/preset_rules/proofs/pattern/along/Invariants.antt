@@ -1,0 +1,10 @@
+use Rattle.std.proofs.Common.{◌≡◌, length}
+use Rattle.preset_rules.specs.Walk.{along}
+use Rattle.preset_rules.proofs.pattern.along.Given as goal
+
+-- what is left leads where all of it does
+abbrev pub invariant-loop-left : goal.invariant-loop-left
+invariant-loop-left l = along l.text l.pattern ≡ along l.fn.text l.fn.pattern
+
+abbrev pub decreases-loop-left : goal.decreases-loop-left
+decreases-loop-left l = length l.text

@@ -1,0 +1,40 @@
+-- Laws of presets, each the contract of a public function.
+use Rattle.std.specs.Prelude.{◌≡◌, ℕ, true, false, List, [], ◌∷◌, ◌++◌, All, ◌⊎◌}
+use Rattle.link_tree.specs.Trees.{Entries}
+use Rattle.load_path.specs.Search.{SameAt, each_once}
+use Rattle.preset_rules.specs.declared.rule.Rule.{Rule}
+use Rattle.preset_rules.specs.declared.rule.Rule.TheVariants.{Disable}
+use Rattle.preset_rules.specs.declared.rule.Verdict.{Verdict}
+use Rattle.preset_rules.specs.declared.rule.Verdict.TheVariants as verdicts
+use Rattle.preset_rules.specs.Files.{presets_of, policy_of}
+use Rattle.preset_rules.specs.Verdicts.{applies, given, verdict}
+
+-- What a policy comes to depends on what stands at the preset slots and in its cells alone.
+abbrev pub PoliciesAgree : Type 0
+PoliciesAgree = (t u : Entries) → presets_of t ≡ presets_of u → SameAt (each_once ((policy_of t).cells t)) t u
+    → ((policy_of t).conclusion t ≡ (policy_of u).conclusion u) × (each_once ((policy_of t).cells t) ≡ each_once ((policy_of u).cells u))
+
+-- The part of a tree that its preset slots are has the same policy.
+abbrev pub PresetsDecide : Type 0
+PresetsDecide = (t : Entries) → policy_of (presets_of t) ≡ policy_of t
+
+-- none of these applies
+abbrev pub NoneApplies : List ℕ → List Rule → Type 0
+NoneApplies name rules = All (λ rule. applies name rule ≡ false) rules
+
+-- a verdict is that of a rule before which none applies, or where none does, to enable
+abbrev pub IsSaid : List Rule → List ℕ → Verdict → Type 0
+IsSaid rules name said =
+    ((before : List Rule) × (rule : Rule) × (after : List Rule) × (rules ≡ before ++ rule ∷ after) × NoneApplies name before × (applies name rule ≡ true) × (said ≡ given name rule))
+    ⊎ (NoneApplies name rules × (said ≡ verdicts.Enable []))
+
+abbrev pub FirstRuleDecides : Type 0
+FirstRuleDecides = (rules : List Rule) (name : List ℕ) → IsSaid rules name (verdict rules name)
+
+-- With no rules each unit is enabled,
+abbrev pub NoRulesEnable : Type 0
+NoRulesEnable = (name : List ℕ) → verdict [] name ≡ verdicts.Enable []
+
+-- and a last rule that applies to it disables a unit exactly where no earlier one does.
+abbrev pub LastRuleDecides : Type 0
+LastRuleDecides = (rules : List Rule) (pattern name : List ℕ) → NoneApplies name rules → applies name (Disable pattern) ≡ true → verdict (rules ++ Disable pattern ∷ []) name ≡ verdicts.Disable

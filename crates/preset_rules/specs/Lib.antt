@@ -1,0 +1,9 @@
+pub mod FileLaws
+pub mod Files
+pub mod Gathering
+pub mod Laws
+pub mod Lines
+pub mod Patterns
+pub mod Verdicts
+pub mod Walk
+pub mod WinnerSteps

@@ -1,0 +1,111 @@
+//! The rules of a tree, and what they say: systemd.preset(5).
+ghost use Rattle.std.specs.Prelude.{◌≡◌, ◌++◌, IfOk};
+ghost use Rattle.load_path.specs.Search.{Finds, each_once};
+ghost use Rattle.preset_rules.specs.Files.{policy_of};
+ghost use Rattle.preset_rules.specs.Verdicts.{verdict};
+
+use crate::deciding::verdict;
+use crate::rule::{Rule, Verdict};
+use crate::winners::Winners;
+use link_tree::Tree;
+use load_path::Cells;
+use std::alloc::{AllocError, Global};
+use std::marker::Model;
+use unit_name::UnitName;
+
+/// The rules of a tree's preset files, in the order in which they count. Contracts see the list.
+#[derive(Debug, Drop)]
+pub struct Rules {
+    items: Vec<Rule>,
+}
+
+impl Model for Rules {
+    ghost use Rattle.std.specs.Prelude.{List};
+    ghost use Rattle.preset_rules.specs.declared.rule.Rule.{Rule};
+
+    ghost Value = { List Rule };
+
+    ghost view = { λ rules. rules.items.items };
+}
+
+impl Rules {
+    /// The rules that what stands at the preset slots of `presets` has in a tree, in which links are followed. `presets` is that
+    /// tree, or the part of it that its preset slots are. The paths to which links lead are added to the cells; a slot itself
+    /// isn't. Fails only where memory runs out; the cells then may have more paths.
+    #[tactic(auto, unfolding(crate::specs::Files::policy_of))]
+    pub fn of_into(
+        alloc: Global,
+        presets: &Tree,
+        tree: &Tree,
+        cells: &mut Cells,
+    ) -> Result<Rules, AllocError>
+        ensures { IfOk result (λ rules. (rules ≡ (policy_of presets.now).conclusion tree.now) × (cells.new ≡ cells.old ++ (policy_of presets.now).cells tree.now)) }
+    {
+        let winners = Winners::of(alloc, presets)?;
+        let mut items = Vec::new(alloc);
+        winners.read(alloc, presets, tree, &mut items, cells)?;
+        Ok(Rules { items })
+    }
+
+    /// The rules, the first that counts first.
+    pub fn as_slice(&self) -> &[Rule]
+        ensures { result.now ≡ self.now }
+    {
+        &self.items
+    }
+
+    /// What is to be done with a unit: the first rule that applies to it says so, and where none does, it is to be enabled. Fails
+    /// only where memory runs out.
+    pub fn verdict(&self, alloc: Global, name: &UnitName) -> Result<Verdict, AllocError>
+        ensures { IfOk result (λ said. said ≡ verdict self.now name.now) }
+    {
+        verdict(alloc, self.as_slice(), name)
+    }
+}
+
+/// Which units are to be enabled, as a tree's preset files say: their rules, and the paths to which the links among them lead. The
+/// files are read once, when it is made, and no line is read again for a verdict.
+#[derive(Debug, Drop)]
+pub struct Policy {
+    rules: Rules,
+    cells: Cells,
+}
+
+impl Policy {
+    /// Reads the preset files of a tree. Of those with one file name the one in `/etc/systemd/system-preset` counts, or else that in
+    /// `/run/systemd/system-preset`, or else that in `/usr/lib/systemd/system-preset`. A link is followed as `load_path::follow`
+    /// does; one that leads to `/dev/null`, or to no file, counts as an empty file, and so hides those of its name. The files are read
+    /// in byte order of their names as one list of lines. Fails only where memory runs out.
+    ///
+    /// systemd.preset(5), "Description" and "Preset File Format".
+    pub fn of(alloc: Global, tree: &Tree) -> Result<Policy, AllocError>
+        ensures rules { IfOk result (λ policy. policy.rules ≡ (policy_of tree.now).conclusion tree.now) }
+        ensures cells { IfOk result (λ policy. policy.cells ≡ each_once ((policy_of tree.now).cells tree.now)) }
+    {
+        let mut cells = Cells::new(alloc);
+        let rules = Rules::of_into(alloc, tree, tree, &mut cells)?;
+        let cells = cells.each_once()?;
+        Ok(Policy { rules, cells })
+    }
+
+    /// The rules.
+    pub fn rules(&self) -> &Rules
+        ensures { result.now ≡ self.now.rules }
+    {
+        &self.rules
+    }
+
+    /// The paths to which the links lead that count, each once. With what stands at the preset slots they decide each verdict.
+    pub fn cells(&self) -> &Cells
+        ensures { result.now ≡ self.now.cells }
+    {
+        &self.cells
+    }
+
+    /// What is to be done with a unit, by the rules: `Rules::verdict`.
+    pub fn verdict(&self, alloc: Global, name: &UnitName) -> Result<Verdict, AllocError>
+        ensures { IfOk result (λ said. said ≡ verdict self.now.rules name.now) }
+    {
+        self.rules.verdict(alloc, name)
+    }
+}
