@@ -16,10 +16,10 @@ abbrev pub as_itself : (name : List ℕ) → Result (List ℕ × List ℕ) Refus
 as_itself name (Ok unit) = if bytes_eq unit.0 name then Ok tt else Err (IsAlias name unit.0)
 as_itself name (Err refusal) = Err refusal
 
--- the rest, unless that is a refusal
-abbrev pub unless_amiss : Inquiry (Result (Unit {0}) Refusal) → Result (Unit {0}) Refusal → Inquiry (Result (Unit {0}) Refusal)
-unless_amiss rest (Ok fine) = rest
-unless_amiss rest (Err refusal) = over (Err refusal)
+-- what is asked next, unless there was a refusal
+abbrev pub going_on : {X Y : Type 0} → (X → Inquiry (Result Y Refusal)) → Result X Refusal → Inquiry (Result Y Refusal)
+going_on next (Ok x) = next x
+going_on next (Err refusal) = over (Err refusal)
 
 -- one unit is found, and is no alias
 abbrev pub one_checked : (name : List ℕ) → Inquiry (Result (Unit {0}) Refusal)
@@ -30,7 +30,7 @@ abbrev pub checked : List (List ℕ) → Inquiry (Result (Unit {0}) Refusal)
 checked [] = over (Ok tt)
 checked (name ∷ names) = do
   one ← one_checked name
-  unless_amiss (checked names) one
+  going_on (λ fine. checked names) one
 
 -- the command alone changes nothing
 abbrev pub check_command : Check → Command

@@ -1,12 +1,12 @@
 -- Disabling units: systemctl(1), "disable".
-use Rattle.std.specs.Prelude.{ℕ, Bool, false, if◌then◌else◌, List, [], ◌∷◌, ◌++◌, map as list_map}
+use Rattle.std.specs.Prelude.{ℕ, Bool, false, if◌then◌else◌, List, [], ◌∷◌, ◌++◌, Result, Ok, Err, map as list_map}
 use Rattle.std.specs.Str.{bytes_eq}
-use Rattle.unit_file.specs.Notices.{NoticeMap}
 use Rattle.unit_paths.specs.declared.place.Scope.{Scope}
 use Rattle.load_path.specs.declared.finding.Found.{Found}
 use Rattle.load_path.specs.declared.finding.Found.TheVariants.{Unit}
 use Rattle.load_path.specs.Find.{find}
 use Rattle.install_section.specs.declared.closed.Closed.{Closed}
+use Rattle.footprint.specs.declared.refusal.Refusal.{Refusal}
 use Rattle.install_section.specs.Closure.{closure}
 use Rattle.footprint.specs.declared.key.Key.TheVariants.{Marked}
 use Rattle.footprint.specs.Commands.{Command, telling, unless_refused, carried_out}
@@ -15,6 +15,7 @@ use Rattle.footprint.specs.Operations.{Effect}
 use Rattle.footprint.specs.Placing.{cleared}
 use Rattle.footprint.specs.Steps.{all_at_once}
 use Rattle.install_commands.specs.declared.disable.Disable.{Disable}
+use Rattle.install_commands.specs.declared.disable.Named.{Named}
 use Rattle.install_commands.specs.Enable.{unless_too_many}
 
 -- names with the own name of what was found, if that is a unit
@@ -44,32 +45,38 @@ selves_behind names (unit ∷ units) = do
   found ← by_cells (find unit)
   selves_behind (with_self names unit found) units
 
--- the links of the scope that belong to one of the names go
-abbrev pub links_removed : Scope → (names : List (List ℕ)) → NoticeMap → Command
-links_removed scope names notices = do
-  links ← entries_of_all (list_map (Marked scope) names)
-  telling notices (all_at_once (cleared links))
+-- with the names of a closure behind these, and what it tells of skipped words
+abbrev pub named_with : (names : List (List ℕ)) → Result Closed Refusal → Result Named Refusal
+named_with names (Ok closed) = Ok (record { names = names ++ closed.units; notices = closed.notices })
+named_with names (Err refusal) = Err refusal
 
 -- The names: those that are given, the own names of those that are found as units,
-abbrev pub closed_disabled : Scope → (units reals : List (List ℕ)) → Closed → Command
-closed_disabled scope units reals closed = links_removed scope (units ++ (reals ++ closed.units)) closed.notices
+abbrev pub selves_named : (names selves : List (List ℕ)) → Inquiry (Result Named Refusal)
+selves_named names selves = giving (by_cells (closure selves)) (λ closed. named_with names (unless_too_many closed))
 
 -- and the closure of those of them
-abbrev pub selves_disabled : Scope → (units reals selves : List (List ℕ)) → Command
-selves_disabled scope units reals selves = do
-  closed ← giving (by_cells (closure selves)) unless_too_many
-  unless_refused (closed_disabled scope units reals) closed
+abbrev pub reals_named : (units reals : List (List ℕ)) → Inquiry (Result Named Refusal)
+reals_named units reals = do
+  selves ← selves_behind [] reals
+  selves_named (units ++ reals) selves
 
 -- that are found as themselves.
-abbrev pub reals_disabled : Scope → (units reals : List (List ℕ)) → Command
-reals_disabled scope units reals = do
-  selves ← selves_behind [] reals
-  selves_disabled scope units reals selves
+abbrev pub units_named : (units : List (List ℕ)) → Inquiry (Result Named Refusal)
+units_named units = do
+  reals ← reals_behind [] units
+  reals_named units reals
 
+-- the links of the scope that belong to one of the names go
+abbrev pub links_removed : Scope → Named → Command
+links_removed scope named = do
+  links ← entries_of_all (list_map (Marked scope) named.names)
+  telling named.notices (all_at_once (cleared links))
+
+-- units are disabled, and those that they name
 abbrev pub units_disabled : Scope → (units : List (List ℕ)) → Command
 units_disabled scope units = do
-  reals ← reals_behind [] units
-  reals_disabled scope units reals
+  named ← units_named units
+  unless_refused (links_removed scope) named
 
 abbrev pub disable_command : Disable → Command
 disable_command disable = units_disabled disable.scope disable.units

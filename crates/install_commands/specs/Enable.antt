@@ -20,18 +20,28 @@ use Rattle.footprint.specs.Operations.{Effect}
 use Rattle.footprint.specs.Placing as placing
 use Rattle.footprint.specs.Steps.{all_at_once}
 use Rattle.install_commands.specs.declared.enable.Enable.{Enable}
-use Rattle.install_commands.specs.Check.{checked}
+use Rattle.install_commands.specs.Check.{going_on, checked}
 
 -- a closure, unless it is of too many units
 abbrev pub unless_too_many : Result Closed ClosureFault → Result Closed Refusal
 unless_too_many (Ok closed) = Ok closed
 unless_too_many (Err closure_faults.TooMany) = Err TooMany
 
--- the links that units want, unless one needs an instance or a path is wanted twice
-abbrev pub unless_at_odds : Result Wanted WantedFault → Result Wanted Refusal
-unless_at_odds (Ok wanted) = Ok wanted
-unless_at_odds (Err (wanted_faults.NeedsInstance unit)) = Err (NeedsInstance unit)
-unless_at_odds (Err (wanted_faults.Clash path)) = Err (Clash path)
+-- the links that units want, with these notices too, unless one needs an instance or a path is wanted twice
+abbrev pub unless_at_odds : NoticeMap → Result Wanted WantedFault → Result Wanted Refusal
+unless_at_odds notices (Ok wanted) = Ok (record { links = wanted.links; notices = joined notices wanted.notices })
+unless_at_odds notices (Err (wanted_faults.NeedsInstance unit)) = Err (NeedsInstance unit)
+unless_at_odds notices (Err (wanted_faults.Clash path)) = Err (Clash path)
+
+-- the links that the units of a closure want; with `skip` a word that would need an instance asks for nothing
+abbrev pub closed_want : Scope → (skip : Bool) → Closed → Inquiry (Result Wanted Refusal)
+closed_want scope skip closed = giving (by_cells (wanted closed.units scope skip)) (unless_at_odds closed.notices)
+
+-- the links that units want, and those that they name
+abbrev pub units_want : Scope → (skip : Bool) → (units : List (List ℕ)) → Inquiry (Result Wanted Refusal)
+units_want scope skip units = do
+  closed ← giving (by_cells (closure units)) unless_too_many
+  going_on (closed_want scope skip) closed
 
 -- a link is to stand at each of the paths
 abbrev pub with_links : placing.Wanted → List (List ℕ × List ℕ) → placing.Wanted
@@ -42,26 +52,25 @@ abbrev pub to_stand : LinkMap → placing.Wanted
 to_stand links = with_links map.empty (map.entries links)
 
 -- the links that are wanted are made, all at once
-abbrev pub links_made : NoticeMap → Wanted → Command
-links_made notices wanted = telling (joined notices wanted.notices) (all_at_once (to_stand wanted.links))
-
--- the units of a closure are enabled; with `skip` a word that would need an instance asks for nothing
-abbrev pub closed_enabled : Scope → (skip : Bool) → Closed → Command
-closed_enabled scope skip closed = do
-  wanted ← giving (by_cells (wanted closed.units scope skip)) unless_at_odds
-  unless_refused (links_made closed.notices) wanted
+abbrev pub links_made : Wanted → Command
+links_made wanted = telling wanted.notices (all_at_once (to_stand wanted.links))
 
 -- units are enabled, and those that they name
 abbrev pub units_enabled : Scope → (skip : Bool) → (units : List (List ℕ)) → Command
 units_enabled scope skip units = do
-  closed ← giving (by_cells (closure units)) unless_too_many
-  unless_refused (closed_enabled scope skip) closed
+  wanted ← units_want scope skip units
+  unless_refused links_made wanted
 
 -- the units are checked before
+abbrev pub enable_wants : Enable → Inquiry (Result Wanted Refusal)
+enable_wants enable = do
+  fine ← checked enable.units
+  going_on (λ fine. units_want enable.scope false enable.units) fine
+
 abbrev pub enable_command : Enable → Command
 enable_command enable = do
-  fine ← checked enable.units
-  unless_refused (λ fine. units_enabled enable.scope false enable.units) fine
+  wanted ← enable_wants enable
+  unless_refused links_made wanted
 
 -- What the command asks of a tree, and what effect that has.
 abbrev pub enable_meaning : Enable → Inquiry Effect

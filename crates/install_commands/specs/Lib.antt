@@ -1,3 +1,4 @@
 pub mod Check
 pub mod Enable
 pub mod Disable
+pub mod Laws

@@ -3,12 +3,12 @@ ghost use Rattle.std.specs.Prelude.{◌≡◌, ◌++◌, [], map as list_map, If
 ghost use Rattle.footprint.specs.declared.key.Key.TheVariants.{Marked};
 ghost use Rattle.footprint.specs.Edits.{Carries};
 ghost use Rattle.footprint.specs.Inquiry.{Asks};
-ghost use Rattle.install_commands.specs.Disable.{with_real, reals_behind, is_itself, with_self, selves_behind, links_removed, selves_disabled, reals_disabled, disable_command};
+ghost use Rattle.install_commands.specs.Disable.{with_real, reals_behind, is_itself, with_self, selves_behind, selves_named, reals_named, links_removed, disable_command};
+ghost use Rattle.footprint.specs.Commands.{unless_refused};
 ghost use Rattle.install_commands.specs.Disable as disabling;
 
 use crate::enable::closed;
 use footprint::{Edit, Key, Keys, Notices, Operation, Outcome, Refusal, Units, WantedLinks};
-use install_section::Closed;
 use link_tree::{Scope, Tree};
 use load_path::Found;
 use std::alloc::{AllocError, Global};
@@ -22,6 +22,13 @@ use unit_name::UnitName;
 pub struct Disable {
     pub scope: Scope,
     pub units: Units,
+}
+
+/// The names whose links go, with what is told of skipped words.
+#[derive(Debug, Drop)]
+struct Named {
+    names: Units,
+    notices: Notices,
 }
 
 /// Adds the own name of what was found, if that is a unit.
@@ -88,83 +95,109 @@ fn selves(
     Ok(names)
 }
 
-/// Adds the key of the links of each name.
-fn push_marks(marks: &mut Keys, scope: Scope, names: &[UnitName]) -> Result<(), AllocError>
-    ensures { OnOk result (marks.new ≡ marks.old ++ list_map (Marked scope) names.now) }
+/// Adds each of the names.
+fn push_all(names: &mut Units, more: &[UnitName]) -> Result<(), AllocError>
+    ensures { OnOk result (names.new ≡ names.old ++ more.now) }
 {
-    for name in names {
-        marks.push(Key::Marked(scope, name.copy()?))?;
+    for name in more {
+        names.push(name.copy()?)?;
     }
     Ok(())
 }
 
-/// The keys of the links of all these names.
-fn marks(
+/// The closure of the units that are found as themselves, behind these names. The outer error is want of memory alone.
+fn selves_named(
     alloc: Global,
-    scope: Scope,
-    given: &[UnitName],
+    tree: &Tree,
+    mut names: Units,
+    selves: &[UnitName],
+    keys: &mut Keys,
+) -> Result<Result<Named, Refusal>, AllocError>
+    ensures { IfOk result (Asks tree.now (selves_named names selves.now) keys.old keys.new) }
+{
+    match closed(alloc, tree, selves, keys)? {
+        Ok(closed) => {
+            push_all(&mut names, closed.units.as_slice())?;
+            let notices = closed.notices;
+            Ok(Ok(Named { names, notices }))
+        }
+        Err(refusal) => Ok(Err(refusal)),
+    }
+}
+
+/// The names of units whose own names are known.
+fn reals_named(
+    alloc: Global,
+    tree: &Tree,
+    units: &[UnitName],
     reals: &[UnitName],
-    closed: &[UnitName],
-) -> Result<Keys, AllocError>
-    ensures { IfOk result (λ marks. marks ≡ list_map (Marked scope) (given.now ++ (reals.now ++ closed.now))) }
+    keys: &mut Keys,
+) -> Result<Result<Named, Refusal>, AllocError>
+    ensures { IfOk result (Asks tree.now (reals_named units.now reals.now) keys.old keys.new) }
+{
+    let selves = selves(alloc, tree, reals, keys)?;
+    let mut names = Units::none(alloc);
+    push_all(&mut names, units)?;
+    push_all(&mut names, reals)?;
+    selves_named(alloc, tree, names, selves.as_slice(), keys)
+}
+
+/// The names: those that are given, the own names of those that are found as units, and the closure of those of them that are found
+/// as themselves. The outer error is want of memory alone.
+fn units_named(
+    alloc: Global,
+    tree: &Tree,
+    units: &[UnitName],
+    keys: &mut Keys,
+) -> Result<Result<Named, Refusal>, AllocError>
+    ensures { IfOk result (Asks tree.now (disabling.units_named units.now) keys.old keys.new) }
+{
+    let reals = reals(alloc, tree, units, keys)?;
+    reals_named(alloc, tree, units, reals.as_slice(), keys)
+}
+
+/// The keys of the links of all these names.
+fn marks(alloc: Global, scope: Scope, names: &[UnitName]) -> Result<Keys, AllocError>
+    ensures { IfOk result (λ marks. marks ≡ list_map (Marked scope) names.now) }
 {
     let mut marks = Keys::none(alloc);
-    push_marks(&mut marks, scope, given)?;
-    push_marks(&mut marks, scope, reals)?;
-    push_marks(&mut marks, scope, closed)?;
+    for name in names {
+        marks.push(Key::Marked(scope, name.copy()?))?;
+    }
     Ok(marks)
 }
 
-/// The links of the scope that belong to one of the names go: of those that are given, the own names, and those of the closure.
-fn links_removed<'a>(
+/// The links of the scope that belong to one of the names go, unless there was a refusal.
+fn removed<'a>(
     alloc: Global,
     tree: &'a Tree,
     scope: Scope,
-    given: &[UnitName],
-    reals: &[UnitName],
-    closed: Closed,
+    named: Result<Named, Refusal>,
     keys: &mut Keys,
 ) -> Result<(Notices, Result<Edit<'a>, Refusal>), AllocError>
-    ensures { IfOk result (λ done. Carries (links_removed scope (given.now ++ (reals.now ++ closed.units)) closed.notices) tree.now keys.old keys.new done.0 done.1) }
+    ensures { IfOk result (λ done. Carries (unless_refused (links_removed scope) named) tree.now keys.old keys.new done.0 done.1) }
 {
-    let marks = marks(alloc, scope, given, reals, closed.units.as_slice())?;
-    let links = keys.entries_of_all(alloc, tree, marks)?;
-    let wanted = WantedLinks::cleared(alloc, &links)?;
-    let done = Edit::all_at_once(alloc, tree, &wanted, keys)?;
-    Ok((closed.notices, done))
-}
-
-/// Units are disabled by their own names and by the closure of those that are found as themselves.
-fn selves_disabled<'a>(
-    alloc: Global,
-    tree: &'a Tree,
-    scope: Scope,
-    units: &[UnitName],
-    reals: &[UnitName],
-    selves: &[UnitName],
-    keys: &mut Keys,
-) -> Result<(Notices, Result<Edit<'a>, Refusal>), AllocError>
-    ensures { IfOk result (λ done. Carries (selves_disabled scope units.now reals.now selves.now) tree.now keys.old keys.new done.0 done.1) }
-{
-    match closed(alloc, tree, selves, keys)? {
-        Ok(closed) => links_removed(alloc, tree, scope, units, reals, closed, keys),
+    match named {
+        Ok(named) => links_removed(alloc, tree, scope, named, keys),
         Err(refusal) => Ok((Notices::none(alloc), Err(refusal))),
     }
 }
 
-/// Units are disabled, whose own names are known.
-fn reals_disabled<'a>(
+/// The links of the scope that belong to one of the names go.
+fn links_removed<'a>(
     alloc: Global,
     tree: &'a Tree,
     scope: Scope,
-    units: &[UnitName],
-    reals: &[UnitName],
+    named: Named,
     keys: &mut Keys,
 ) -> Result<(Notices, Result<Edit<'a>, Refusal>), AllocError>
-    ensures { IfOk result (λ done. Carries (reals_disabled scope units.now reals.now) tree.now keys.old keys.new done.0 done.1) }
+    ensures { IfOk result (λ done. Carries (links_removed scope named) tree.now keys.old keys.new done.0 done.1) }
 {
-    let selves = selves(alloc, tree, reals, keys)?;
-    selves_disabled(alloc, tree, scope, units, reals, selves.as_slice(), keys)
+    let marks = marks(alloc, scope, named.names.as_slice())?;
+    let links = keys.entries_of_all(alloc, tree, marks)?;
+    let wanted = WantedLinks::cleared(alloc, &links)?;
+    let done = Edit::all_at_once(alloc, tree, &wanted, keys)?;
+    Ok((named.notices, done))
 }
 
 /// Units are disabled, and those that they name.
@@ -177,8 +210,8 @@ pub(crate) fn units_disabled<'a>(
 ) -> Result<(Notices, Result<Edit<'a>, Refusal>), AllocError>
     ensures { IfOk result (λ done. Carries (disabling.units_disabled scope units.now) tree.now keys.old keys.new done.0 done.1) }
 {
-    let reals = reals(alloc, tree, units, keys)?;
-    reals_disabled(alloc, tree, scope, units, reals.as_slice(), keys)
+    let named = units_named(alloc, tree, units, keys)?;
+    removed(alloc, tree, scope, named, keys)
 }
 
 impl Operation for Disable {

@@ -1,11 +1,11 @@
 //! enable.
 ghost use Rattle.std.specs.Prelude.{◌≡◌, IfOk};
 ghost use Rattle.install_section.specs.Closure as closures;
-ghost use Rattle.install_section.specs.Wanted as wants;
 ghost use Rattle.footprint.specs.Edits.{Carries};
 ghost use Rattle.footprint.specs.Inquiry.{Asks, by_cells, giving};
 ghost use Rattle.install_commands.specs.Enable as enabling;
-ghost use Rattle.install_commands.specs.Enable.{unless_too_many, unless_at_odds, to_stand, links_made, closed_enabled, enable_command};
+ghost use Rattle.install_commands.specs.Enable.{unless_too_many, to_stand, links_made, enable_wants, enable_command};
+ghost use Rattle.footprint.specs.Commands.{unless_refused};
 
 use crate::check::checked;
 use footprint::{Edit, Keys, Notices, Operation, Outcome, Refusal, Units, WantedLinks};
@@ -47,24 +47,47 @@ pub(crate) fn closed(
     }
 }
 
-/// The links that units want, or why not. The outer error is want of memory alone.
-fn wanted(
+/// The links that the units of a closure want, or why not; with `skip` a word that would need an instance asks for nothing.
+fn closed_want(
     alloc: Global,
     tree: &Tree,
-    units: &[UnitName],
     scope: Scope,
     skip: bool,
+    closed: Closed,
     keys: &mut Keys,
 ) -> Result<Result<Wanted, Refusal>, AllocError>
-    ensures { IfOk result (Asks tree.now (giving (by_cells (wants.wanted units.now scope skip)) unless_at_odds) keys.old keys.new) }
+    ensures { IfOk result (Asks tree.now (enabling.closed_want scope skip closed) keys.old keys.new) }
 {
+    let Closed { units, mut notices } = closed;
     let mut cells = Cells::new(alloc);
-    let wanted = wanted_into(alloc, tree, units, scope, skip, &mut cells)?;
+    let wanted = wanted_into(alloc, tree, units.as_slice(), scope, skip, &mut cells)?;
     keys.push_cells(cells)?;
     match wanted {
-        Ok(wanted) => Ok(Ok(wanted)),
+        Ok(wanted) => {
+            notices.add_all(&wanted.notices)?;
+            let links = wanted.links;
+            Ok(Ok(Wanted { links, notices }))
+        }
         Err(WantedFault::NeedsInstance(unit)) => Ok(Err(Refusal::NeedsInstance(unit))),
         Err(WantedFault::Clash(path)) => Ok(Err(Refusal::Clash(path))),
+    }
+}
+
+/// The links that units want, and those that they name; with `skip` a word that would need an instance asks for nothing. The outer
+/// error is want of memory alone.
+fn units_want(
+    alloc: Global,
+    tree: &Tree,
+    scope: Scope,
+    skip: bool,
+    units: &[UnitName],
+    keys: &mut Keys,
+) -> Result<Result<Wanted, Refusal>, AllocError>
+    ensures { IfOk result (Asks tree.now (enabling.units_want scope skip units.now) keys.old keys.new) }
+{
+    match closed(alloc, tree, units, keys)? {
+        Ok(closed) => closed_want(alloc, tree, scope, skip, closed, keys),
+        Err(refusal) => Ok(Err(refusal)),
     }
 }
 
@@ -79,36 +102,21 @@ fn to_stand(alloc: Global, links: &Links) -> Result<WantedLinks, AllocError>
     Ok(wanted)
 }
 
-/// The links that are wanted are made, all at once.
-fn links_made<'a>(
+/// The links that are wanted are made, all at once, unless there was a refusal.
+fn made<'a>(
     alloc: Global,
     tree: &'a Tree,
-    mut notices: Notices,
-    wanted: &Wanted,
+    wanted: Result<Wanted, Refusal>,
     keys: &mut Keys,
 ) -> Result<(Notices, Result<Edit<'a>, Refusal>), AllocError>
-    ensures { IfOk result (λ done. Carries (links_made notices wanted.now) tree.now keys.old keys.new done.0 done.1) }
+    ensures { IfOk result (λ done. Carries (unless_refused links_made wanted) tree.now keys.old keys.new done.0 done.1) }
 {
-    notices.add_all(&wanted.notices)?;
-    let links = to_stand(alloc, &wanted.links)?;
-    let done = Edit::all_at_once(alloc, tree, &links, keys)?;
-    Ok((notices, done))
-}
-
-/// The units of a closure are enabled; with `skip` a word that would need an instance asks for nothing.
-fn closed_enabled<'a>(
-    alloc: Global,
-    tree: &'a Tree,
-    scope: Scope,
-    skip: bool,
-    closed: Closed,
-    keys: &mut Keys,
-) -> Result<(Notices, Result<Edit<'a>, Refusal>), AllocError>
-    ensures { IfOk result (λ done. Carries (closed_enabled scope skip closed) tree.now keys.old keys.new done.0 done.1) }
-{
-    let Closed { units, notices } = closed;
-    match wanted(alloc, tree, units.as_slice(), scope, skip, keys)? {
-        Ok(wanted) => links_made(alloc, tree, notices, &wanted, keys),
+    match wanted {
+        Ok(wanted) => {
+            let links = to_stand(alloc, &wanted.links)?;
+            let done = Edit::all_at_once(alloc, tree, &links, keys)?;
+            Ok((wanted.notices, done))
+        }
         Err(refusal) => Ok((Notices::none(alloc), Err(refusal))),
     }
 }
@@ -124,13 +132,26 @@ pub(crate) fn units_enabled<'a>(
 ) -> Result<(Notices, Result<Edit<'a>, Refusal>), AllocError>
     ensures { IfOk result (λ done. Carries (enabling.units_enabled scope skip units.now) tree.now keys.old keys.new done.0 done.1) }
 {
-    match closed(alloc, tree, units, keys)? {
-        Ok(closed) => closed_enabled(alloc, tree, scope, skip, closed, keys),
-        Err(refusal) => Ok((Notices::none(alloc), Err(refusal))),
-    }
+    let wanted = units_want(alloc, tree, scope, skip, units, keys)?;
+    made(alloc, tree, wanted, keys)
 }
 
 impl Enable {
+    /// The links that the units want, which are checked before.
+    fn wants(
+        &self,
+        alloc: Global,
+        tree: &Tree,
+        keys: &mut Keys,
+    ) -> Result<Result<Wanted, Refusal>, AllocError>
+        ensures { IfOk result (Asks tree.now (enable_wants self.now) keys.old keys.new) }
+    {
+        match checked(alloc, tree, self.units.as_slice(), keys)? {
+            Ok(()) => units_want(alloc, tree, self.scope, false, self.units.as_slice(), keys),
+            Err(refusal) => Ok(Err(refusal)),
+        }
+    }
+
     fn carried_out<'a>(
         &self,
         alloc: Global,
@@ -139,10 +160,8 @@ impl Enable {
     ) -> Result<(Notices, Result<Edit<'a>, Refusal>), AllocError>
         ensures { IfOk result (λ done. Carries (enable_command self.now) tree.now keys.old keys.new done.0 done.1) }
     {
-        match checked(alloc, tree, self.units.as_slice(), keys)? {
-            Ok(()) => { units_enabled(alloc, tree, self.scope, false, self.units.as_slice(), keys) }
-            Err(refusal) => Ok((Notices::none(alloc), Err(refusal))),
-        }
+        let wanted = self.wants(alloc, tree, keys)?;
+        made(alloc, tree, wanted, keys)
     }
 }
 

@@ -1,3 +1,4 @@
+mod again;
 mod disabling;
 mod enabling;
 mod trees;

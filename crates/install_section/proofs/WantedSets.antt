@@ -33,7 +33,8 @@ use Rattle.install_section.specs.declared.wants.Wanted.{Wanted}
 use Rattle.install_section.specs.declared.wants.WantedFault.TheVariants.{NeedsInstance, Clash}
 use Rattle.install_section.specs.Words.{named_by, skipped}
 use Rattle.install_section.specs.Sections.{section_of, identity_in}
-use Rattle.install_section.specs.Wishes.{stands_for_instance, as_instance, listed_name, listed_under, listing, alias_meant, may_have, aliased, aliasing, wish, words_for, notice_key}
+use Rattle.unit_file.specs.Listed.{stands_for_instance, as_instance, listed_name}
+use Rattle.install_section.specs.Wishes.{listed_under, listing, alias_meant, may_have, aliased, aliasing, wish, words_for, notice_key}
 use Rattle.install_section.specs.Wanted.{all_wants, no_wants, settled, wanted}
 use Rattle.install_section.specs.WantedLaws.{key_of, IsListed, HasInstanceListed, HasAlias, IsAskedFor, LacksInstance, NeedsName, HasTwoTargets, IsLeast, LinksAreAskedFor, NeedsLeastInstance, ClashIsLeast, IsSkipped, NoticesAreOfSkippedWords}
 use Rattle.install_section.proofs.Asked.{LeastOf, TwoAt, Stands, WishAsks, UnitAsks, UnitsAsk, all_stand}

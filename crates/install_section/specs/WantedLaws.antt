@@ -23,7 +23,8 @@ use Rattle.install_section.specs.declared.wants.Wanted.{Wanted}
 use Rattle.install_section.specs.declared.wants.WantedFault.TheVariants.{NeedsInstance, Clash}
 use Rattle.install_section.specs.Words.{named_by, skipped}
 use Rattle.install_section.specs.Sections.{section_of, identity_in}
-use Rattle.install_section.specs.Wishes.{stands_for_instance, alias_meant, may_have, wish, words_for, notice_key}
+use Rattle.unit_file.specs.Listed.{stands_for_instance}
+use Rattle.install_section.specs.Wishes.{alias_meant, may_have, wish, words_for, notice_key}
 use Rattle.install_section.specs.Wanted.{wanted}
 
 -- A word of one of a unit's lists, as it is written.
@@ -57,9 +58,13 @@ HasAlias t place unit path file =
     (section : Section) × (word name alias : List ℕ) × HasWord t unit Alias word section × (named_by (identity_in unit section) word ≡ Ok name)
     × (alias_meant unit name ≡ Some alias) × (may_have unit alias ≡ true) × (path ≡ unit_slot place alias) × (file ≡ section.file)
 
--- One of the units asks for a link at the path, to the file, by one of the rules.
+-- A unit asks for a link at the path, to the file, by one of the rules.
+abbrev pub AsksFor : Entries → Place → (unit path file : List ℕ) → Type 0
+AsksFor t place unit path file = IsListed t place unit path file ⊎ (HasInstanceListed t place unit path file ⊎ HasAlias t place unit path file)
+
+-- One of the units does.
 abbrev pub IsAskedFor : Entries → Place → (units : List (List ℕ)) → (path file : List ℕ) → Type 0
-IsAskedFor t place units path file = (unit : List ℕ) × Contains units unit × (IsListed t place unit path file ⊎ (HasInstanceListed t place unit path file ⊎ HasAlias t place unit path file))
+IsAskedFor t place units path file = (unit : List ℕ) × Contains units unit × AsksFor t place unit path file
 
 -- A template would stand for its default instance, and has none.
 abbrev pub LacksInstance : Entries → (unit : List ℕ) → Type 0

@@ -13,7 +13,7 @@ use Rattle.unit_file.specs.declared.notice.NoticeKey.{NoticeKey}
 use Rattle.unit_file.specs.declared.notice.NoticeKey.TheVariants as keys
 use Rattle.unit_file.specs.declared.notice.Reason.{Reason}
 use Rattle.unit_file.specs.declared.notice.Reason.TheVariants.{BadName, BadAlias}
-use Rattle.unit_file.specs.Identity.{is_template}
+use Rattle.unit_file.specs.Listed.{listed_name}
 use Rattle.unit_paths.specs.declared.place.Place.{Place}
 use Rattle.unit_paths.specs.declared.slot.Dependency.{Dependency}
 use Rattle.unit_paths.specs.declared.slot.Dependency.TheVariants.{Wants, Requires}
@@ -24,24 +24,6 @@ use Rattle.install_section.specs.declared.wish.LinkKey.TheVariants.{WantedBy, Re
 use Rattle.install_section.specs.declared.wish.Wish.{Wish}
 use Rattle.install_section.specs.declared.wish.Wish.TheVariants.{Link, Skip, NoInstance}
 use Rattle.install_section.specs.Words.{named_by}
-
--- whether a name is that of a template
-abbrev pub is_template_name : List ℕ → Bool
-is_template_name name = is_template (kind_of (instance_of name))
-
--- the name, where it is that of an instance
-abbrev pub as_instance : Kind → (name : List ℕ) → Option (List ℕ)
-as_instance Instance name = Some name
-as_instance other name = None
-
--- whether a unit that is listed stands for its default instance: a template, listed by a unit that is none
-abbrev pub stands_for_instance : (by unit : List ℕ) → Bool
-stands_for_instance by unit = is_template_name unit && not (is_template_name by)
-
--- The name of the link to a unit in another's directory: the unit's own, but for a template that stands for its default instance
--- that one's, if it has one.
-unfoldable pub listed_name : (by unit identity : List ℕ) → Option (List ℕ)
-listed_name by unit identity = if stands_for_instance by unit then as_instance (kind_of (instance_of identity)) identity else Some unit
 
 abbrev pub listed_under : Place → Dependency → (by : List ℕ) → (name : Option (List ℕ)) → Wish
 listed_under place dependency by (Some name) = Link (dependency_slot place dependency by name)

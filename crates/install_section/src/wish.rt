@@ -5,13 +5,13 @@ ghost use Rattle.unit_name.specs.Name.{instance_of, type_of};
 ghost use Rattle.unit_name.specs.Parts.{kind_of};
 ghost use Rattle.load_path.specs.RealNames.{is_same_type, put_in};
 ghost use Rattle.install_section.specs.Words.{named_by};
-ghost use Rattle.install_section.specs.Wishes.{is_template_name, listed_name, listed_under, listing, has_aliases, are_alike, may_have, alias_meant, aliased, aliasing, wish, words_for, notice_key};
+ghost use Rattle.install_section.specs.Wishes.{listed_under, listing, has_aliases, are_alike, may_have, alias_meant, aliased, aliasing, wish, words_for, notice_key};
 ghost use Rattle.install_section.specs.WishSlots.{IsAtSlot};
 
 use crate::word::named_by;
 use link_tree::{Dependency, Place, TreePath};
 use std::alloc::{AllocError, Global};
-use unit_file::{InstallText, NoticeKey, Reason, Word};
+use unit_file::{InstallText, NoticeKey, Reason, Word, listed_name};
 use unit_name::{InstanceError, Kind, UnitName, UnitType};
 
 /// The lists of an [Install] section whose words ask for links: systemd.unit(5), "[Install] Section Options".
@@ -95,33 +95,6 @@ fn listing(
             None => Ok(Wish::NoInstance),
             Some(name) => Ok(Wish::Link(place.dependency_slot(alloc, dependency, &by, name)?)),
         },
-    }
-}
-
-fn is_template(name: &UnitName) -> bool
-    ensures { result ≡ is_template_name name.now }
-{
-    match name.kind() {
-        Kind::Template => true,
-        Kind::Plain | Kind::Instance => false,
-    }
-}
-
-/// The name under which a unit is listed by another, if there is one that serves.
-#[tactic(auto, unfolding(crate::specs::Wishes::listed_name))]
-fn listed_name<'a>(
-    by: &UnitName,
-    unit: &'a UnitName,
-    identity: &'a UnitName,
-) -> Option<&'a UnitName>
-    ensures { option_copied result ≡ listed_name by.now unit.now identity.now }
-{
-    if !is_template(unit) || is_template(by) {
-        return Some(unit);
-    }
-    match identity.kind() {
-        Kind::Instance => Some(identity),
-        Kind::Plain | Kind::Template => None,
     }
 }
 

@@ -3,11 +3,10 @@ use Rattle.std.specs.Prelude.{ℕ, Bool, if◌then◌else◌, List, [], ◌∷�
 use Rattle.std.specs.List.{position, filter_map}
 use Rattle.std.specs.Str.{bytes_eq}
 use Rattle.std.specs.Str.Lines.{lines}
-use Rattle.unit_name.specs.Name.{instance_of, is_unit_name}
-use Rattle.unit_name.specs.Parts.{kind_of}
+use Rattle.unit_name.specs.Name.{is_unit_name}
 use Rattle.unit_file.specs.Lines.{is_blank, stripped}
 use Rattle.unit_file.specs.Install.{is_empty, words}
-use Rattle.unit_file.specs.Identity.{is_template}
+use Rattle.unit_file.specs.Listed.{is_template_name}
 use Rattle.preset_rules.specs.declared.rule.Rule.{Rule}
 use Rattle.preset_rules.specs.declared.rule.Rule.TheVariants.{Enable, Disable}
 
@@ -19,14 +18,14 @@ cut_at text (Some at) = (take at text, stripped (drop at text))
 unfoldable pub first_word : List ℕ → List ℕ × List ℕ
 first_word text = cut_at text (position is_blank text)
 
--- the name of a template
-unfoldable pub is_template_name : List ℕ → Bool
-is_template_name text = is_unit_name text && is_template (kind_of (instance_of text))
+-- whether a text is the name of a template
+unfoldable pub names_template : List ℕ → Bool
+names_template text = is_unit_name text && is_template_name text
 
 -- "enable", a pattern, which is one word, and the names of instances, which only a template can have
 abbrev pub with_instances : (pattern : List ℕ) → List (List ℕ) → Option Rule
 with_instances pattern [] = Some (Enable pattern [])
-with_instances pattern (instance ∷ instances) = if is_template_name pattern then Some (Enable pattern (instance ∷ instances)) else None
+with_instances pattern (instance ∷ instances) = if names_template pattern then Some (Enable pattern (instance ∷ instances)) else None
 
 abbrev pub enable_rule : (rest : List ℕ) → Option Rule
 enable_rule rest = let cut = first_word rest in if is_empty cut.0 then None else with_instances cut.0 (words cut.1)

@@ -3,14 +3,13 @@ ghost use Rattle.std.specs.Prelude.{◌≡◌, ◌<◌, ◌++◌, not, true, fal
 ghost use Rattle.std.specs.List.{position};
 ghost use Rattle.unit_file.specs.Lines.{is_blank, stripped};
 ghost use Rattle.unit_file.specs.Install.{words, is_empty};
-ghost use Rattle.unit_file.specs.Identity.{is_template};
-ghost use Rattle.preset_rules.specs.Lines.{cut_at, first_word, is_template_name, with_instances, enable_rule, disable_rule, rule_from, rule_of, with_rule, rules_of};
+ghost use Rattle.preset_rules.specs.Lines.{cut_at, first_word, names_template, with_instances, enable_rule, disable_rule, rule_from, rule_of, with_rule, rules_of};
 
 use crate::rule::{Instances, Rule};
 use bstr::ByteSlice;
 use std::alloc::{AllocError, Global};
-use unit_file::{Word, is_blank, stripped};
-use unit_name::{Kind, UnitName, is_unit_name};
+use unit_file::{Word, is_blank, is_template, stripped};
+use unit_name::{UnitName, is_unit_name};
 
 fn first_blank(text: &[u8]) -> Option<usize>
     ensures at { result ≡ position is_blank text.now }
@@ -45,25 +44,16 @@ fn instances(alloc: Global, text: &[u8]) -> Result<Instances, AllocError>
 }
 
 /// Whether a text is the name of a template.
-#[tactic(auto, unfolding(crate::specs::Lines::is_template_name))]
-fn is_template_name(alloc: Global, text: &[u8]) -> Result<bool, AllocError>
-    ensures { IfOk result (λ is. is ≡ is_template_name text.now) }
+#[tactic(auto, unfolding(crate::specs::Lines::names_template))]
+fn names_template(alloc: Global, text: &[u8]) -> Result<bool, AllocError>
+    ensures { IfOk result (λ is. is ≡ names_template text.now) }
 {
     if !is_unit_name(text) {
         return Ok(false);
     }
     match UnitName::parse(alloc, text) {
-        Ok(name) => Ok(is_template(name.kind())),
+        Ok(name) => Ok(is_template(&name)),
         Err(_) => Err(AllocError),
-    }
-}
-
-fn is_template(kind: Kind) -> bool
-    ensures { result ≡ is_template kind }
-{
-    match kind {
-        Kind::Template => true,
-        Kind::Plain | Kind::Instance => false,
     }
 }
 
@@ -85,7 +75,7 @@ fn with_instances(
 ) -> Result<Option<Rule>, AllocError>
     ensures { IfOk result (λ rule. rule ≡ with_instances pattern.now instances) }
 {
-    if !instances.is_empty() && !is_template_name(alloc, pattern)? {
+    if !instances.is_empty() && !names_template(alloc, pattern)? {
         return Ok(None);
     }
     let pattern = Word::from_slice(alloc, pattern)?;

@@ -31,7 +31,8 @@ use Rattle.footprint.specs.Steps.{Step, ruled, unless_refused, each_in_turn}
 use Rattle.footprint.specs.Rules.{is_same_path, leads_alike, link_at, relink_at, LeadsAs}
 use Rattle.slot_commands.specs.LinkUnits.{is_of_unit, link_file, link_end, link_unit, IsLinked, FilesAreLinked}
 use Rattle.footprint.specs.Units.{found_unit, IsFound}
-use Rattle.slot_commands.specs.AddTo.{is_template_name, default_of, listed_name, add_listed, add_file, add_unit, add_units, IsListedBetween, DependenciesAreAdded}
+use Rattle.unit_file.specs.Listed.{is_template_name}
+use Rattle.slot_commands.specs.AddTo.{default_of, name_listed, add_listed, add_file, add_unit, add_units, IsListedBetween, DependenciesAreAdded}
 use Rattle.slot_commands.specs.SetDefault.{default_slot, is_target_type, default_file, DefaultIsSet}
 use Rattle.slot_commands.specs.Effects.{Keeps, AddsOnly}
 use Rattle.footprint.proofs.Turns.{left_by, leaves, goes_on, in_turn, all_turns}
@@ -217,16 +218,16 @@ module _ (first : Entries) (place : Place) (dependency : Dependency) (by : List 
   OneListing unit u v = Keeps u v × (AddsOnly (IsNewListing v unit) u v × IsListing v unit)
 
   module _ (unit real file : List ℕ) (u : Entries) (since : Keeps first u) (found : IsFound u unit real file) where
-    name_listed : (v : Entries) (name : Option (List ℕ)) → listed_name by real (default_of (map.get u file)) ≡ name → left_by ((add_listed place dependency by real file name).conclusion u) u ≡ Ok v → OneListing unit u v
-    name_listed v None listed is = cc
-    name_listed v (Some name) listed is =
+    option_listed : (v : Entries) (name : Option (List ℕ)) → name_listed by real (default_of (map.get u file)) ≡ name → left_by ((add_listed place dependency by real file name).conclusion u) u ≡ Ok v → OneListing unit u v
+    option_listed v None listed is = cc
+    option_listed v (Some name) listed is =
         let makes = linked (dependency_slot place dependency by name) file u v is in
         let between : IsListedBetween first v by unit name file = (u, since, makes.kept, (real, found, listed)) in
         (makes.kept, (λ path entry none there. (let new = makes.only path entry none there in (name, file, between, new.0, new.1)), (name, file, between, makes.leads)))
 
     file_listed : (v : Entries) → leaves (add_file place dependency by real file) u ≡ Ok v → OneListing unit u v
     unfolding add_file
-    file_listed v is = name_listed v (listed_name by real (default_of (map.get u file))) refl is
+    file_listed v is = option_listed v (name_listed by real (default_of (map.get u file))) refl is
 
   found_listed : (unit : List ℕ) (u v : Entries) → Keeps first u → (found : Found) → (find unit).conclusion u ≡ found → left_by ((unless_refused (λ (unit : List ℕ × List ℕ). add_file place dependency by unit.0 unit.1) (found_unit unit found)).conclusion u) u ≡ Ok v → OneListing unit u v
   found_listed unit u v since founds.Missing at is = cc

@@ -1,11 +1,8 @@
 -- add-wants and add-requires: systemctl(1), "Unit File Commands".
 use Rattle.std.specs.FinMap as map
-use Rattle.std.specs.Prelude.{◌≡◌, ℕ, Bool, not, ◌&&◌, if◌then◌else◌, List, All, Contains, Option, Some, None}
-use Rattle.unit_name.specs.declared.kind.Kind.{Kind}
-use Rattle.unit_name.specs.declared.kind.Kind.TheVariants.{Instance}
-use Rattle.unit_name.specs.Parts.{kind_of}
-use Rattle.unit_name.specs.Name.{instance_of}
-use Rattle.unit_file.specs.Identity.{is_template, identity_of}
+use Rattle.std.specs.Prelude.{◌≡◌, ℕ, List, All, Contains, Option, Some, None}
+use Rattle.unit_file.specs.Identity.{identity_of}
+use Rattle.unit_file.specs.Listed.{listed_name}
 use Rattle.unit_file.specs.Reading.{text_of}
 use Rattle.link_tree.specs.declared.entry.Entry.{Entry}
 use Rattle.link_tree.specs.declared.entry.Entry.TheVariants.{File, Link}
@@ -25,26 +22,14 @@ use Rattle.slot_commands.specs.declared.add_to.AddTo.{AddTo}
 use Rattle.slot_commands.specs.Effects.{Keeps, AddsOnly}
 use Rattle.footprint.specs.Units.{with_unit, IsFound}
 
--- whether a name is that of a template: systemd.unit(5)
-abbrev pub is_template_name : List ℕ → Bool
-is_template_name name = is_template (kind_of (instance_of name))
-
 -- the DefaultInstance= of a unit, by what stands at its file's path: systemd.unit(5), "[Install] Section Options"
 abbrev pub default_of : Option Entry → Option (List ℕ)
 default_of (Some (File contents)) = (text_of contents).default_instance
 default_of other = None
 
--- the name, where it is that of an instance
-abbrev pub as_instance : Kind → (name : List ℕ) → Option (List ℕ)
-as_instance Instance name = Some name
-as_instance other name = None
-
--- The name of the link to a unit in another's directory: the unit's own, but of a template under a unit that is none that of the
--- default instance, if it has one.
-unfoldable pub listed_name : (by real : List ℕ) → (default : Option (List ℕ)) → Option (List ℕ)
-listed_name by real default =
-    if is_template_name real && not (is_template_name by) then as_instance (kind_of (instance_of (identity_of real default))) (identity_of real default)
-    else Some real
+-- under which name a unit is listed, by its DefaultInstance=
+abbrev pub name_listed : (by real : List ℕ) → (default : Option (List ℕ)) → Option (List ℕ)
+name_listed by real default = listed_name by real (identity_of real default)
 
 -- the link is made, unless there is no name for it
 abbrev pub add_listed : Place → Dependency → (by real file : List ℕ) → (name : Option (List ℕ)) → Step
@@ -55,7 +40,7 @@ add_listed place dependency by real file None = refuse (NeedsInstance real)
 unfoldable pub add_file : Place → Dependency → (by real file : List ℕ) → Step
 add_file place dependency by real file = do
   there ← stands_at file
-  add_listed place dependency by real file (listed_name by real (default_of there))
+  add_listed place dependency by real file (name_listed by real (default_of there))
 
 -- one unit
 unfoldable pub add_unit : Place → Dependency → (by unit : List ℕ) → Step
@@ -75,7 +60,7 @@ add_meaning add = carried_out (silent (add_steps add))
 
 -- In a tree a unit is found with this file, and this is the name of the link to it.
 abbrev pub IsListed : Entries → (by unit name file : List ℕ) → Type 0
-IsListed t by unit name file = (real : List ℕ) × IsFound t unit real file × (listed_name by real (default_of (map.get t file)) ≡ Some name)
+IsListed t by unit name file = (real : List ℕ) × IsFound t unit real file × (name_listed by real (default_of (map.get t file)) ≡ Some name)
 
 -- So it is in a tree on the way from one to another, as the units before it left it.
 abbrev pub IsListedBetween : (t u : Entries) → (by unit name file : List ℕ) → Type 0

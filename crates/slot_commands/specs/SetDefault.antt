@@ -15,7 +15,7 @@ use Rattle.footprint.specs.Operations.{Effect}
 use Rattle.footprint.specs.Rules.{relink_at, LeadsAs}
 use Rattle.footprint.specs.Steps.{Step, refuse, ruled}
 use Rattle.slot_commands.specs.declared.set_default.SetDefault.{SetDefault}
-use Rattle.slot_commands.specs.AddTo.{is_template_name}
+use Rattle.unit_file.specs.Listed.{is_template_name}
 use Rattle.footprint.specs.Units.{with_unit, IsFound}
 
 -- the path of the link that names the default target

@@ -5,13 +5,15 @@ ghost use Rattle.unit_file.specs.Identity.{identity_of};
 ghost use Rattle.unit_file.specs.Reading.{text_of};
 ghost use Rattle.unit_paths.specs.Places.{scope_place};
 ghost use Rattle.footprint.specs.Edits.{GoesOn};
-ghost use Rattle.slot_commands.specs.AddTo.{is_template_name, default_of, listed_name, add_file, add_unit, add_units, add_steps};
+ghost use Rattle.slot_commands.specs.AddTo.{default_of, name_listed, add_file, add_unit, add_units, add_steps};
 
 use footprint::{Edit, Key, Keys, Notices, Operation, Outcome, Refusal, Units, link_at};
 use link_tree::{Contents, Dependency, Entry, Scope, Tree, TreePath};
 use std::alloc::{AllocError, Global};
-use unit_file::{InstallError, InstallFault, InstallText, identity, install_of};
-use unit_name::{Kind, UnitName};
+use unit_file::{
+    InstallError, InstallFault, InstallText, identity, install_of, is_template, listed_name,
+};
+use unit_name::UnitName;
 
 /// systemctl(1), `add-wants` and `add-requires`: the target is to want or to require each unit, by a link in its
 /// directory of the scope, which has the target's own name. The target is looked up first, and then the units, one after another,
@@ -24,15 +26,6 @@ pub struct AddTo {
     pub dependency: Dependency,
     pub target: UnitName,
     pub units: Units,
-}
-
-pub(crate) fn is_template(name: &UnitName) -> bool
-    ensures { result ≡ is_template_name name.now }
-{
-    match name.kind() {
-        Kind::Template => true,
-        Kind::Plain | Kind::Instance => false,
-    }
 }
 
 /// What the file asks for when it is installed.
@@ -60,23 +53,23 @@ fn identity_by(
     }
 }
 
-/// The name under which a unit is listed by another, if there is one that serves.
-#[tactic(auto, unfolding(crate::specs::AddTo::listed_name))]
-fn listed_name(
+/// The name under which a unit is listed by another, if there is one that serves. The file is read for a template alone.
+#[tactic(auto, unfolding(unit_file::specs::Listed::listed_name))]
+fn name_listed(
     alloc: Global,
     by: &UnitName,
     real: &UnitName,
     there: Option<&Entry>,
 ) -> Result<Option<UnitName>, AllocError>
-    ensures { IfOk result (λ name. name ≡ listed_name by.now real.now (default_of (option_copied there.entry))) }
+    ensures { IfOk result (λ name. name ≡ name_listed by.now real.now (default_of (option_copied there.entry))) }
 {
-    if !is_template(real) || is_template(by) {
+    if !is_template(real) {
         return Ok(Some(real.copy()?));
     }
-    let name = identity_by(alloc, real, there)?;
-    match name.kind() {
-        Kind::Instance => Ok(Some(name)),
-        Kind::Plain | Kind::Template => Ok(None),
+    let identity = identity_by(alloc, real, there)?;
+    match listed_name(by, real, &identity) {
+        Some(name) => Ok(Some(name.copy()?)),
+        None => Ok(None),
     }
 }
 
@@ -95,7 +88,7 @@ impl AddTo {
         ensures { IfOk result (GoesOn (add_file (scope_place self.now.scope) self.now.dependency by.now real file.now) edit.entry keys.old keys.new) }
     {
         keys.push(Key::Cell(file.copy()?))?;
-        let Some(name) = listed_name(alloc, by, &real, edit.get(file))? else {
+        let Some(name) = name_listed(alloc, by, &real, edit.get(file))? else {
             return Ok(Err(Refusal::NeedsInstance(real)));
         };
         let place = self.scope.place();

@@ -5,10 +5,10 @@ ghost use Rattle.unit_paths.specs.Slots.{is_slot};
 ghost use Rattle.footprint.specs.Edits.{GoesOn};
 ghost use Rattle.slot_commands.specs.SetDefault.{default_slot, is_target_type, default_file, default_steps};
 
-use crate::add_to::is_template;
 use footprint::{Edit, Key, Keys, Notices, Operation, Outcome, Refusal, Subject, relink_at};
 use link_tree::{PathError, Tree, TreePath};
 use std::alloc::{AllocError, Global};
+use unit_file::is_template;
 use unit_name::{UnitName, UnitType};
 
 /// systemctl(1), `set-default`: `/etc/systemd/system/default.target` becomes a link to the file of a target, in place of any other

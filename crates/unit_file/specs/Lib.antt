@@ -3,6 +3,7 @@ pub mod Install
 pub mod Reading
 pub mod Steps
 pub mod Identity
+pub mod Listed
 pub mod Laws
 pub mod Notices
 pub mod NoticeLaws

@@ -1,7 +1,10 @@
 mod files;
 mod notices;
 
-use crate::{InstallError, InstallFault, InstallText, MAX_LINE, Word, Words, identity, install_of};
+use crate::{
+    InstallError, InstallFault, InstallText, MAX_LINE, Word, Words, identity, install_of,
+    is_template, listed_name,
+};
 use files::FILES;
 use std::alloc::{AllocError, Global};
 use std::process::Abort;
@@ -264,6 +267,41 @@ fn templates_have_the_identity_of_an_instance(rt: HostRuntime) -> Result<(), Fai
             expected
         );
     }
+    Ok(())
+}
+
+#[test]
+fn templates_are_listed_for_their_instance(rt: HostRuntime) -> Result<(), Fail> {
+    let rows: [(&[u8], &[u8], &[u8]); 6] = [
+        (b"getty.target", b"getty@.service", b"getty@tty1.service"),
+        (
+            b"getty@tty2.service",
+            b"getty@.service",
+            b"getty@tty1.service",
+        ),
+        (b"other@.service", b"getty@.service", b"getty@.service"),
+        (
+            b"getty.target",
+            b"getty@tty3.service",
+            b"getty@tty3.service",
+        ),
+        (b"getty.target", b"ssh.service", b"ssh.service"),
+        (b"other@.service", b"ssh.service", b"ssh.service"),
+    ];
+    for (by, unit, expected) in rows {
+        let by = named(rt.alloc(), by)?;
+        let unit = named(rt.alloc(), unit)?;
+        let identity = identity_with(rt.alloc(), &unit, Some(b"tty1"))?;
+        assert_eq!(rt;
+            listed_name(&by, &unit, &identity).map(|name| name.text()),
+            Some(expected)
+        );
+    }
+    let getty = named(rt.alloc(), b"getty@.service")?;
+    let target = named(rt.alloc(), b"getty.target")?;
+    assert!(rt; is_template(&getty));
+    assert!(rt; !is_template(&target));
+    assert!(rt; listed_name(&target, &getty, &getty).is_none());
     Ok(())
 }
 
