@@ -1,4 +1,5 @@
 mod again;
 mod disabling;
 mod enabling;
+mod large;
 mod trees;
