@@ -3,6 +3,7 @@ pub mod Gathered
 pub mod Matching
 pub mod MatchSteps
 pub mod Members
+pub mod Rests
 pub mod RuleLists
 pub mod Stars
 pub mod Tried

@@ -1,12 +1,15 @@
 -- Laws of presets, each the contract of a public function.
-use Rattle.std.specs.Prelude.{◌≡◌, ℕ, true, false, List, [], ◌∷◌, ◌++◌, All, ◌⊎◌}
+use Rattle.std.specs.Prelude.{◌≡◌, ℕ, true, false, List, [], ◌∷◌, ◌++◌, All, ◌⊎◌, None, codes}
+use Rattle.std.specs.FinMap as map
+use Rattle.unit_paths.specs.Slots.{slot_of}
 use Rattle.link_tree.specs.Trees.{Entries}
 use Rattle.load_path.specs.Search.{SameAt, each_once}
 use Rattle.preset_rules.specs.declared.rule.Rule.{Rule}
 use Rattle.preset_rules.specs.declared.rule.Rule.TheVariants.{Disable}
 use Rattle.preset_rules.specs.declared.rule.Verdict.{Verdict}
 use Rattle.preset_rules.specs.declared.rule.Verdict.TheVariants as verdicts
-use Rattle.preset_rules.specs.Files.{presets_of, policy_of}
+use Rattle.preset_rules.specs.Files.{is_preset, presets_of, policy_of}
+use Rattle.preset_rules.specs.Lines.{rules_of}
 use Rattle.preset_rules.specs.Verdicts.{applies, given, verdict}
 
 -- What a policy comes to depends on what stands at the preset slots and in its cells alone.
@@ -38,3 +41,29 @@ NoRulesEnable = (name : List ℕ) → verdict [] name ≡ verdicts.Enable []
 -- and a last rule that applies to it disables a unit exactly where no earlier one does.
 abbrev pub LastRuleDecides : Type 0
 LastRuleDecides = (rules : List Rule) (pattern name : List ℕ) → NoneApplies name rules → applies name (Disable pattern) ≡ true → verdict (rules ++ Disable pattern ∷ []) name ≡ verdicts.Disable
+
+-- What earlier rules say counts, and where none of them applies, what the later ones say.
+abbrev pub EarlierRulesDecide : Type 0
+EarlierRulesDecide = (rules more : List Rule) (name : List ℕ) →
+    (NoneApplies name rules → verdict (rules ++ more) name ≡ verdict more name) × (¬ NoneApplies name rules → verdict (rules ++ more) name ≡ verdict rules name)
+
+abbrev pub disable_all : Rule
+disable_all = Disable (codes "*")
+
+-- A file with the one line "disable *" has this rule alone.
+abbrev pub LineDisablesAll : Type 0
+LineDisablesAll = rules_of (codes "disable *") ≡ disable_all ∷ []
+
+-- A last line "disable *" disables exactly the units to which no earlier rule applies: what is said of all others stays.
+abbrev pub RestIsDisabled : Type 0
+RestIsDisabled = (rules : List Rule) (name : List ℕ) →
+    (NoneApplies name rules → verdict (rules ++ disable_all ∷ []) name ≡ verdicts.Disable) × (¬ NoneApplies name rules → verdict (rules ++ disable_all ∷ []) name ≡ verdict rules name)
+
+-- A tree has no preset files where nothing stands at any of their slots.
+abbrev pub HasNoPresets : Entries → Type 0
+HasNoPresets t = (path : List ℕ) → is_preset (slot_of path) ≡ true → map.get t path ≡ None
+
+-- Such a tree has no rules, no link is followed for them, and each unit is to be enabled, as itself.
+abbrev pub NoPresetsEnable : Type 0
+NoPresetsEnable = (t : Entries) → HasNoPresets t →
+    ((policy_of t).conclusion t ≡ []) × ((policy_of t).cells t ≡ []) × ((name : List ℕ) → verdict ((policy_of t).conclusion t) name ≡ verdicts.Enable [])

@@ -1,8 +1,10 @@
 //! Lines of preset files.
-use super::trees::{ON, Row, Said, assert_says};
-use std::alloc::Global;
+use super::trees::{ON, Row, Said, asked, assert_says, policy};
+use crate::{Instances, Verdict};
+use std::alloc::{AllocError, Global};
 use std::process::Abort;
 use std::test::Fail;
+use unit_name::ample;
 
 fn assert_lines(
     rt: &impl Abort,
@@ -31,6 +33,27 @@ fn instances_are_listed(rt: HostRuntime) -> Result<(), Fail> {
     )
 }
 
+fn assert_copied(rt: &impl Abort, instances: &Instances) -> Result<(), Fail> {
+    let copy = ample!(instances.copy(), AllocError)?;
+    assert!(rt; !copy.is_empty());
+    assert_eq!(rt; copy.as_slice().len(), 2);
+    Ok(())
+}
+
+#[test]
+fn a_copy_has_the_instances(rt: HostRuntime) -> Result<(), Fail> {
+    let lines = b"enable web@.service a b\n";
+    let file = Row::File(b"/usr/lib/systemd/system-preset/50-a.preset", lines);
+    let policy = policy(rt.alloc(), &[file])?;
+    match asked(rt.alloc(), &policy, b"web@.service")? {
+        Verdict::Enable(instances) => assert_copied(&rt, &instances),
+        Verdict::Disable => {
+            assert!(rt; false);
+            Ok(())
+        }
+    }
+}
+
 #[test]
 fn other_lines_are_ignored(rt: HostRuntime) -> Result<(), Fail> {
     assert_lines(
@@ -42,7 +65,7 @@ fn other_lines_are_ignored(rt: HostRuntime) -> Result<(), Fail> {
 }
 
 /// Each line stands before `disable *`, and so enables `a.service` or not.
-const LINES: [(&[u8], Said); 18] = [
+const LINES: [(&[u8], Said); 24] = [
     (b"enable a.service\ndisable *", ON),
     (b"enable a.service\r\ndisable *\r\n", ON),
     (b" \t enable \t a.service \r\n\tdisable\t*\t", ON),
@@ -60,6 +83,15 @@ const LINES: [(&[u8], Said); 18] = [
     (b"disable a.service\nenable a.service\n", Said::Off),
     (b"enable a.service\ndisable a.service\n", ON),
     (b"\xff\xfe\ndisable ?.service\n", Said::Off),
+    (b"enable\xff a.service\ndisable *\n", Said::Off),
+    (b"enable\0a.service\ndisable *\n", Said::Off),
+    (b"enable \xffa.service\ndisable *\n", Said::Off),
+    (b"disable a\xff.service\nenable a.service\n", ON),
+    (b"\xef\xbb\xbfenable a.service\ndisable *\n", Said::Off),
+    (
+        b"enable [\x80-\xff].service\ndisable [!\x80-\xff].service\n",
+        Said::Off,
+    ),
     (b"", ON),
 ];
 

@@ -1,7 +1,7 @@
 //! Which texts patterns match.
 use crate::pattern_matches;
 
-const ROWS: [(&[u8], &[u8], bool); 62] = [
+const ROWS: [(&[u8], &[u8], bool); 70] = [
     (b"", b"", true),
     (b"", b"a", false),
     (b"a", b"", false),
@@ -60,6 +60,14 @@ const ROWS: [(&[u8], &[u8], bool); 62] = [
     (b"[!]", b"[!]", true),
     (b"[!]a]", b"]", false),
     (b"[!]a]", b"b", true),
+    (b"[!a-c]*.service", b"dhcp.service", true),
+    (b"[!a-c]*.service", b"bus.service", false),
+    (b"[]x]", b"]", true),
+    (b"[]x]", b"x", true),
+    (b"*[\x80-\xff]", b"a\x80\xff", true),
+    (b"*[\x80-\xff]*", b"abc", false),
+    (b"[*?]", b"a", false),
+    (b"\\*", b"*", false),
     (b"[a", b"[a", true),
     (b"[a", b"a", false),
     (b"x[ab]*[!z]", b"xaqqy", true),

@@ -1,6 +1,7 @@
 //! Trees of preset files, and what they say of units.
-use crate::{Policy, Verdict};
+use crate::{Policy, Rules, Verdict};
 use link_tree::{Entry, FileError, PathError, Slot, TargetError, Tree, TreePath};
+use load_path::Cells;
 use std::alloc::{AllocError, Global};
 use std::process::Abort;
 use std::test::Fail;
@@ -58,7 +59,36 @@ pub(crate) fn policy(alloc: Global, rows: &[Row]) -> Result<Policy, Fail> {
     Ok(ample!(Policy::of(alloc, &tree), AllocError)?)
 }
 
-fn asked(alloc: Global, policy: &Policy, name: &[u8]) -> Result<Verdict, Fail> {
+fn both(alloc: Global, presets: &Tree, tree: &Tree) -> Result<(Rules, Cells), AllocError> {
+    let mut cells = Cells::new(alloc);
+    let rules = Rules::of_into(alloc, presets, tree, &mut cells)?;
+    Ok((rules, cells))
+}
+
+/// The rules of these presets, with links followed in this other tree, and the paths that are looked at.
+pub(crate) fn rules_among(
+    alloc: Global,
+    presets: &[Row],
+    rows: &[Row],
+) -> Result<(Rules, Cells), Fail> {
+    let (presets, tree) = (tree(alloc, presets)?, tree(alloc, rows)?);
+    Ok(ample!(both(alloc, &presets, &tree), AllocError)?)
+}
+
+pub(crate) fn assert_ruled(
+    rt: &impl Abort,
+    alloc: Global,
+    rules: &Rules,
+    name: &[u8],
+    said: Said,
+) -> Result<(), Fail> {
+    let name = ample!(UnitName::parse(alloc, name), NameError::OutOfMemory)?;
+    let verdict = ample!(rules.verdict(alloc, &name), AllocError)?;
+    assert_verdict(rt, &verdict, said);
+    Ok(())
+}
+
+pub(crate) fn asked(alloc: Global, policy: &Policy, name: &[u8]) -> Result<Verdict, Fail> {
     let name = ample!(UnitName::parse(alloc, name), NameError::OutOfMemory)?;
     Ok(ample!(policy.verdict(alloc, &name), AllocError)?)
 }
