@@ -1,8 +1,13 @@
 //! The lines of changes and rows.
 
 use crate::actions::units;
+use crate::streams::Faulty;
 use history::{CallError, History, MAX_ROWS, Operator};
-use link_tree::{Change, Entry, FileError, Scope, Slot, TargetError, Tree, TreePath};
+use install_commands::{Disable, Enable};
+use link_tree::{
+    Change, Entry, FileError, InventoryError, Scope, Slot, TargetError, Tree, TreePath,
+    read_inventory,
+};
 use slot_commands::Unmask;
 use std::alloc::{AllocError, Global};
 use std::test::Fail;
@@ -123,5 +128,100 @@ fn an_empty_file_is_taken_away_and_put_back(rt: HostRuntime) -> Result<(), Fail>
           + /etc/systemd/system/e.service file 0\n"
             .as_slice()
     );
+    Ok(())
+}
+
+/// A unit with words that ask for nothing, for each reason that a word can have.
+const UNIT: &[u8] = b"unitadm-inventory 1\n\
+    L\t/etc/systemd/system/al.service\t/usr/lib/systemd/system/u.service\n\
+    L\t/etc/systemd/system/d.service\tgone\n\
+    L\t/etc/systemd/system/n.service\t/dev/null\n\
+    F\t110\t/usr/lib/systemd/system/u.service\n\
+    [Install]\nAlso=%z x none.service n.service d.service al.service\n\
+    Alias=u.socket\nWantedBy=m.target\nRequiredBy=y\n\n\
+    end\n";
+
+/// An enable, a disable and a refused enable: the words of `Also=` are told by both, the others by enable alone.
+const SKIPPED: &[u8] = b"1 a ok\n  \
+      + /etc/systemd/system/m.target.wants/u.service -> /usr/lib/systemd/system/u.service\n  \
+      ! u.service: Alias u.socket: bad alias\n  \
+      ! u.service: Also %z: bad specifier\n  \
+      ! u.service: Also al.service: is an alias\n  \
+      ! u.service: Also d.service: dangling\n  \
+      ! u.service: Also n.service: masked\n  \
+      ! u.service: Also none.service: not found\n  \
+      ! u.service: Also x: bad name\n  \
+      ! u.service: RequiredBy y: bad name\n\
+    2 a ok\n  \
+      - /etc/systemd/system/al.service -> /usr/lib/systemd/system/u.service\n  \
+      - /etc/systemd/system/m.target.wants/u.service -> /usr/lib/systemd/system/u.service\n  \
+      ! u.service: Also %z: bad specifier\n  \
+      ! u.service: Also al.service: is an alias\n  \
+      ! u.service: Also d.service: dangling\n  \
+      ! u.service: Also n.service: masked\n  \
+      ! u.service: Also none.service: not found\n  \
+      ! u.service: Also x: bad name\n\
+    3 a refused: n.service is masked\n";
+
+fn history_of_unit(alloc: Global) -> Result<History<Action>, Fail> {
+    Ok(ample!(
+        {
+            let tree = ample!(
+                read_inventory(alloc, &mut Faulty::new(UNIT, UNIT.len(), 0)),
+                InventoryError::OutOfMemory
+            )?;
+            History::new(alloc, tree)
+        },
+        AllocError
+    )?)
+}
+
+fn enable(alloc: Global, names: &[u8]) -> Result<Action, Fail> {
+    let units = units(alloc, names)?;
+    Ok(Action::Enable(Enable {
+        scope: Scope::Etc,
+        units,
+    }))
+}
+
+fn disable(alloc: Global, names: &[u8]) -> Result<Action, Fail> {
+    let units = units(alloc, names)?;
+    Ok(Action::Disable(Disable {
+        scope: Scope::Etc,
+        units,
+    }))
+}
+
+fn enabled(alloc: Global, history: &mut History<Action>, names: &[u8]) -> Result<u32, Fail> {
+    let operator = Operator::parse(b"a")?;
+    Ok(ample!(
+        {
+            let action = enable(alloc, names)?;
+            call(alloc, history, operator, action)
+        },
+        CallError::OutOfMemory
+    )?)
+}
+
+fn disabled(alloc: Global, history: &mut History<Action>, names: &[u8]) -> Result<u32, Fail> {
+    let operator = Operator::parse(b"a")?;
+    Ok(ample!(
+        {
+            let action = disable(alloc, names)?;
+            call(alloc, history, operator, action)
+        },
+        CallError::OutOfMemory
+    )?)
+}
+
+#[test]
+fn skipped_words_are_told_behind_the_changes(rt: HostRuntime) -> Result<(), Fail> {
+    let alloc = rt.alloc();
+    let mut history = history_of_unit(alloc)?;
+    enabled(alloc, &mut history, b"u.service")?;
+    disabled(alloc, &mut history, b"u.service")?;
+    enabled(alloc, &mut history, b"n.service")?;
+    let text = ample!(text_of_rows(alloc, &history), AllocError)?;
+    assert_eq!(rt; text.as_slice(), SKIPPED);
     Ok(())
 }

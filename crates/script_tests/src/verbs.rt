@@ -76,6 +76,14 @@ fn push_place(out: &mut Vec<u8>, place: &PlaceEntry) -> Result<(), AllocError> {
 
 fn push_action(out: &mut Vec<u8>, action: &Action) -> Result<(), AllocError> {
     match action {
+        Action::Enable(enable) => {
+            push_scope(out, b"enable", enable.scope)?;
+            push_units(out, &enable.units)
+        }
+        Action::Disable(disable) => {
+            push_scope(out, b"disable", disable.scope)?;
+            push_units(out, &disable.units)
+        }
         Action::Mask(mask) => {
             push_scope(out, b"mask", mask.scope)?;
             push_units(out, &mask.units)
@@ -136,7 +144,17 @@ fn assert_read(rt: &impl Abort, alloc: Global, rows: &[(&[u8], &[u8])]) {
 #[test]
 fn each_verb_is_read(rt: HostRuntime) {
     let alloc = rt.alloc();
-    let rows: [(&[u8], &[u8]); 19] = [
+    let rows: [(&[u8], &[u8]); 23] = [
+        (b"a enable x.service", b"enable etc [x.service]"),
+        (
+            b"a enable --runtime x.service y@.service x.service",
+            b"enable run [x.service][y@.service][x.service]",
+        ),
+        (
+            b"a disable x.service y@z.service",
+            b"disable etc [x.service][y@z.service]",
+        ),
+        (b"a disable --runtime x.service", b"disable run [x.service]"),
         (b"a mask x.service", b"mask etc [x.service]"),
         (b"a unmask --runtime x.service", b"unmask run [x.service]"),
         (b"a link /a", b"units etc [/a]"),
@@ -219,7 +237,15 @@ fn operator_and_verb_come_first(rt: HostRuntime) {
         &rt,
         alloc,
         Reason::UnknownVerb,
-        &[b"a", b"a fly", b"a Link /a", b"a link\t/a", b"a add a b"],
+        &[
+            b"a",
+            b"a fly",
+            b"a Link /a",
+            b"a link\t/a",
+            b"a add a b",
+            b"a Enable x.service",
+            b"a check x.service",
+        ],
     );
 }
 
@@ -231,6 +257,10 @@ fn arguments_are_counted_first(rt: HostRuntime) {
         alloc,
         Reason::WrongArguments,
         &[
+            b"a enable",
+            b"a enable --runtime",
+            b"a disable",
+            b"a disable --runtime",
             b"a mask",
             b"a link",
             b"a link --runtime",
@@ -273,6 +303,11 @@ fn the_first_bad_argument_decides(rt: HostRuntime) {
         alloc,
         Reason::BadName,
         &[
+            b"a enable x.service x",
+            b"a enable /x.service",
+            b"a enable --runtime --runtime",
+            b"a disable x.service --runtime",
+            b"a disable --runtime x",
             b"a mask x.service x",
             b"a mask --runtime --runtime",
             b"a mask x.service --runtime",

@@ -2,18 +2,22 @@
 use Rattle.std.proofs.Common.{sym}
 use Rattle.std.proofs.lemmas.Bool.{true≢false}
 use Rattle.footprint.specs.Operations.{OperationLaws}
-use Rattle.footprint.proofs.Carried.{laws_of_steps}
+use Rattle.footprint.proofs.Carried.{laws_of, laws_of_steps}
+use Rattle.install_commands.specs.Enable.{enable_command}
+use Rattle.install_commands.specs.Disable.{disable_command}
 use Rattle.slot_commands.specs.Masks.{mask_steps, unmask_steps}
 use Rattle.slot_commands.specs.LinkUnits.{link_steps}
 use Rattle.slot_commands.specs.AddTo.{add_steps}
 use Rattle.slot_commands.specs.SetDefault.{default_steps}
 use Rattle.slot_commands.specs.ByHand.{place_steps, remove_steps}
-use Rattle.unit_script.specs.declared.action.Action.TheVariants.{Mask, Unmask, LinkUnits, AddTo, SetDefault, PlaceEntry, RemoveEntry}
+use Rattle.unit_script.specs.declared.action.Action.TheVariants.{Enable, Disable, Mask, Unmask, LinkUnits, AddTo, SetDefault, PlaceEntry, RemoveEntry}
 use Rattle.unit_script.specs.Actions.{asks, meaning}
 
 pub action_laws : OperationLaws asks meaning
 action_laws = record {
   confinement = elim [
+    | Enable enable ↦ (laws_of enable_command).confinement enable
+    | Disable disable ↦ (laws_of disable_command).confinement disable
     | Mask mask ↦ (laws_of_steps mask_steps).confinement mask
     | Unmask unmask ↦ (laws_of_steps unmask_steps).confinement unmask
     | LinkUnits link ↦ (laws_of_steps link_steps).confinement link
@@ -23,6 +27,8 @@ action_laws = record {
     | RemoveEntry remove ↦ (laws_of_steps remove_steps).confinement remove
   ];
   changes = elim [
+    | Enable enable ↦ (laws_of enable_command).changes enable
+    | Disable disable ↦ (laws_of disable_command).changes disable
     | Mask mask ↦ (laws_of_steps mask_steps).changes mask
     | Unmask unmask ↦ (laws_of_steps unmask_steps).changes unmask
     | LinkUnits link ↦ (laws_of_steps link_steps).changes link
@@ -32,6 +38,8 @@ action_laws = record {
     | RemoveEntry remove ↦ (laws_of_steps remove_steps).changes remove
   ];
   refusal = elim [
+    | Enable enable ↦ (laws_of enable_command).refusal enable
+    | Disable disable ↦ (laws_of disable_command).refusal disable
     | Mask mask ↦ (laws_of_steps mask_steps).refusal mask
     | Unmask unmask ↦ (laws_of_steps unmask_steps).refusal unmask
     | LinkUnits link ↦ (laws_of_steps link_steps).refusal link

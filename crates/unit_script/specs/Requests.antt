@@ -35,6 +35,12 @@ abbrev pub arguments_of : List (List ℕ) → List (List ℕ)
 arguments_of [] = []
 arguments_of (word ∷ words) = if is_runtime word then words else word ∷ words
 
+abbrev pub enable_of : List (List ℕ) → Result (Request Action) Reason
+enable_of words = units_of (arguments_of words) >>= λ units. Ok (Do (actions.Enable (record { scope = scope_of words; units = units })))
+
+abbrev pub disable_of : List (List ℕ) → Result (Request Action) Reason
+disable_of words = units_of (arguments_of words) >>= λ units. Ok (Do (actions.Disable (record { scope = scope_of words; units = units })))
+
 abbrev pub mask_of : List (List ℕ) → Result (Request Action) Reason
 mask_of words = units_of (arguments_of words) >>= λ units. Ok (Do (actions.Mask (record { scope = scope_of words; units = units })))
 
@@ -101,7 +107,9 @@ undo_row word = option_map_or (λ n. Ok (Undo n)) (number_of word) (Err BadNumbe
 -- what a verb asks for with the words after it
 unfoldable pub request_of_verb : List ℕ → List (List ℕ) → Result (Request Action) Reason
 request_of_verb verb words =
-    if bytes_eq verb (codes "mask") then mask_of words
+    if bytes_eq verb (codes "enable") then enable_of words
+    else if bytes_eq verb (codes "disable") then disable_of words
+    else if bytes_eq verb (codes "mask") then mask_of words
     else if bytes_eq verb (codes "unmask") then unmask_of words
     else if bytes_eq verb (codes "link") then link_units_of words
     else if bytes_eq verb (codes "add-wants") then add_to_of Wants words

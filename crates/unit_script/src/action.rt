@@ -1,18 +1,23 @@
 //! The commands that a script can give, as one type of operation.
 
 use footprint::{Operation, Outcome};
+use install_commands::{Disable, Enable};
 use link_tree::Tree;
 use slot_commands::{AddTo, LinkUnits, Mask, PlaceEntry, RemoveEntry, SetDefault, Unmask};
 use std::alloc::{AllocError, Global};
 
 /// A command of a script with its arguments. systemctl(1), "Unit File Commands".
 ///
-/// Each variant is an operation of `slot_commands`, and does as that does: its meaning, and so its answer, its changes
+/// Each variant is an operation of `install_commands` or `slot_commands`, and does as that does: its meaning, and so its answer, its changes
 /// and what it looks at, are that operation's. No action is a question, so each that is accepted counts as a command.
 ///
 /// `run` and `copy` fail only for want of memory, and then nothing has changed.
 #[derive(Debug, Drop)]
 pub enum Action {
+    /// `enable`
+    Enable(Enable),
+    /// `disable`
+    Disable(Disable),
     /// `mask`
     Mask(Mask),
     /// `unmask`
@@ -41,6 +46,8 @@ impl Operation for Action {
 
     fn run(&self, alloc: Global, tree: &Tree) -> Result<Outcome, AllocError> {
         match self {
+            Action::Enable(enable) => enable.run(alloc, tree),
+            Action::Disable(disable) => disable.run(alloc, tree),
             Action::Mask(mask) => mask.run(alloc, tree),
             Action::Unmask(unmask) => unmask.run(alloc, tree),
             Action::LinkUnits(link) => link.run(alloc, tree),
@@ -57,6 +64,8 @@ impl Operation for Action {
 
     fn copy(&self) -> Result<Action, AllocError> {
         match self {
+            Action::Enable(enable) => Ok(Action::Enable(enable.copy()?)),
+            Action::Disable(disable) => Ok(Action::Disable(disable.copy()?)),
             Action::Mask(mask) => Ok(Action::Mask(mask.copy()?)),
             Action::Unmask(unmask) => Ok(Action::Unmask(unmask.copy()?)),
             Action::LinkUnits(link) => Ok(Action::LinkUnits(link.copy()?)),
@@ -69,6 +78,8 @@ impl Operation for Action {
 
     fn same(&self, other: &Action) -> bool {
         match (self, other) {
+            (Action::Enable(one), Action::Enable(other)) => one.same(other),
+            (Action::Disable(one), Action::Disable(other)) => one.same(other),
             (Action::Mask(one), Action::Mask(other)) => one.same(other),
             (Action::Unmask(one), Action::Unmask(other)) => one.same(other),
             (Action::LinkUnits(one), Action::LinkUnits(other)) => one.same(other),
