@@ -4,6 +4,7 @@ from typing import NamedTuple
 ETC, RUN, USR = "/etc/systemd/system", "/run/systemd/system", "/usr/lib/systemd/system"
 TARGETS = ["graphical.target", "multi-user.target"]
 LINE = "Description=A service that does what it is for, and no more\n"
+INSTALL = f"[Install]\nWantedBy={TARGETS[1]}\n"
 
 
 class Tree(NamedTuple):
@@ -22,7 +23,7 @@ def names(what, count):
 
 def tree(size, chance):
     """Half of the entries are unit files of 200 to 4,000 bytes, one in four of these in /opt and the others in
-    /usr/lib/systemd/system; the others are masks, aliases and links of units that a target wants."""
+    /usr/lib/systemd/system, which all are to be wanted by multi-user.target; the others are masks, aliases and links of units that another target wants."""
     units, apps = names("unit", size * 3 // 8 - len(TARGETS)), names("app", size // 8)
     masks, wanted = names("mask", size // 6), chance.sample(units, size // 6)
     aliases = names("alias", size // 2 - len(masks) - len(wanted))
@@ -33,7 +34,8 @@ def tree(size, chance):
     entries = [f"L\t{path}\t{target}\n" for path, target in links]
     for path in files:
         length = chance.randint(200, 4000)
-        entries.append(f"F\t{length}\t{path}\n{(LINE * (length // len(LINE) + 1))[:length]}\n")
+        text = (LINE * (length // len(LINE) + 1))[:length - len(INSTALL) - 1] + "\n" + INSTALL
+        entries.append(f"F\t{length}\t{path}\n{text}\n")
     chance.shuffle(entries)
     return Tree(entries, units, wanted, apps, masks)
 
