@@ -1,4 +1,5 @@
 mod again;
+mod checking;
 mod disabling;
 mod enabling;
 mod large;
