@@ -10,6 +10,8 @@ use Rattle.link_tree.proofs.Changed.{same_bytes}
 use Rattle.load_path.specs.declared.finding.Found.{Found}
 use Rattle.load_path.specs.declared.finding.Found.TheVariants as founds
 use Rattle.load_path.specs.Find.{find}
+use Rattle.load_path.specs.Search.{each_once}
+use Rattle.load_path.proofs.Once.{cells_once}
 use Rattle.install_section.specs.declared.closed.Closed.{Closed}
 use Rattle.install_section.specs.declared.closed.ClosureFault.{ClosureFault}
 use Rattle.install_section.specs.declared.closed.ClosureFault.TheVariants as closure_faults
@@ -137,9 +139,12 @@ module _ (t : Entries) where
     goes_reached name (NamedIn unit _ before names) = NamedBy unit name (goes_reached unit before) names
 
     -- the names of a closure are those of the units that go with these
-    pub named_is : (closed : Closed) → (closure selves).conclusion t ≡ Ok closed → (name : List ℕ) → Contains ((units ++ reals) ++ closed.units) name ↔ IsNamed t units name
-    named_is closed closes name = (among, listed)
+    pub named_is : (closed : Closed) → (closure selves).conclusion t ≡ Ok closed → (name : List ℕ) → Contains (each_once ((units ++ reals) ++ closed.units)) name ↔ IsNamed t units name
+    named_is closed closes name = (λ here. among (once.0 here), λ named. once.1 (listed named))
       where
+        once : Contains (each_once ((units ++ reals) ++ closed.units)) name ↔ Contains ((units ++ reals) ++ closed.units) name
+        once = (cells_once ((units ++ reals) ++ closed.units)).1 name
+
         least : Contains closed.units name ↔ Reached t selves name
         least = (closure_least selves t closed closes).1 name
 
@@ -161,10 +166,10 @@ module _ (t : Entries) where
     pub record Gathered (named : Named) : Type 0 where
       pub closed : Closed
       pub closes : (closure selves).conclusion t ≡ Ok closed
-      pub names : named.names ≡ (units ++ reals) ++ closed.units
+      pub names : named.names ≡ each_once ((units ++ reals) ++ closed.units)
 
     by_closed : (named : Named) (closed : Result Closed ClosureFault) → (closure selves).conclusion t ≡ closed → named_with (units ++ reals) (unless_too_many closed) ≡ Ok named → Gathered named
-    by_closed named (Ok closed) closes is = record { closed = closed; closes = closes; names = (let same : record { names = (units ++ reals) ++ closed.units; notices = closed.notices } ≡ named = cc in sym (ap (λ (n : Named). n.names) same)) }
+    by_closed named (Ok closed) closes is = record { closed = closed; closes = closes; names = (let same : record { names = each_once ((units ++ reals) ++ closed.units); notices = closed.notices } ≡ named = cc in sym (ap (λ (n : Named). n.names) same)) }
     by_closed named (Err closure_faults.TooMany) closes is = cc
 
     pub gathered : (named : Named) → (units_named units).conclusion t ≡ Ok named → Gathered named

@@ -5,6 +5,7 @@ use Rattle.unit_paths.specs.declared.place.Scope.{Scope}
 use Rattle.load_path.specs.declared.finding.Found.{Found}
 use Rattle.load_path.specs.declared.finding.Found.TheVariants.{Unit}
 use Rattle.load_path.specs.Find.{find}
+use Rattle.load_path.specs.Search.{each_once}
 use Rattle.install_section.specs.declared.closed.Closed.{Closed}
 use Rattle.footprint.specs.declared.refusal.Refusal.{Refusal}
 use Rattle.install_section.specs.Closure.{closure}
@@ -45,9 +46,9 @@ selves_behind names (unit ∷ units) = do
   found ← by_cells (find unit)
   selves_behind (with_self names unit found) units
 
--- with the names of a closure behind these, and what it tells of skipped words
+-- with the names of a closure behind these, each once, and what it tells of skipped words
 abbrev pub named_with : (names : List (List ℕ)) → Result Closed Refusal → Result Named Refusal
-named_with names (Ok closed) = Ok (record { names = names ++ closed.units; notices = closed.notices })
+named_with names (Ok closed) = Ok (record { names = each_once (names ++ closed.units); notices = closed.notices })
 named_with names (Err refusal) = Err refusal
 
 -- The names: those that are given, the own names of those that are found as units,

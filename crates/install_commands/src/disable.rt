@@ -1,6 +1,7 @@
 //! disable.
 ghost use Rattle.std.specs.Prelude.{◌≡◌, ◌++◌, [], map as list_map, IfOk, OnOk};
 ghost use Rattle.footprint.specs.declared.key.Key.TheVariants.{Marked};
+ghost use Rattle.load_path.specs.Search.{with_cell, each_once};
 ghost use Rattle.footprint.specs.Edits.{Carries};
 ghost use Rattle.footprint.specs.Inquiry.{Asks};
 ghost use Rattle.install_commands.specs.Disable.{with_real, reals_behind, is_itself, with_self, selves_behind, selves_named, reals_named, links_removed, disable_command};
@@ -105,6 +106,28 @@ fn push_all(names: &mut Units, more: &[UnitName]) -> Result<(), AllocError>
     Ok(())
 }
 
+/// Adds a name, unless it is there.
+#[tactic(auto, unfolding(load_path::specs::Search::with_cell))]
+fn note(names: &mut Units, name: &UnitName) -> Result<(), AllocError>
+    ensures { OnOk result (names.new ≡ with_cell names.old name.now) }
+{
+    if names.as_slice().contains(name) {
+        return Ok(());
+    }
+    names.push(name.copy()?)
+}
+
+/// Each of the names once, where it is first: a unit that is given by its own name is found and reached under it, too.
+fn each_once(alloc: Global, names: &[UnitName]) -> Result<Units, AllocError>
+    ensures { IfOk result (λ once. once ≡ each_once names.now) }
+{
+    let mut once = Units::none(alloc);
+    for name in names {
+        note(&mut once, name)?;
+    }
+    Ok(once)
+}
+
 /// The closure of the units that are found as themselves, behind these names. The outer error is want of memory alone.
 fn selves_named(
     alloc: Global,
@@ -118,6 +141,7 @@ fn selves_named(
     match closed(alloc, tree, selves, keys)? {
         Ok(closed) => {
             push_all(&mut names, closed.units.as_slice())?;
+            let names = each_once(alloc, names.as_slice())?;
             let notices = closed.notices;
             Ok(Ok(Named { names, notices }))
         }
