@@ -1,10 +1,9 @@
 -- Units pass the check where each is found as itself, and the first that isn't is refused.
-use Rattle.std.proofs.Common.{◌≡◌, ℕ, true, false, List, [], ◌∷◌, ◌++◌, All, ◌↔◌, Result, Ok, Err, refl, sym, ap, subst, ◌∙◌, inl, inr}
+use Rattle.std.proofs.Common.{◌≡◌, ℕ, List, [], ◌∷◌, ◌++◌, All, Result, Ok, Err, refl, ap, ◌∙◌, inl, inr}
 use Rattle.std.specs.Str.{bytes_eq}
 use Rattle.std.proofs.lemmas.Bool.{cases_Bool}
 use Rattle.std.proofs.lemmas.List.Elements.{All-nil, All-cons, All-head, All-tail}
 use Rattle.std.proofs.lemmas.Slice.Eq.{bytes_eq-Decides}
-use Rattle.unit_paths.specs.declared.place.Place.{Place}
 use Rattle.link_tree.specs.Trees.{Entries}
 use Rattle.link_tree.proofs.Changed.{same_bytes}
 use Rattle.load_path.specs.declared.finding.Found.{Found}

@@ -1,7 +1,6 @@
 -- What disable leaves.
-use Rattle.std.proofs.Common.{◌≡◌, ℕ, true, false, cond, List, [], ◌∷◌, map as list_map, ◌⊎◌, ◌↔◌, All, Contains, Option, Some, None, Result, Ok, Err, refl, sym, ap, subst, ◌∙◌, inl, inr}
+use Rattle.std.proofs.Common.{◌≡◌, ℕ, true, false, cond, List, [], ◌∷◌, map as list_map, ◌↔◌, All, Contains, Option, Some, None, Result, Ok, Err, refl, sym, ap, subst, ◌∙◌, inl, inr}
 use Rattle.std.specs.FinMap as map
-use Rattle.std.specs.List.{list_any}
 use Rattle.std.proofs.lemmas.Bool.{cases_Bool, false≢true, or_left, or_right}
 use Rattle.std.proofs.lemmas.List.Elements.{All-weaker}
 use Rattle.unit_file.specs.Notices.{NoticeMap}
@@ -31,11 +30,11 @@ use Rattle.install_commands.specs.declared.disable.Named.{Named}
 use Rattle.install_commands.specs.declared.enable.Enable.{Enable}
 use Rattle.install_commands.specs.Laws.IsNamed.{Also}
 use Rattle.install_commands.specs.Disable.{units_named, links_removed, disable_meaning}
-use Rattle.install_commands.specs.Enable.{enable_wants, enable_meaning}
+use Rattle.install_commands.specs.Enable.{enable_meaning}
 use Rattle.install_commands.specs.Laws.{Leaves, ChangesNothing, GoesWith, IsNamed, IsRemoved, Without, DisableRemoves, DisableRefused, DisableAgain, disable_of, DisableAfterEnable}
 use Rattle.install_commands.proofs.Checked.{check_passes}
 use Rattle.install_commands.proofs.Enabled.{wants_of, made}
-use Rattle.install_commands.proofs.Named.{selves, gathered, gathered_is, named_refused, reached_goes, goes_reached, selves_reach, reached_with}
+use Rattle.install_commands.proofs.Named.{selves, gathered_is, named_refused, reached_goes, goes_reached, selves_reach, reached_with}
 use Rattle.install_commands.proofs.Placed.{placed_leads, accepted, nothing_changes, bare_of, get-cleared, cleared_refuses}
 
 -- whether a link belongs to one of the names

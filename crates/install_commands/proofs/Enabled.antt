@@ -1,10 +1,9 @@
 -- What enable leaves.
-use Rattle.std.proofs.Common.{◌≡◌, ℕ, Bool, false, List, [], ◌⊎◌, ◌↔◌, Contains, Option, Some, None, Result, Ok, Err, refl, sym, ap, subst, ◌∙◌, inl, inr}
+use Rattle.std.proofs.Common.{◌≡◌, ℕ, false, List, [], ◌⊎◌, ◌↔◌, Option, Some, None, Result, Ok, Err, refl, sym, ap, subst, ◌∙◌, inl, inr}
 use Rattle.std.specs.FinMap as map
 use Rattle.unit_file.specs.Notices.{NoticeMap, joined}
 use Rattle.unit_paths.specs.Canonical.{canonical}
 use Rattle.unit_paths.specs.declared.place.Scope.{Scope}
-use Rattle.unit_paths.specs.Places.{scope_place}
 use Rattle.link_tree.specs.declared.entry.Entry.{Entry}
 use Rattle.link_tree.specs.declared.entry.Entry.TheVariants.{Link}
 use Rattle.link_tree.specs.Trees.{Entries, after_changes}
@@ -16,9 +15,7 @@ use Rattle.install_section.specs.declared.wants.Wanted.{Wanted}
 use Rattle.install_section.specs.declared.wants.WantedFault.{WantedFault}
 use Rattle.install_section.specs.declared.wants.WantedFault.TheVariants as wanted_faults
 use Rattle.install_section.specs.Closure.{closure}
-use Rattle.install_section.specs.ClosureLaws.{Reached}
 use Rattle.install_section.specs.Wanted.{wanted}
-use Rattle.install_section.specs.WantedLaws.{AsksFor, IsAskedFor}
 use Rattle.install_section.proofs.Least.{some_is, closure_least}
 use Rattle.install_section.proofs.WantedSets.{links_asked_for}
 use Rattle.footprint.specs.declared.answer.Answer.TheVariants.{Done}
@@ -27,7 +24,7 @@ use Rattle.footprint.specs.Commands.{taken, unless_refused}
 use Rattle.footprint.specs.Keys.{AgreeOn}
 use Rattle.footprint.specs.Laws.{IsLeft}
 use Rattle.footprint.specs.Operations.{Effect}
-use Rattle.footprint.specs.Placing.{Placed, Ruling, placed_in, effect, wanted_at}
+use Rattle.footprint.specs.Placing.{Placed, placed_in, effect, wanted_at}
 use Rattle.footprint.specs.Rules.{LeadsAs}
 use Rattle.footprint.specs.Steps.{all_at_once}
 use Rattle.footprint.proofs.Wishes.{left_all_at_once}

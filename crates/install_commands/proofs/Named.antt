@@ -1,10 +1,8 @@
 -- Which names the links have that a disable removes.
-use Rattle.std.proofs.Common.{◌≡◌, ℕ, true, false, cond, List, [], ◌∷◌, ◌++◌, ◌⊎◌, ◌↔◌, All, Contains, Result, Ok, Err, refl, sym, ap, subst, ◌∙◌, inl, inr}
-use Rattle.std.specs.Str.{bytes_eq}
+use Rattle.std.proofs.Common.{◌≡◌, ℕ, true, cond, List, [], ◌∷◌, ◌++◌, ◌⊎◌, ◌↔◌, All, Contains, Result, Ok, Err, refl, sym, ap, subst, ◌∙◌, inl, inr}
 use Rattle.std.proofs.lemmas.Bool.{cases_Bool, false≢true}
-use Rattle.std.proofs.lemmas.List.Elements.{All-contains, All-weaker, Contains-append_left, Contains-append_right, Contains-append_cases, Contains-push, Contains-push_cases}
+use Rattle.std.proofs.lemmas.List.Elements.{All-contains, Contains-append_left, Contains-append_right, Contains-append_cases, Contains-push, Contains-push_cases}
 use Rattle.std.proofs.lemmas.Slice.Eq.{bytes_eq-Decides}
-use Rattle.unit_paths.specs.declared.place.Place.{Place}
 use Rattle.link_tree.specs.Trees.{Entries}
 use Rattle.link_tree.proofs.Changed.{same_bytes}
 use Rattle.load_path.specs.declared.finding.Found.{Found}
@@ -16,7 +14,7 @@ use Rattle.install_section.specs.declared.closed.Closed.{Closed}
 use Rattle.install_section.specs.declared.closed.ClosureFault.{ClosureFault}
 use Rattle.install_section.specs.declared.closed.ClosureFault.TheVariants as closure_faults
 use Rattle.install_section.specs.Closure.{closure}
-use Rattle.install_section.specs.ClosureLaws.{IsUnit, Names, Reached}
+use Rattle.install_section.specs.ClosureLaws.{IsUnit, Reached}
 use Rattle.install_section.specs.ClosureLaws.Reached.{Given as GivenOf, Named as NamedBy}
 use Rattle.install_section.proofs.Least.{is_first, is_later, first_or_later, none_of, closure_least}
 use Rattle.footprint.specs.declared.refusal.Refusal.{Refusal}

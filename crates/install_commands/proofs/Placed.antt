@@ -1,5 +1,5 @@
 -- What stands after links were made or removed all at once.
-use Rattle.std.proofs.Common.{◌≡◌, ℕ, Bool, true, false, cond, T, List, [], ◌∷◌, map as list_map, ◌⊎◌, Option, Some, None, Result, Ok, Err, refl, sym, ap, subst, ◌∙◌, inl, inr}
+use Rattle.std.proofs.Common.{◌≡◌, ℕ, true, cond, T, List, [], ◌∷◌, map as list_map, ◌⊎◌, Option, Some, None, Ok, Err, refl, sym, ap, ◌∙◌, inl, inr}
 use Rattle.std.specs.FinMap as map
 use Rattle.std.specs.FinMap.{find, is_sorted, get-from_entries}
 use Rattle.std.specs.Cmp.Lexicographic.{nat_list_cmp_total}
@@ -16,7 +16,7 @@ use Rattle.link_tree.specs.Trees.{path_cmp, Entries, after_changes}
 use Rattle.link_tree.proofs.Changed.{is_at, same_bytes, same_tree}
 use Rattle.link_tree.proofs.Differences.{differences-same}
 use Rattle.link_tree.proofs.Leads.{leads}
-use Rattle.link_tree.proofs.Maps.{first, second, none_some, none_below}
+use Rattle.link_tree.proofs.Maps.{first, second, none_below}
 use Rattle.link_tree.proofs.Shapes.{same_key}
 use Rattle.install_section.specs.LinkSlots.{LinkMap}
 use Rattle.footprint.specs.declared.answer.Answer.TheVariants.{Done}
