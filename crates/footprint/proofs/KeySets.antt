@@ -28,10 +28,10 @@ same_key : (key other : Key) → eq_by_cmp key_cmp key other ≡ true → key �
 same_key key other h = exact_keys key other (is_equal (key_cmp key other) h)
 
 -- whether a key is one of these
-abbrev is_among : List Key → Key → Bool
+abbrev pub is_among : List Key → Key → Bool
 is_among keys key = list_any (eq_by_cmp key_cmp key) keys
 
-abbrev mark : Bool → Option (Unit {0})
+abbrev pub mark : Bool → Option (Unit {0})
 mark b = cond b (Some tt) None
 
 one_mark : (a b : Bool) → cond a (Some tt) (mark b) ≡ mark (a || b)
@@ -39,7 +39,7 @@ one_mark true b = refl
 one_mark false b = refl
 
 -- what a set of keys has at a key
-get-set_of : (keys : List Key) (key : Key) → map.get (set_of keys) key ≡ mark (is_among keys key)
+pub get-set_of : (keys : List Key) (key : Key) → map.get (set_of keys) key ≡ mark (is_among keys key)
 get-set_of [] key = map.get-empty key_cmp key
 get-set_of (k ∷ ks) key =
     map.get-insert key_cmp_total (set_of ks) k tt key ∙ ap (λ there. cond (eq_by_cmp key_cmp key k) (Some tt) there) (get-set_of ks key) ∙ one_mark (eq_by_cmp key_cmp key k) (is_among ks key)
@@ -64,6 +64,10 @@ in_order-Contains keys key here = Contains-from_any same_key key keys (sym (any-
 pub All-in_order : (P : Key → Type 0) (keys : List Key) → All P keys → All P (in_order keys)
 All-in_order P keys all = All-weaker (Contains (in_order keys)) P (λ key here. All-contains P keys key all (in_order-Contains keys key here)) (in_order keys) (All-contains_itself (in_order keys))
 
+pub All-in_set : (P : Key → Type 0) (keys : List Key) → All P keys → All P (map.keys (set_of keys))
+unfolding in_order
+All-in_set P keys all = All-in_order P keys all
+
 -- and the other way
 pub in_order-All : (P : Key → Type 0) (keys : List Key) → All P (in_order keys) → All P keys
 in_order-All P keys all = All-weaker (Contains keys) P (λ key here. All-contains P (in_order keys) key all (Contains-in_order keys key here)) keys (All-contains_itself keys)
@@ -85,7 +89,7 @@ plain : (keys : List Key) → list_map (λ e. e.0) (list_map entry keys) ≡ key
 plain [] = refl
 plain (k ∷ ks) = ap (λ rest. k ∷ rest) (plain ks)
 
-same_keys : (one other : KeySet) → ((key : Key) → map.get one key ≡ map.get other key) → one ≡ other
+pub same_keys : (one other : KeySet) → ((key : Key) → map.get one key ≡ map.get other key) → one ≡ other
 same_keys one other h = map.same_map key_cmp_total exact_keys one other h
 
 -- keys in order are those of their set
@@ -130,7 +134,7 @@ one_gathered these key rest all h q = ap (λ there. cond (is_among rest q) (Some
 pub all_gathered : (these : KeySet) (all : List Key) → AreGathered these [] all → these ≡ set_of all
 all_gathered these all h = same_keys these (set_of all) (λ q. h q ∙ sym (get-set_of all q))
 
-among-append : (keys more : List Key) (key : Key) → is_among (keys ++ more) key ≡ (is_among keys key || is_among more key)
+pub among-append : (keys more : List Key) (key : Key) → is_among (keys ++ more) key ≡ (is_among keys key || is_among more key)
 among-append [] more key = refl
 among-append (k ∷ ks) more key = ap (λ b. eq_by_cmp key_cmp key k || b) (among-append ks more key) ∙ or_assoc (eq_by_cmp key_cmp key k) _ _
   where

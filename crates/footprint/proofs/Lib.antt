@@ -2,6 +2,8 @@ pub mod Those
 pub mod Parts
 pub mod KeySets
 pub mod Outcomes
+pub mod Merged
+pub mod Gathered
 pub mod Carried
 pub mod Turns
 pub mod Wishes

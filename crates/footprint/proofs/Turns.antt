@@ -75,13 +75,13 @@ stepped_off (Ok placed) edit refusal is = cc
 stepped_off (Err other) edit refusal is = cc
 
 -- an edit is what a ruling says
-pub begun_ok : (ruling : Ruling) (t : Entries) (edit : Entries × Entries) → edit.0 ≡ t → left_by ruling t ≡ Ok edit.1 → Ok edit ≡ stepped ruling (t, t)
-begun_ok (Ok placed) t edit first is = let same : placed_in placed t ≡ edit.1 = cc in λ i. Ok (first i, sym same i)
-begun_ok (Err refusal) t edit first is = cc
+pub begun_ok : (ruling : Ruling) (begun edit : Entries × Entries) → edit.0 ≡ begun.0 → left_by ruling begun.1 ≡ Ok edit.1 → Ok edit ≡ stepped ruling begun
+begun_ok (Ok placed) begun edit first is = let same : placed_in placed begun.1 ≡ edit.1 = cc in λ i. Ok (first i, sym same i)
+begun_ok (Err refusal) begun edit first is = cc
 
-pub begun_err : (ruling : Ruling) (t : Entries) (refusal : Refusal) → left_by ruling t ≡ Err refusal → Err refusal ≡ stepped ruling (t, t)
-begun_err (Ok placed) t refusal is = cc
-begun_err (Err other) t refusal is = cc
+pub begun_err : (ruling : Ruling) (begun : Entries × Entries) (refusal : Refusal) → left_by ruling begun.1 ≡ Err refusal → Err refusal ≡ stepped ruling begun
+begun_err (Ok placed) begun refusal is = cc
+begun_err (Err other) begun refusal is = cc
 
 -- The arguments from one on, in the tree as it is now, lead where all of them do from the first tree, and what is still to be
 -- looked at is all that is.
@@ -120,14 +120,14 @@ module _ {A : Type 0} (step : A → Step) (args : List A) (i : ℕ) (first : Ent
     pub refused_turn : (refusal : Refusal) (then : List Key) → GoesOn (step a) edit now then (Err refusal) → GoesOn (each_in_turn step args) (first, first) before then (Err refusal)
     refused_turn refusal then goes =
         let off = stepped_off ((step a).conclusion edit.1) edit refusal goes.0 in (
-          begun_err ((each_in_turn step args).conclusion first) first refusal (all_turns step args first ∙ sym one_more ∙ ap (goes_on (in_turn step (drop (i + 1) args))) off),
+          begun_err ((each_in_turn step args).conclusion first) (first, first) refusal (all_turns step args first ∙ sym one_more ∙ ap (goes_on (in_turn step (drop (i + 1) args))) off),
           sym (append-nil then) ∙ more_keys then goes.1 (Err refusal) off ∙ ap (λ keys. before ++ keys) (sym (all_keys step args first)),
         )
 
   -- all arguments are through
   pub last_turn : length args ≤ i → GoesOn (each_in_turn step args) (first, first) before now (Ok edit)
   last_turn through = (
-    begun_ok ((each_in_turn step args).conclusion first) first edit come.begun
+    begun_ok ((each_in_turn step args).conclusion first) (first, first) edit come.begun
         (all_turns step args first ∙ sym come.leads ∙ ap (λ rest. in_turn step rest edit.1) (drop_all i args through)),
     sym (append-nil now) ∙ sym (ap (λ rest. now ++ keys_in_turn step rest edit.1) (drop_all i args through)) ∙ come.looks ∙ ap (λ keys. before ++ keys) (sym (all_keys step args first)),
   )

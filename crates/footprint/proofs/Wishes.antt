@@ -31,10 +31,10 @@ Link = List ℕ × Option (List ℕ)
 abbrev pub ruling_at : Entries → Link → Result (Option Entry) Refusal
 ruling_at t link = wanted_at link.1 link.0 (map.get t link.0)
 
--- The links that are still to come stand at slots, and leave in the tree as it is now what all leave in the first.
-pub record AreComing (t : Entries) (edit : Entries × Entries) (rest all : List Link) : Type 0 where
-  pub begun : edit.0 ≡ t
-  pub leave : left_by (all_wanted rest t) edit.1 ≡ left_by (all_wanted all t) t
+-- The links that are still to come stand at slots, and leave in the tree as it is now what all leave in the tree in which they began.
+pub record AreComing (begun edit : Entries × Entries) (rest all : List Link) : Type 0 where
+  pub first : edit.0 ≡ begun.0
+  pub leave : left_by (all_wanted rest begun.1) edit.1 ≡ left_by (all_wanted all begun.1) begun.1
   pub at_slots : All (λ link. is_slot link.0 ≡ true) rest
 
 -- nothing is wanted
@@ -48,53 +48,65 @@ one_at_slots wanted slot link here all path other there = elim (cases_Bool (is_a
   | inr away ↦ all path other (sym (map.get-insert nat_list_cmp_total wanted slot link path ∙ ap (λ b. cond b (Some link) (map.get wanted path)) away) ∙ there)
 ]
 
+-- nothing is wanted any longer at a path
+pub fewer_at_slots : (wanted : Wanted) (slot : List ℕ) → AreAtSlots wanted → AreAtSlots (map.remove wanted slot)
+fewer_at_slots wanted slot all path link there = elim (cases_Bool (is_at path slot)) [
+  | inl at ↦ absurd (none_some link (sym (map.get-remove nat_list_cmp_total wanted slot path ∙ ap (λ b. cond b None (map.get wanted path)) at) ∙ there))
+  | inr away ↦ all path link (sym (map.get-remove nat_list_cmp_total wanted slot path ∙ ap (λ b. cond b None (map.get wanted path)) away) ∙ there)
+]
+
 -- so the links that are listed are at slots
 pub listed_at_slots : (wanted : Wanted) → AreAtSlots wanted → All (λ link. is_slot link.0 ≡ true) (map.entries wanted)
 listed_at_slots wanted all = All-weaker (λ link. map.get wanted link.0 ≡ Some link.1) (λ link. is_slot link.0 ≡ true) (λ link there. all link.0 link.1 there) (map.entries wanted) (all_standing wanted)
 
 -- all are still to come
-pub none_made : (t : Entries) (edit : Entries × Entries) (rest all : List Link) → edit ≡ (t, t) → rest ≡ all → All (λ link. is_slot link.0 ≡ true) all → AreComing t edit rest all
-none_made t edit rest all new same slots = record {
-  begun = ap (λ e. e.0) new;
-  leave = λ i. left_by (all_wanted (same i) t) (new i).1;
+pub none_made : (begun edit : Entries × Entries) (rest all : List Link) → edit ≡ begun → rest ≡ all → All (λ link. is_slot link.0 ≡ true) all → AreComing begun edit rest all
+none_made begun edit rest all new same slots = record {
+  first = ap (λ e. e.0) new;
+  leave = λ i. left_by (all_wanted (same i) begun.1) (new i).1;
   at_slots = subst (All (λ link. is_slot link.0 ≡ true)) (sym same) slots;
 }
 
-pub at_slot : (t : Entries) (edit : Entries × Entries) (link : Link) (rest all : List Link) → AreComing t edit (link ∷ rest) all → is_slot link.0 ≡ true
-at_slot t edit link rest all come = All-head (λ link. is_slot link.0 ≡ true) link rest come.at_slots
+pub at_slot : (begun edit : Entries × Entries) (link : Link) (rest all : List Link) → AreComing begun edit (link ∷ rest) all → is_slot link.0 ≡ true
+at_slot begun edit link rest all come = All-head (λ link. is_slot link.0 ≡ true) link rest come.at_slots
 
 -- one link is made
-pub one_made : (t : Entries) (edit next : Entries × Entries) (link : Link) (rest all : List Link) → AreComing t edit (link ∷ rest) all
-    → Ok next ≡ stepped (ruled_at link.0 (ruling_at t link)) edit → AreComing t next rest all
-one_made t edit next link rest all come is = by_ruling (ruling_at t link) refl
+pub one_made : (begun edit next : Entries × Entries) (link : Link) (rest all : List Link) → AreComing begun edit (link ∷ rest) all
+    → Ok next ≡ stepped (ruled_at link.0 (ruling_at begun.1 link)) edit → AreComing begun next rest all
+one_made begun edit next link rest all come is = by_ruling (ruling_at begun.1 link) refl
   where
-    by_ruling : (r : Result (Option Entry) Refusal) → ruling_at t link ≡ r → AreComing t next rest all
+    by_ruling : (r : Result (Option Entry) Refusal) → ruling_at begun.1 link ≡ r → AreComing begun next rest all
     by_ruling (Ok entry) at =
         let made : Ok next ≡ stepped (ruled_at link.0 (Ok entry)) edit = is ∙ ap (λ r. stepped (ruled_at link.0 r) edit) at in
         let same : next ≡ (edit.0, set_entry edit.1 link.0 entry) = cc in
-        let left : left_by (all_wanted rest t) (set_entry edit.1 link.0 entry) ≡ left_by (all_wanted all t) t =
-        sym (left_more ((link.0, entry) ∷ []) (all_wanted rest t) edit.1) ∙ sym (ap (λ r. left_by (concluded_after (ruled_at link.0 r) (λ left. all_wanted rest t) t) edit.1) at) ∙ come.leave in
-        record { begun = ap (λ e. e.0) same ∙ come.begun; leave = ap (λ (e : Entries × Entries). left_by (all_wanted rest t) e.1) same ∙ left; at_slots = All-tail (λ link. is_slot link.0 ≡ true) link rest come.at_slots }
+        let left : left_by (all_wanted rest begun.1) (set_entry edit.1 link.0 entry) ≡ left_by (all_wanted all begun.1) begun.1 =
+        sym (left_more ((link.0, entry) ∷ []) (all_wanted rest begun.1) edit.1)
+        ∙ sym (ap (λ r. left_by (concluded_after (ruled_at link.0 r) (λ left. all_wanted rest begun.1) begun.1) edit.1) at) ∙ come.leave in
+        record {
+          first = ap (λ e. e.0) same ∙ come.first;
+          leave = ap (λ (e : Entries × Entries). left_by (all_wanted rest begun.1) e.1) same ∙ left;
+          at_slots = All-tail (λ link. is_slot link.0 ≡ true) link rest come.at_slots;
+        }
     by_ruling (Err refusal) at =
         let made : Ok next ≡ stepped (ruled_at link.0 (Err refusal)) edit = is ∙ ap (λ r. stepped (ruled_at link.0 r) edit) at in cc
 
 -- something is in the way of one
-pub one_refused : (t : Entries) (edit : Entries × Entries) (refusal : Refusal) (link : Link) (rest all : List Link) → AreComing t edit (link ∷ rest) all
-    → Err refusal ≡ stepped (ruled_at link.0 (ruling_at t link)) edit → Err refusal ≡ stepped (all_wanted all t) (t, t)
-one_refused t edit refusal link rest all come is = by_ruling (ruling_at t link) refl
+pub one_refused : (begun edit : Entries × Entries) (refusal : Refusal) (link : Link) (rest all : List Link) → AreComing begun edit (link ∷ rest) all
+    → Err refusal ≡ stepped (ruled_at link.0 (ruling_at begun.1 link)) edit → Err refusal ≡ stepped (all_wanted all begun.1) begun
+one_refused begun edit refusal link rest all come is = by_ruling (ruling_at begun.1 link) refl
   where
-    by_ruling : (r : Result (Option Entry) Refusal) → ruling_at t link ≡ r → Err refusal ≡ stepped (all_wanted all t) (t, t)
+    by_ruling : (r : Result (Option Entry) Refusal) → ruling_at begun.1 link ≡ r → Err refusal ≡ stepped (all_wanted all begun.1) begun
     by_ruling (Ok entry) at =
         let made : Err refusal ≡ stepped (ruled_at link.0 (Ok entry)) edit = is ∙ ap (λ r. stepped (ruled_at link.0 r) edit) at in cc
     by_ruling (Err other) at =
         let made : Err refusal ≡ stepped (ruled_at link.0 (Err other)) edit = is ∙ ap (λ r. stepped (ruled_at link.0 r) edit) at in
         let same : other ≡ refusal = cc in
-        begun_err (all_wanted all t) t refusal
-        (sym come.leave ∙ ap (λ r. left_by (concluded_after (ruled_at link.0 r) (λ left. all_wanted rest t) t) edit.1) at ∙ ap (λ (e : Refusal). Err e) same)
+        begun_err (all_wanted all begun.1) begun refusal
+        (sym come.leave ∙ ap (λ r. left_by (concluded_after (ruled_at link.0 r) (λ left. all_wanted rest begun.1) begun.1) edit.1) at ∙ ap (λ (e : Refusal). Err e) same)
 
 -- all are made
-pub all_made : (t : Entries) (edit : Entries × Entries) (all : List Link) → AreComing t edit [] all → Ok edit ≡ stepped (all_wanted all t) (t, t)
-all_made t edit all come = begun_ok (all_wanted all t) t edit come.begun (sym come.leave)
+pub all_made : (begun edit : Entries × Entries) (all : List Link) → AreComing begun edit [] all → Ok edit ≡ stepped (all_wanted all begun.1) begun
+all_made begun edit all come = begun_ok (all_wanted all begun.1) begun edit come.first (sym come.leave)
 
 -- whether a path comes before another or is the same
 abbrev upto : List ℕ → List ℕ → Bool

@@ -27,6 +27,10 @@ abbrev pub GoesOn : Step → Entries × Entries → (before after : List Key) �
 GoesOn step edit before after done = (done ≡ stepped (step.conclusion edit.1) edit) × (after ≡ before ++ step.keys edit.1)
 
 -- For functions that carry out a command: they tell what it tells, and edit the tree as its step says.
+abbrev pub CarriesOn : Command → Entries × Entries → (before after : List Key) → NoticeMap → Result (Entries × Entries) Refusal → Type 0
+CarriesOn command edit before after notices done =
+    (notices ≡ (command.conclusion edit.1).0) × GoesOn (command.conclusion edit.1).1 edit (before ++ command.keys edit.1) after done
+
+-- the same, where nothing has been edited yet
 abbrev pub Carries : Command → Entries → (before after : List Key) → NoticeMap → Result (Entries × Entries) Refusal → Type 0
-Carries command t before after notices done =
-    (notices ≡ (command.conclusion t).0) × GoesOn (command.conclusion t).1 (t, t) (before ++ command.keys t) after done
+Carries command t = CarriesOn command (t, t)

@@ -2,6 +2,7 @@ pub mod Keys
 pub mod Order
 pub mod OrderLaws
 pub mod Readings
+pub mod Merging
 pub mod Seeing
 pub mod KeyLaws
 pub mod Inquiry

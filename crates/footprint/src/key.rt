@@ -1,7 +1,7 @@
 //! What an operation looks at.
 ghost use Rattle.std.specs.Prelude.{◌≡◌, IfOk};
 ghost use Rattle.unit_paths.specs.Slots.{slot_of};
-ghost use Rattle.footprint.specs.Keys.{is_preset, is_dependency, selects};
+ghost use Rattle.footprint.specs.Keys.{is_cell, is_preset, is_dependency, selects};
 ghost use Rattle.footprint.specs.Order.{rank};
 
 use link_tree::{Entry, Scope, Slot, TreePath, belongs};
@@ -45,6 +45,13 @@ impl Key {
             Key::Presets => Ok(Key::Presets),
             Key::Links => Ok(Key::Links),
         }
+    }
+
+    /// Whether it looks at what stands at a path.
+    pub(crate) fn is_cell(&self) -> bool
+        ensures { result ≡ is_cell self.now }
+    {
+        matches!(self, Key::Cell(_))
     }
 
     /// Where keys of its kind come among others.

@@ -1,9 +1,10 @@
 //! Keys that were looked at.
-ghost use Rattle.std.specs.Prelude.{◌≡◌, ◌++◌, ◌∷◌, [], IfOk, OnOk, OnErr, map as list_map};
+ghost use Rattle.std.specs.Prelude.{◌≡◌, ◌++◌, ◌∷◌, [], All, IfOk, OnOk, OnErr, map as list_map};
 ghost use Rattle.std.specs.FinMap as map;
 ghost use Rattle.footprint.specs.declared.key.Key.TheVariants as keys;
 ghost use Rattle.footprint.specs.Order.{set_of};
 ghost use Rattle.footprint.specs.Readings.{observed, reading_of};
+ghost use Rattle.footprint.specs.Seeing.{SeesTheSame};
 
 use crate::key::Key;
 use crate::reading::{Observation, Reading};
@@ -122,13 +123,14 @@ impl KeySet {
         Ok(these)
     }
 
-    /// What each key sees of a tree.
-    fn read(self, alloc: Global, tree: &Tree) -> Result<Reading, AllocError>
+    /// What each key sees of a tree, where those that are no cells see the same of what was gathered from it.
+    fn read(self, alloc: Global, tree: &Tree, gathered: &Tree) -> Result<Reading, AllocError>
+        requires { All (SeesTheSame gathered.now tree.now) (map.keys self) }
         ensures { IfOk result (λ reading. reading ≡ list_map (observed tree.now) (map.keys self)) }
     {
         let mut reading = Reading::none(alloc);
         for key in self.keys {
-            let seen = key.seen(alloc, tree)?;
+            let seen = key.seen_among(alloc, tree, gathered)?;
             reading.push(Observation { key, seen })?;
         }
         Ok(reading)
@@ -141,6 +143,7 @@ impl Reading {
     pub fn of(alloc: Global, tree: &Tree, keys: Keys) -> Result<Reading, AllocError>
         ensures { IfOk result (λ reading. reading ≡ reading_of keys tree.now) }
     {
-        KeySet::of(alloc, keys)?.read(alloc, tree)
+        let gathered = keys.gathered(alloc, tree)?;
+        KeySet::of(alloc, keys)?.read(alloc, tree, &gathered)
     }
 }

@@ -9,6 +9,7 @@ mod key;
 mod keys;
 mod laws;
 mod looking;
+mod merging;
 mod net;
 mod operation;
 mod outcome;

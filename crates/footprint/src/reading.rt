@@ -1,11 +1,10 @@
 //! What an operation looked at, with what it saw.
 ghost use Rattle.std.specs.Prelude.{◌≡◌, ◌++◌, ◌∷◌, [], IfOk, OnOk, OnErr, MatchResult};
-ghost use Rattle.footprint.specs.Readings.{keys_of, HoldsIn, IsFirstOther};
+ghost use Rattle.footprint.specs.Readings.{HoldsIn, IsFirstOther};
 
 use crate::key::Key;
-use crate::keys::Keys;
 use link_tree::{Entry, Tree, copy_of};
-use smallvec::SmallVec;
+use smallvec::{IntoIter, SmallVec};
 use std::alloc::{AllocError, Global};
 use std::marker::Model;
 
@@ -68,6 +67,9 @@ impl Observation {
 /// How many observations a reading keeps without memory of its own: most commands look at one cell or two.
 const FEW: usize = 2;
 
+/// Observations that are taken one after another.
+pub(crate) type Observations = IntoIter<Observation, FEW>;
+
 /// The keys that an operation looked at, each once and in order, and what each saw of the tree. Contracts see the list.
 #[derive(Debug, Drop)]
 pub struct Reading {
@@ -113,15 +115,11 @@ impl Reading {
         self.observations.as_slice()
     }
 
-    /// The keys alone, in their order.
-    pub(crate) fn into_keys(self, alloc: Global) -> Result<Keys, AllocError>
-        ensures { IfOk result (λ keys. keys ≡ keys_of self) }
+    /// The observations, to be taken one after another.
+    pub(crate) fn into_observations(self) -> Observations
+        ensures { result ≡ self }
     {
-        let mut keys = Keys::none(alloc);
-        for observation in self.observations {
-            keys.push(observation.key)?;
-        }
-        Ok(keys)
+        self.observations.into_iter()
     }
 
     /// A copy of the reading. Fails only where memory runs out.

@@ -1,9 +1,10 @@
 //! What keys see of trees.
-ghost use Rattle.std.specs.Prelude.{◌≡◌, All, IfOk, Some, true, false};
+ghost use Rattle.std.specs.Prelude.{◌≡◌, not, All, IfOk, Some, true, false};
+ghost use Rattle.std.specs.List.{filter};
 ghost use Rattle.std.specs.FinMap as map;
 ghost use Rattle.footprint.specs.Keys as keys;
 ghost use Rattle.footprint.specs.Keys.{part, is_cell, selects, those, any_selects};
-ghost use Rattle.footprint.specs.Seeing.{AllStand, AllSelected};
+ghost use Rattle.footprint.specs.Seeing.{AllStand, AllSelected, SeesTheSame};
 ghost use Rattle.footprint.specs.Readings.{Holds};
 
 use crate::key::Key;
@@ -18,9 +19,22 @@ impl Key {
     pub(crate) fn seen(&self, alloc: Global, tree: &Tree) -> Result<Seen, AllocError>
         ensures { IfOk result (λ seen. seen ≡ keys.seen self.now tree.now) }
     {
+        self.seen_among(alloc, tree, tree)
+    }
+
+    /// The same: a cell looks into the tree, another key at what was gathered from it.
+    pub(crate) fn seen_among(
+        &self,
+        alloc: Global,
+        tree: &Tree,
+        gathered: &Tree,
+    ) -> Result<Seen, AllocError>
+        requires { SeesTheSame gathered.now tree.now self.now }
+        ensures { IfOk result (λ seen. seen ≡ keys.seen self.now tree.now) }
+    {
         match self {
             Key::Cell(path) => Ok(Seen::Entry(copied(tree.get(path))?)),
-            key => Ok(Seen::Entries(key.entries(alloc, tree)?)),
+            key => Ok(Seen::Entries(key.entries(alloc, gathered)?)),
         }
     }
 
@@ -60,6 +74,33 @@ impl Keys {
             }
         }
         Ok(found)
+    }
+}
+
+impl Keys {
+    /// Those of the keys that are no cells.
+    fn sets(&self, alloc: Global) -> Result<Keys, AllocError>
+        ensures { IfOk result (λ sets. sets ≡ filter (λ key. not (is_cell key)) self.now) }
+    {
+        let mut sets = Keys::none(alloc);
+        for key in self.as_slice() {
+            if !key.is_cell() {
+                sets.push(key.copy()?)?;
+            }
+        }
+        Ok(sets)
+    }
+
+    /// A tree in which the keys that are no cells see what they see in this one. Where there are several, it has but the entries at
+    /// which one of them looks, so that the whole tree is walked once for all of them.
+    pub(crate) fn gathered(&self, alloc: Global, tree: &Tree) -> Result<Tree, AllocError>
+        ensures { IfOk result (λ gathered. All (SeesTheSame gathered tree.now) self.now) }
+    {
+        let sets = self.sets(alloc)?;
+        if sets.as_slice().len() < 2 {
+            return tree.share();
+        }
+        sets.entries_of(alloc, tree)
     }
 }
 

@@ -1,10 +1,10 @@
 //! Two operations, one after the other.
-ghost use Rattle.std.specs.Prelude.{◌≡◌, ◌++◌, [], if◌then◌else◌, All, true, IfOk};
+ghost use Rattle.std.specs.Prelude.{◌≡◌, [], if◌then◌else◌, All, true, IfOk};
 ghost use Rattle.unit_paths.specs.Slots.{is_slot};
 ghost use Rattle.link_tree.specs.Trees.{AreFrom, after_changes};
+ghost use Rattle.footprint.specs.Merging.{IsReading};
 ghost use Rattle.footprint.specs.Net.{net};
 ghost use Rattle.footprint.specs.Operations.{AreChanges, is_refused, outcome_of};
-ghost use Rattle.footprint.specs.Readings.{keys_of, reading_of};
 ghost use Rattle.footprint.specs.Then.{answer_of_both, outcome_of_both};
 
 use crate::answer::Answer;
@@ -12,7 +12,6 @@ use crate::changes::Changes;
 use crate::net::net_changes;
 use crate::operation::Operation;
 use crate::outcome::Outcome;
-use crate::reading::Reading;
 use link_tree::Tree;
 use std::alloc::{AllocError, Global};
 
@@ -70,27 +69,20 @@ fn changes_of_both(
     net_changes(alloc, tree, first, second)
 }
 
-impl Reading {
-    /// The reading of the tree by the keys of both.
-    fn and_then(self, alloc: Global, tree: &Tree, later: Reading) -> Result<Reading, AllocError>
-        ensures { IfOk result (λ reading. reading ≡ reading_of (keys_of self ++ keys_of later) tree.now) }
-    {
-        let mut keys = self.into_keys(alloc)?;
-        keys.append(later.into_keys(alloc)?)?;
-        Reading::of(alloc, tree, keys)
-    }
-}
-
 impl Outcome {
     /// The outcome of both on the tree, where the later one is that on the tree after the changes of this one.
     fn and_then(self, alloc: Global, tree: &Tree, later: Outcome) -> Result<Outcome, AllocError>
         requires first { AreChanges tree.now self.changes }
         requires second { AreChanges (after_changes self.changes tree.now) later.changes }
+        requires first_reading { IsReading tree.now self.reading }
+        requires second_reading { IsReading (after_changes self.changes tree.now) later.reading }
         ensures { IfOk result (λ outcome. outcome ≡ outcome_of_both tree.now self later) }
     {
         let refused = later.answer.is_refused();
         let changes = changes_of_both(alloc, tree, &self.changes, &later.changes, refused)?;
-        let reading = self.reading.and_then(alloc, tree, later.reading)?;
+        let reading = self
+            .reading
+            .and_then(alloc, tree, &self.changes, later.reading)?;
         let answer = self.answer.and_then(later.answer)?;
         Ok(Outcome {
             answer,

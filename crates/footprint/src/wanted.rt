@@ -91,6 +91,13 @@ impl WantedLinks {
         Ok(())
     }
 
+    /// At a slot nothing is wanted any longer: what stands there stays.
+    pub fn leave(&mut self, slot: &TreePath)
+        ensures { self.new ≡ map.remove self.old slot.now }
+    {
+        self.by_path.remove(slot);
+    }
+
     /// Adds the cell of each slot, in byte order of the paths.
     fn push_cells(&self, keys: &mut Keys) -> Result<(), AllocError>
         ensures { OnOk result (keys.new ≡ keys.old ++ list_map Cell (map.keys self.now)) }
@@ -103,21 +110,22 @@ impl WantedLinks {
 }
 
 impl<'a> Edit<'a> {
-    /// Makes all links that are wanted in a tree, and takes away what is not to stand. The cell of each slot is added to the keys,
-    /// also where something else stands or nothing is done. `Exists` names the least path, in byte order, where something is in the
-    /// way of a link. The outer error is want of memory alone.
+    /// Makes all links that are wanted in the tree as it is now, and takes away what is not to stand. The cell of each slot is added
+    /// to the keys, also where something else stands or nothing is done. `Exists` names the least path, in byte order, where
+    /// something is in the way of a link. The outer error is want of memory alone.
     pub fn all_at_once(
+        self,
         alloc: Global,
-        tree: &'a Tree,
         wanted: &WantedLinks,
         keys: &mut Keys,
     ) -> Result<Result<Edit<'a>, Refusal>, AllocError>
-        ensures { IfOk result (GoesOn (all_at_once wanted.now) (tree.now, tree.now) keys.old keys.new) }
+        ensures { IfOk result (GoesOn (all_at_once wanted.now) self.entry keys.old keys.new) }
     {
         wanted.push_cells(keys)?;
-        let mut edit = Edit::new(alloc, tree)?;
+        let before = self.tree().copy()?;
+        let mut edit = self;
         for (slot, file) in wanted.by_path.iter() {
-            let ruled = wanted_at(alloc, file.as_ref(), slot, tree.get(slot))?;
+            let ruled = wanted_at(alloc, file.as_ref(), slot, before.get(slot))?;
             match edit.ruled(slot, ruled)? {
                 Ok(next) => edit = next,
                 Err(refusal) => return Ok(Err(refusal)),

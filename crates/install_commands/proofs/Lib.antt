@@ -3,5 +3,13 @@ pub mod Checked
 pub mod Placed
 pub mod Enabled
 pub mod Named
+pub mod Removal
 pub mod Disabled
 pub mod Marks
+pub mod InTurn
+pub mod Composites
+pub mod Reenabled
+pub mod Verdicts
+pub mod Presetting
+pub mod Nobody
+pub mod PresetTwice

@@ -48,7 +48,7 @@ no_values : map.entries (map.empty {K = List ℕ} {X = Change} {R = path_cmp}) �
 no_values = same_entries path_cmp nat_list_cmp_total exact_bytes (map.entries map.empty) [] (map.entries_sorted map.empty) tt (λ q. sym (map.get-entries map.empty q) ∙ map.get-empty path_cmp q)
 
 -- a tree differs from itself nowhere
-none_between : (t : Entries) → changes_between t t ≡ []
+pub none_between : (t : Entries) → changes_between t t ≡ []
 unfolding changes_between
 none_between t = ap (λ m. map.values m) (differences-same t) ∙ ap (list_map (λ e. e.1)) no_values
 

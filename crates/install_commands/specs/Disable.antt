@@ -1,5 +1,6 @@
 -- Disabling units: systemctl(1), "disable".
 use Rattle.std.specs.Prelude.{ℕ, Bool, false, if◌then◌else◌, List, [], ◌∷◌, ◌++◌, Result, Ok, Err, map as list_map}
+use Rattle.std.specs.FinMap as map
 use Rattle.std.specs.Str.{bytes_eq}
 use Rattle.unit_paths.specs.declared.place.Scope.{Scope}
 use Rattle.load_path.specs.declared.finding.Found.{Found}
@@ -13,7 +14,7 @@ use Rattle.footprint.specs.declared.key.Key.TheVariants.{Marked}
 use Rattle.footprint.specs.Commands.{Command, telling, unless_refused, carried_out}
 use Rattle.footprint.specs.Inquiry.{Inquiry, over, by_cells, giving, entries_of_all, ◌>>=◌}
 use Rattle.footprint.specs.Operations.{Effect}
-use Rattle.footprint.specs.Placing.{cleared}
+use Rattle.footprint.specs.Placing.{Wanted, cleared}
 use Rattle.footprint.specs.Steps.{all_at_once}
 use Rattle.install_commands.specs.declared.disable.Disable.{Disable}
 use Rattle.install_commands.specs.declared.disable.Named.{Named}
@@ -67,11 +68,20 @@ units_named units = do
   reals ← reals_behind [] units
   reals_named units reals
 
--- the links of the scope that belong to one of the names go
-abbrev pub links_removed : Scope → Named → Command
-links_removed scope named = do
+-- what is wanted, but nothing at these paths: what stands there stays
+abbrev pub but_at : Wanted → (kept : List (List ℕ)) → Wanted
+but_at wanted [] = wanted
+but_at wanted (path ∷ paths) = but_at (map.remove wanted path) paths
+
+-- the links of the scope that belong to one of the names go, but those that are kept stay
+abbrev pub links_removed_but : Scope → (kept : List (List ℕ)) → Named → Command
+links_removed_but scope kept named = do
   links ← entries_of_all (list_map (Marked scope) named.names)
-  telling named.notices (all_at_once (cleared links))
+  telling named.notices (all_at_once (but_at (cleared links) kept))
+
+-- all of them go
+abbrev pub links_removed : Scope → Named → Command
+links_removed scope named = links_removed_but scope [] named
 
 -- units are disabled, and those that they name
 abbrev pub units_disabled : Scope → (units : List (List ℕ)) → Command

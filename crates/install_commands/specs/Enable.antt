@@ -55,23 +55,25 @@ to_stand links = with_links map.empty (map.entries links)
 abbrev pub links_made : Wanted → Command
 links_made wanted = telling wanted.notices (all_at_once (to_stand wanted.links))
 
--- units are enabled, and those that they name
+-- the links that units want, which are checked before
+abbrev pub checked_want : Scope → (skip : Bool) → (units : List (List ℕ)) → Inquiry (Result Wanted Refusal)
+checked_want scope skip units = do
+  fine ← checked units
+  going_on (λ fine. units_want scope skip units) fine
+
+-- Units are checked, and enabled, and those that they name.
 abbrev pub units_enabled : Scope → (skip : Bool) → (units : List (List ℕ)) → Command
 units_enabled scope skip units = do
-  wanted ← units_want scope skip units
+  wanted ← checked_want scope skip units
   unless_refused links_made wanted
-
--- the units are checked before
-abbrev pub enable_wants : Enable → Inquiry (Result Wanted Refusal)
-enable_wants enable = do
-  fine ← checked enable.units
-  going_on (λ fine. units_want enable.scope false enable.units) fine
 
 abbrev pub enable_command : Enable → Command
-enable_command enable = do
-  wanted ← enable_wants enable
-  unless_refused links_made wanted
+enable_command enable = units_enabled enable.scope false enable.units
 
 -- What the command asks of a tree, and what effect that has.
 abbrev pub enable_meaning : Enable → Inquiry Effect
 enable_meaning enable = carried_out (enable_command enable)
+
+-- what decides whether it is refused before a link is looked at, and which links it wants
+abbrev pub enable_wants : Enable → Inquiry (Result Wanted Refusal)
+enable_wants enable = checked_want enable.scope false enable.units

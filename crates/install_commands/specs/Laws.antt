@@ -5,6 +5,7 @@ use Rattle.std.specs.Str.{bytes_eq}
 use Rattle.std.specs.FinMap as map
 use Rattle.unit_file.specs.Notices.{NoticeMap}
 use Rattle.unit_paths.specs.Places.{scope_place}
+use Rattle.unit_paths.specs.declared.place.Scope.{Scope}
 use Rattle.link_tree.specs.declared.entry.Entry.{Entry}
 use Rattle.link_tree.specs.declared.entry.Entry.TheVariants.{Link}
 use Rattle.link_tree.specs.Links.{belongs}
@@ -47,8 +48,11 @@ abbrev pub CheckPasses : Type 0
 CheckPasses = (names : List (List ℕ)) (t : Entries) → ((checked names).conclusion t ≡ Ok tt) ↔ All (IsUnit t) names
 
 -- One of the units, or of those that they name in turn, asks for a link at the path, to the file.
+abbrev pub IsWantedBy : Scope → (units : List (List ℕ)) → Entries → (path file : List ℕ) → Type 0
+IsWantedBy scope units t path file = (unit : List ℕ) × Reached t units unit × AsksFor t (scope_place scope) unit path file
+
 abbrev pub IsWanted : Enable → Entries → (path file : List ℕ) → Type 0
-IsWanted enable t path file = (unit : List ℕ) × Reached t enable.units unit × AsksFor t (scope_place enable.scope) unit path file
+IsWanted enable t path file = IsWantedBy enable.scope enable.units t path file
 
 -- A tree with more links: what stood stands, and where nothing stood the links do that are wanted there.
 abbrev pub JoinedWith : (wanted : (path file : List ℕ) → Type 0) → (t u : Entries) → Type 0
@@ -78,8 +82,11 @@ pub data IsNamed (t : Entries) (units : List (List ℕ)) (name : List ℕ) : Typ
   Also : GoesWith t units name → IsNamed t units name
 
 -- A link of the scope belongs to one of the names.
+abbrev pub IsGone : Scope → (units : List (List ℕ)) → Entries → (path : List ℕ) → Entry → Type 0
+IsGone scope units t path entry = (name : List ℕ) × IsNamed t units name × (belongs scope name path entry ≡ true)
+
 abbrev pub IsRemoved : Disable → Entries → (path : List ℕ) → Entry → Type 0
-IsRemoved disable t path entry = (name : List ℕ) × IsNamed t disable.units name × (belongs disable.scope name path entry ≡ true)
+IsRemoved disable t path entry = IsGone disable.scope disable.units t path entry
 
 -- A tree without some of its entries.
 abbrev pub Without : (gone : (path : List ℕ) → Entry → Type 0) → (t u : Entries) → Type 0

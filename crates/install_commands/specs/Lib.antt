@@ -1,4 +1,9 @@
 pub mod Check
 pub mod Enable
 pub mod Disable
+pub mod Reenable
+pub mod Preset
+pub mod Following
+pub mod BothLaws
 pub mod Laws
+pub mod CompositeLaws

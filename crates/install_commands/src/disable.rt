@@ -2,16 +2,16 @@
 ghost use Rattle.std.specs.Prelude.{◌≡◌, ◌++◌, [], map as list_map, IfOk, OnOk};
 ghost use Rattle.footprint.specs.declared.key.Key.TheVariants.{Marked};
 ghost use Rattle.load_path.specs.Search.{with_cell, each_once};
-ghost use Rattle.footprint.specs.Edits.{Carries};
+ghost use Rattle.footprint.specs.Edits.{Carries, CarriesOn};
 ghost use Rattle.footprint.specs.Inquiry.{Asks};
-ghost use Rattle.install_commands.specs.Disable.{with_real, reals_behind, is_itself, with_self, selves_behind, selves_named, reals_named, links_removed, disable_command};
+ghost use Rattle.install_commands.specs.Disable.{with_real, reals_behind, is_itself, with_self, selves_behind, selves_named, reals_named, but_at, disable_command};
 ghost use Rattle.footprint.specs.Commands.{unless_refused};
 ghost use Rattle.install_commands.specs.Disable as disabling;
 
 use crate::enable::closed;
 use footprint::{Edit, Key, Keys, Notices, Operation, Outcome, Refusal, Units, WantedLinks};
-use link_tree::{Scope, Tree};
-use load_path::Found;
+use link_tree::{Scope, Tree, TreePath};
+use load_path::{Cells, Found};
 use std::alloc::{AllocError, Global};
 use unit_name::UnitName;
 
@@ -27,9 +27,9 @@ pub struct Disable {
 
 /// The names whose links go, with what is told of skipped words.
 #[derive(Debug, Drop)]
-struct Named {
-    names: Units,
-    notices: Notices,
+pub(crate) struct Named {
+    pub names: Units,
+    pub notices: Notices,
 }
 
 /// Adds the own name of what was found, if that is a unit.
@@ -168,7 +168,7 @@ fn reals_named(
 
 /// The names: those that are given, the own names of those that are found as units, and the closure of those of them that are found
 /// as themselves. The outer error is want of memory alone.
-fn units_named(
+pub(crate) fn units_named(
     alloc: Global,
     tree: &Tree,
     units: &[UnitName],
@@ -191,51 +191,63 @@ fn marks(alloc: Global, scope: Scope, names: &[UnitName]) -> Result<Keys, AllocE
     Ok(marks)
 }
 
-/// The links of the scope that belong to one of the names go, unless there was a refusal.
-fn removed<'a>(
+/// What is wanted, but nothing at these paths: what stands there stays.
+fn leave_all(wanted: &mut WantedLinks, kept: &[TreePath])
+    ensures { wanted.new ≡ but_at wanted.old kept.now }
+{
+    for path in kept {
+        wanted.leave(path);
+    }
+}
+
+/// The links of the scope that belong to one of the names go, but those that are kept stay.
+pub(crate) fn links_removed_but<'a>(
     alloc: Global,
-    tree: &'a Tree,
+    edit: Edit<'a>,
+    scope: Scope,
+    kept: &[TreePath],
+    named: Named,
+    keys: &mut Keys,
+) -> Result<(Notices, Result<Edit<'a>, Refusal>), AllocError>
+    ensures { IfOk result (λ done. CarriesOn (disabling.links_removed_but scope kept.now named) edit.entry keys.old keys.new done.0 done.1) }
+{
+    let marks = marks(alloc, scope, named.names.as_slice())?;
+    let links = keys.entries_of_all(alloc, edit.tree(), marks)?;
+    let mut wanted = WantedLinks::cleared(alloc, &links)?;
+    leave_all(&mut wanted, kept);
+    let done = edit.all_at_once(alloc, &wanted, keys)?;
+    Ok((named.notices, done))
+}
+
+/// All links of the scope that belong to one of the names go, unless there was a refusal.
+pub(crate) fn links_removed<'a>(
+    alloc: Global,
+    edit: Edit<'a>,
     scope: Scope,
     named: Result<Named, Refusal>,
     keys: &mut Keys,
 ) -> Result<(Notices, Result<Edit<'a>, Refusal>), AllocError>
-    ensures { IfOk result (λ done. Carries (unless_refused (links_removed scope) named) tree.now keys.old keys.new done.0 done.1) }
+    ensures { IfOk result (λ done. CarriesOn (unless_refused (disabling.links_removed scope) named) edit.entry keys.old keys.new done.0 done.1) }
 {
     match named {
-        Ok(named) => links_removed(alloc, tree, scope, named, keys),
+        Ok(named) => links_removed_but(alloc, edit, scope, &[], named, keys),
         Err(refusal) => Ok((Notices::none(alloc), Err(refusal))),
     }
 }
 
-/// The links of the scope that belong to one of the names go.
-fn links_removed<'a>(
-    alloc: Global,
-    tree: &'a Tree,
-    scope: Scope,
-    named: Named,
-    keys: &mut Keys,
-) -> Result<(Notices, Result<Edit<'a>, Refusal>), AllocError>
-    ensures { IfOk result (λ done. Carries (links_removed scope named) tree.now keys.old keys.new done.0 done.1) }
-{
-    let marks = marks(alloc, scope, named.names.as_slice())?;
-    let links = keys.entries_of_all(alloc, tree, marks)?;
-    let wanted = WantedLinks::cleared(alloc, &links)?;
-    let done = Edit::all_at_once(alloc, tree, &wanted, keys)?;
-    Ok((named.notices, done))
-}
-
-/// Units are disabled, and those that they name.
-pub(crate) fn units_disabled<'a>(
-    alloc: Global,
-    tree: &'a Tree,
-    scope: Scope,
-    units: &[UnitName],
-    keys: &mut Keys,
-) -> Result<(Notices, Result<Edit<'a>, Refusal>), AllocError>
-    ensures { IfOk result (λ done. Carries (disabling.units_disabled scope units.now) tree.now keys.old keys.new done.0 done.1) }
-{
-    let named = units_named(alloc, tree, units, keys)?;
-    removed(alloc, tree, scope, named, keys)
+impl Disable {
+    fn carried_out<'a>(
+        &self,
+        alloc: Global,
+        tree: &'a Tree,
+        keys: &mut Keys,
+    ) -> Result<(Notices, Result<Edit<'a>, Refusal>), AllocError>
+        ensures { IfOk result (λ done. Carries (disable_command self.now) tree.now keys.old keys.new done.0 done.1) }
+    {
+        let edit = Edit::new(alloc, tree)?;
+        let named = units_named(alloc, tree, self.units.as_slice(), keys)?;
+        links_removed(alloc, edit, self.scope, named, keys)
+    }
 }
 
 impl Operation for Disable {
@@ -249,13 +261,7 @@ impl Operation for Disable {
 
     fn run(&self, alloc: Global, tree: &Tree) -> Result<Outcome, AllocError> {
         let mut keys = Keys::none(alloc);
-        let (notices, done) = units_disabled(
-            alloc,
-            tree,
-            self.scope,
-            self.units.as_slice(),
-            &mut keys,
-        )?;
+        let (notices, done) = self.carried_out(alloc, tree, &mut keys)?;
         Outcome::of(alloc, tree, keys, notices, done)
     }
 

@@ -1,10 +1,10 @@
 //! enable.
 ghost use Rattle.std.specs.Prelude.{◌≡◌, IfOk};
 ghost use Rattle.install_section.specs.Closure as closures;
-ghost use Rattle.footprint.specs.Edits.{Carries};
+ghost use Rattle.footprint.specs.Edits.{Carries, CarriesOn};
 ghost use Rattle.footprint.specs.Inquiry.{Asks, by_cells, giving};
 ghost use Rattle.install_commands.specs.Enable as enabling;
-ghost use Rattle.install_commands.specs.Enable.{unless_too_many, to_stand, links_made, enable_wants, enable_command};
+ghost use Rattle.install_commands.specs.Enable.{unless_too_many, to_stand, links_made, enable_command};
 ghost use Rattle.footprint.specs.Commands.{unless_refused};
 
 use crate::check::checked;
@@ -91,6 +91,23 @@ fn units_want(
     }
 }
 
+/// The links that units want, which are checked before: each is found, and is no alias. The outer error is want of memory alone.
+fn checked_want(
+    alloc: Global,
+    tree: &Tree,
+    scope: Scope,
+    skip: bool,
+    units: &[UnitName],
+    keys: &mut Keys,
+) -> Result<Result<Wanted, Refusal>, AllocError>
+    ensures { IfOk result (Asks tree.now (enabling.checked_want scope skip units.now) keys.old keys.new) }
+{
+    match checked(alloc, tree, units, keys)? {
+        Ok(()) => units_want(alloc, tree, scope, skip, units, keys),
+        Err(refusal) => Ok(Err(refusal)),
+    }
+}
+
 /// A link is to stand at each of the paths.
 fn to_stand(alloc: Global, links: &Links) -> Result<WantedLinks, AllocError>
     ensures { IfOk result (λ wanted. wanted ≡ to_stand links.now) }
@@ -105,53 +122,39 @@ fn to_stand(alloc: Global, links: &Links) -> Result<WantedLinks, AllocError>
 /// The links that are wanted are made, all at once, unless there was a refusal.
 fn made<'a>(
     alloc: Global,
-    tree: &'a Tree,
+    edit: Edit<'a>,
     wanted: Result<Wanted, Refusal>,
     keys: &mut Keys,
 ) -> Result<(Notices, Result<Edit<'a>, Refusal>), AllocError>
-    ensures { IfOk result (λ done. Carries (unless_refused links_made wanted) tree.now keys.old keys.new done.0 done.1) }
+    ensures { IfOk result (λ done. CarriesOn (unless_refused links_made wanted) edit.entry keys.old keys.new done.0 done.1) }
 {
     match wanted {
         Ok(wanted) => {
             let links = to_stand(alloc, &wanted.links)?;
-            let done = Edit::all_at_once(alloc, tree, &links, keys)?;
+            let done = edit.all_at_once(alloc, &links, keys)?;
             Ok((wanted.notices, done))
         }
         Err(refusal) => Ok((Notices::none(alloc), Err(refusal))),
     }
 }
 
-/// Units are enabled, and those that they name; with `skip` a word that would need an instance asks for nothing.
+/// Units are checked, and enabled, and those that they name; with `skip` a word that would need an instance asks for nothing. The
+/// error is want of memory alone.
 pub(crate) fn units_enabled<'a>(
     alloc: Global,
-    tree: &'a Tree,
+    edit: Edit<'a>,
     scope: Scope,
     skip: bool,
     units: &[UnitName],
     keys: &mut Keys,
 ) -> Result<(Notices, Result<Edit<'a>, Refusal>), AllocError>
-    ensures { IfOk result (λ done. Carries (enabling.units_enabled scope skip units.now) tree.now keys.old keys.new done.0 done.1) }
+    ensures { IfOk result (λ done. CarriesOn (enabling.units_enabled scope skip units.now) edit.entry keys.old keys.new done.0 done.1) }
 {
-    let wanted = units_want(alloc, tree, scope, skip, units, keys)?;
-    made(alloc, tree, wanted, keys)
+    let wanted = checked_want(alloc, edit.tree(), scope, skip, units, keys)?;
+    made(alloc, edit, wanted, keys)
 }
 
 impl Enable {
-    /// The links that the units want, which are checked before.
-    fn wants(
-        &self,
-        alloc: Global,
-        tree: &Tree,
-        keys: &mut Keys,
-    ) -> Result<Result<Wanted, Refusal>, AllocError>
-        ensures { IfOk result (Asks tree.now (enable_wants self.now) keys.old keys.new) }
-    {
-        match checked(alloc, tree, self.units.as_slice(), keys)? {
-            Ok(()) => units_want(alloc, tree, self.scope, false, self.units.as_slice(), keys),
-            Err(refusal) => Ok(Err(refusal)),
-        }
-    }
-
     fn carried_out<'a>(
         &self,
         alloc: Global,
@@ -160,8 +163,8 @@ impl Enable {
     ) -> Result<(Notices, Result<Edit<'a>, Refusal>), AllocError>
         ensures { IfOk result (λ done. Carries (enable_command self.now) tree.now keys.old keys.new done.0 done.1) }
     {
-        let wanted = self.wants(alloc, tree, keys)?;
-        made(alloc, tree, wanted, keys)
+        let edit = Edit::new(alloc, tree)?;
+        units_enabled(alloc, edit, self.scope, false, self.units.as_slice(), keys)
     }
 }
 

@@ -1,5 +1,6 @@
 mod again;
 mod checking;
+mod composites;
 mod disabling;
 mod enabling;
 mod large;

@@ -1,5 +1,5 @@
 -- The [Install] section of a unit that is looked up: systemd.unit(5), "[Install] Section Options".
-use Rattle.std.specs.Prelude.{ℕ, List, [], Option, Some, None}
+use Rattle.std.specs.Prelude.{ℕ, Bool, ◌&&◌, ◌==◌, List, [], Option, Some, None, length}
 use Rattle.unit_file.specs.Identity.{identity_of}
 use Rattle.unit_file.specs.Reading.{text_of}
 use Rattle.link_tree.specs.declared.entry.Entry.{Entry}
@@ -27,6 +27,11 @@ unfoldable pub section_of : (unit : List ℕ) → Search (Option Section)
 section_of unit = do
   found ← find unit
   section_by found
+
+-- whether a section names no unit and asks for no link: its four lists are empty
+abbrev pub is_empty : Section → Bool
+is_empty section =
+    length section.text.also == 0 && length section.text.alias == 0 && length section.text.wanted_by == 0 && length section.text.required_by == 0
 
 -- the name with which the words of a unit's section are expanded
 abbrev pub identity_in : (unit : List ℕ) → Section → List ℕ

@@ -7,7 +7,7 @@ ghost use Rattle.install_section.specs.Words.{named_by};
 
 use crate::closed::{Closed, Closure, ClosureError, ClosureFault};
 use crate::members::{MAX_UNITS, Members};
-use crate::section::{Section, section_of};
+use crate::section::{Section, section_into};
 use crate::word::{named_by, skipped};
 use indexmap::IndexSet;
 use link_tree::{Tree, TreePath};
@@ -114,7 +114,7 @@ fn with_unit(
 ) -> Result<Result<Closed, ClosureFault>, AllocError>
     ensures { IfOk result (λ grown. Finds tree.now (with_unit unit.now closed) cells.old cells.new grown) }
 {
-    let section = section_of(alloc, tree, unit, cells)?;
+    let section = section_into(alloc, tree, unit, cells)?;
     with_section(alloc, tree, unit, closed, section, cells)
 }
 

@@ -21,6 +21,7 @@ pub use laws::{
 };
 pub use links::Links;
 pub use members::{MAX_UNITS, Members};
+pub use section::{Section, section_into};
 pub use wanting::{wanted, wanted_into};
 pub use wants::{Wanted, WantedError, WantedFault};
 

@@ -3,7 +3,7 @@ ghost use Rattle.std.specs.Prelude.{◌≡◌, ◌≤◌, length, IfOk};
 ghost use Rattle.std.specs.Option.{option_copied};
 ghost use Rattle.unit_file.specs.Reading.{text_of};
 ghost use Rattle.load_path.specs.Search.{Finds};
-ghost use Rattle.install_section.specs.Sections.{bytes_in, section_by, section_of, identity_in};
+ghost use Rattle.install_section.specs.Sections.{bytes_in, section_by, section_of, is_empty, identity_in};
 
 use link_tree::{Entry, Tree, TreePath};
 use load_path::{Cells, Found, find_into};
@@ -11,25 +11,41 @@ use std::alloc::{AllocError, Global};
 use unit_file::{InstallError, InstallFault, InstallText, identity, install_of};
 use unit_name::UnitName;
 
-/// A unit's file, and what its [Install] section asks for.
+/// A unit's [Install] section.
 #[derive(Debug, Drop)]
-pub(crate) struct Section {
+pub struct Section {
+    /// Where the unit's file stands.
     pub file: TreePath,
+    /// What the section asks for.
     pub text: InstallText,
 }
 
 impl Section {
+    /// Whether it names no unit and asks for no link: the lists of `Also=`, `Alias=`, `WantedBy=` and `RequiredBy=` are empty.
+    pub fn is_empty(&self) -> bool
+        ensures { result ≡ is_empty self.now }
+    {
+        let text = &self.text;
+        text.also.is_empty()
+            && text.alias.is_empty()
+            && text.wanted_by.is_empty()
+            && text.required_by.is_empty()
+    }
+
     /// The name with which the words of a unit's section are expanded.
-    pub fn identity_of(&self, alloc: Global, unit: &UnitName) -> Result<UnitName, AllocError>
+    pub(crate) fn identity_of(&self, alloc: Global, unit: &UnitName) -> Result<UnitName, AllocError>
         ensures { IfOk result (λ name. name ≡ identity_in unit.now self.now) }
     {
         identity(alloc, unit, &self.text)
     }
 }
 
-/// Looks a unit up, and reads its section, with the paths that are looked at added to these.
+/// Looks a unit up, and reads its [Install] section: `None` where the name is no unit's. The paths that are looked at are added to
+/// these, and are those by which the unit is found. Fails only where memory runs out, and then some of them may have been added.
+///
+/// systemd.unit(5), "[Install] Section Options".
 #[tactic(auto, unfolding(crate::specs::Sections::section_of))]
-pub(crate) fn section_of(
+pub fn section_into(
     alloc: Global,
     tree: &Tree,
     unit: &UnitName,

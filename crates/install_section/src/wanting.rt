@@ -14,7 +14,7 @@ ghost use Rattle.install_section.specs.WantedErrors.{Gives};
 ghost use Rattle.install_section.specs.WishSlots.{IsAtSlot};
 
 use crate::links::Links;
-use crate::section::{Section, section_of};
+use crate::section::{Section, section_into};
 use crate::wants::{Wanted, WantedError, WantedFault, Wants};
 use crate::wish::{LinkKey, Wish, wish_of};
 use crate::word::skipped;
@@ -72,7 +72,7 @@ pub fn wanted_into(
 {
     let mut wants = Wants::none(alloc);
     for unit in units {
-        let section = section_of(alloc, tree, unit, cells)?;
+        let section = section_into(alloc, tree, unit, cells)?;
         wants.add_section(alloc, scope.place(), skip, unit, section)?;
     }
     Ok(wants.verdict())

@@ -2,8 +2,9 @@
 
 use crate::streams::{Faulty, Narrow};
 use byte_streams::MAX_INTERRUPTIONS;
-use link_tree::{InventoryError, WriteError, read_inventory, write_inventory};
+use link_tree::{InventoryError, Tree, WriteError, read_inventory, write_inventory};
 use std::alloc::Global;
+use std::process::Abort;
 use std::test::Fail;
 use unit_name::ample;
 use unit_script::{RunFault, run};
@@ -46,28 +47,35 @@ fn run_from(
     )
 }
 
+/// A run into the sink ends so, and the sink has taken these bytes then.
+fn assert_run(
+    rt: &impl Abort,
+    alloc: Global,
+    (until_failure, interruptions): (usize, u64),
+    sink: &mut Narrow,
+    (ended, taken): (Result<(), RunFault>, &[u8]),
+) {
+    let run = run_from(alloc, until_failure, interruptions, sink);
+    assert_eq!(rt; run, ended, "after {until_failure} bytes");
+    assert_eq!(rt; sink.taken(), taken);
+}
+
 #[test]
 fn a_run_answers_each_call(rt: HostRuntime) {
     let mut sink = Narrow::new(ALL, 7, true);
-    assert_eq!(rt; run_from(rt.alloc(), ALL, 0, &mut sink), Ok(()));
-    assert_eq!(rt; sink.taken(), OUTPUT);
+    assert_run(&rt, rt.alloc(), (ALL, 0), &mut sink, (Ok(()), OUTPUT));
 }
 
 #[test]
 fn a_source_may_fail_anywhere(rt: HostRuntime) {
     for k in 0..=INPUT.len() {
-        let mut sink = Narrow::new(ALL, ALL, true);
         let fault = match k {
             0..=19 => RunFault::InventoryRead(0),
             20..=23 => RunFault::InventoryRead(1),
             _ => RunFault::ReadFault,
         };
-        assert_eq!(rt;
-            run_from(rt.alloc(), k, 0, &mut sink),
-            Err(fault),
-            "after {k} bytes"
-        );
-        assert!(rt; sink.taken().is_empty());
+        let mut sink = Narrow::new(ALL, ALL, true);
+        assert_run(&rt, rt.alloc(), (k, 0), &mut sink, (Err(fault), b""));
     }
 }
 
@@ -75,33 +83,39 @@ fn a_source_may_fail_anywhere(rt: HostRuntime) {
 fn a_source_may_be_interrupted(rt: HostRuntime) {
     let most = u64::from(MAX_INTERRUPTIONS);
     let mut sink = Narrow::new(ALL, ALL, true);
-    assert_eq!(rt; run_from(rt.alloc(), ALL, most - 1, &mut sink), Ok(()));
-    assert_eq!(rt; sink.taken(), OUTPUT);
+    assert_run(
+        &rt,
+        rt.alloc(),
+        (ALL, most - 1),
+        &mut sink,
+        (Ok(()), OUTPUT),
+    );
+    let fault = RunFault::InventoryRead(0);
     let mut unused = Narrow::new(ALL, ALL, true);
-    let read = run_from(rt.alloc(), ALL, most, &mut unused);
-    assert_eq!(rt; read, Err(RunFault::InventoryRead(0)));
-    assert!(rt; unused.taken().is_empty());
+    assert_run(&rt, rt.alloc(), (ALL, most), &mut unused, (Err(fault), b""));
+}
+
+/// A run into the sink fails when it has taken so many bytes.
+fn assert_cut(rt: &impl Abort, alloc: Global, sink: &mut Narrow, sent: usize) {
+    let taken = OUTPUT.get(..sent).unwrap_or(&[]);
+    let fault = RunFault::WriteFault(sent);
+    assert_run(rt, alloc, (ALL, 0), sink, (Err(fault), taken));
 }
 
 #[test]
 fn a_sink_may_fail_anywhere(rt: HostRuntime) {
     for k in 0..OUTPUT.len() {
         let mut sink = Narrow::new(k, ALL, true);
-        let written = run_from(rt.alloc(), ALL, 0, &mut sink);
-        assert_eq!(rt; written, Err(RunFault::WriteFault(k)));
-        assert_eq!(rt; sink.taken(), OUTPUT.get(..k).unwrap_or(&[]));
+        assert_cut(&rt, rt.alloc(), &mut sink, k);
     }
 }
 
 #[test]
 fn a_sink_may_take_nothing_or_not_flush(rt: HostRuntime) {
     let mut idle = Narrow::new(ALL, 0, true);
-    let written = run_from(rt.alloc(), ALL, 0, &mut idle);
-    assert_eq!(rt; written, Err(RunFault::WriteFault(0)));
+    assert_cut(&rt, rt.alloc(), &mut idle, 0);
     let mut unflushed = Narrow::new(ALL, ALL, false);
-    let written = run_from(rt.alloc(), ALL, 0, &mut unflushed);
-    assert_eq!(rt; written, Err(RunFault::WriteFault(OUTPUT.len())));
-    assert_eq!(rt; unflushed.taken(), OUTPUT);
+    assert_cut(&rt, rt.alloc(), &mut unflushed, OUTPUT.len());
 }
 
 /// Two links in no order, and the same in byte order of path.
@@ -109,17 +123,30 @@ const LINKS: &[u8] = b"unitadm-inventory 1\nL\t/b\t/x\nL\t/a/c\ty\nend\n";
 
 const IN_ORDER: &[u8] = b"unitadm-inventory 1\nL\t/a/c\ty\nL\t/b\t/x\nend\n";
 
-#[test]
-fn an_inventory_may_fail_anywhere(rt: HostRuntime) -> Result<(), Fail> {
-    let alloc = rt.alloc();
+/// The inventory of `LINKS` after some interruptions before each byte, until the source fails.
+fn read_from(
+    alloc: Global,
+    until_failure: usize,
+    interruptions: u64,
+) -> Result<Tree, InventoryError> {
+    ample!(
+        read_inventory(alloc, &mut Faulty::new(LINKS, until_failure, interruptions)),
+        InventoryError::OutOfMemory
+    )
+}
+
+fn fault(alloc: Global, until_failure: usize, interruptions: u64) -> Option<InventoryError> {
+    match read_from(alloc, until_failure, interruptions) {
+        Ok(_) => None,
+        Err(fault) => Some(fault),
+    }
+}
+
+fn assert_faults(rt: &impl Abort, alloc: Global) {
     let mut number = 0;
     for k in 0..LINKS.len() {
-        let read = ample!(
-            read_inventory(alloc, &mut Faulty::new(LINKS, k, 0)),
-            InventoryError::OutOfMemory
-        );
         assert_eq!(rt;
-            read.err(),
+            fault(alloc, k, 0),
             Some(InventoryError::ReadFault(number)),
             "after {k} bytes"
         );
@@ -127,44 +154,36 @@ fn an_inventory_may_fail_anywhere(rt: HostRuntime) -> Result<(), Fail> {
             number = number.saturating_add(1);
         }
     }
-    let tree = ample!(
-        read_inventory(alloc, &mut Faulty::new(LINKS, ALL, 0)),
-        InventoryError::OutOfMemory
-    )?;
+}
+
+/// The inventory is written until the sink fails, which has taken so many bytes then.
+fn assert_written(rt: &impl Abort, alloc: Global, tree: &Tree, sink: &mut Narrow, sent: usize) {
+    let written = ample!(write_inventory(alloc, tree, sink), WriteError::OutOfMemory);
+    assert_eq!(rt; written, Err(WriteError::Fault(sent)));
+    assert_eq!(rt; sink.taken(), IN_ORDER.get(..sent).unwrap_or(&[]));
+}
+
+#[test]
+fn an_inventory_may_fail_anywhere(rt: HostRuntime) -> Result<(), Fail> {
+    assert_faults(&rt, rt.alloc());
+    let tree = read_from(rt.alloc(), ALL, 0)?;
     for k in 0..IN_ORDER.len() {
         let mut sink = Narrow::new(k, 3, true);
-        let written = ample!(
-            write_inventory(alloc, &tree, &mut sink),
-            WriteError::OutOfMemory
-        );
-        assert_eq!(rt; written, Err(WriteError::Fault(k)));
-        assert_eq!(rt; sink.taken(), IN_ORDER.get(..k).unwrap_or(&[]));
+        assert_written(&rt, rt.alloc(), &tree, &mut sink, k);
     }
     Ok(())
 }
 
 #[test]
 fn an_inventory_may_be_interrupted_or_held_back(rt: HostRuntime) -> Result<(), Fail> {
-    let alloc = rt.alloc();
     let most = u64::from(MAX_INTERRUPTIONS);
-    let tree = ample!(
-        read_inventory(alloc, &mut Faulty::new(LINKS, ALL, most - 1)),
-        InventoryError::OutOfMemory
-    )?;
+    let read = fault(rt.alloc(), ALL, most);
+    assert_eq!(rt; read, Some(InventoryError::ReadFault(0)));
+    let tree = read_from(rt.alloc(), ALL, most - 1)?;
     assert_eq!(rt; tree.len(), 2);
-    let read = ample!(
-        read_inventory(alloc, &mut Faulty::new(LINKS, ALL, most)),
-        InventoryError::OutOfMemory
-    );
-    assert_eq!(rt; read.err(), Some(InventoryError::ReadFault(0)));
     for (at_once, flushes, sent) in [(0, true, 0), (ALL, false, IN_ORDER.len())] {
         let mut sink = Narrow::new(ALL, at_once, flushes);
-        let written = ample!(
-            write_inventory(alloc, &tree, &mut sink),
-            WriteError::OutOfMemory
-        );
-        assert_eq!(rt; written, Err(WriteError::Fault(sent)));
-        assert_eq!(rt; sink.taken(), IN_ORDER.get(..sent).unwrap_or(&[]));
+        assert_written(&rt, rt.alloc(), &tree, &mut sink, sent);
     }
     Ok(())
 }

@@ -10,6 +10,7 @@ use link_tree::{
 };
 use slot_commands::Unmask;
 use std::alloc::{AllocError, Global};
+use std::process::Abort;
 use std::test::Fail;
 use unit_name::{NameError, UnitName, ample};
 use unit_script::{Action, push_changes, push_rows};
@@ -50,22 +51,31 @@ fn tree(alloc: Global, slot: &TreePath) -> Result<Tree, AllocError> {
     Ok(tree)
 }
 
+fn null(alloc: Global) -> Result<Entry, TargetError> {
+    ample!(Entry::link(alloc, b"/dev/null"), TargetError::OutOfMemory)
+}
+
 /// A change of a file into a link to `/dev/null`.
 fn mask_of_file(alloc: Global, bytes: &[u8]) -> Result<Change, Fail> {
     let path = slot(alloc, b"x.service")?;
-    let before = Some(file(alloc, bytes)?);
-    let link = ample!(Entry::link(alloc, b"/dev/null"), TargetError::OutOfMemory)?;
+    let before = file(alloc, bytes)?;
+    let link = null(alloc)?;
     Ok(Change {
         path,
-        before,
+        before: Some(before),
         after: Some(link),
     })
 }
 
+/// The text of the change of a file into a link to `/dev/null`.
+fn text_of_mask(alloc: Global, bytes: &[u8]) -> Result<Vec<u8>, Fail> {
+    let changes = [mask_of_file(alloc, bytes)?];
+    Ok(ample!(text_of_changes(alloc, &changes), AllocError)?)
+}
+
 #[test]
 fn a_file_is_told_by_its_length(rt: HostRuntime) -> Result<(), Fail> {
-    let changes = [mask_of_file(rt.alloc(), b"[Unit]\nA=b\n")?];
-    let text = ample!(text_of_changes(rt.alloc(), &changes), AllocError)?;
+    let text = text_of_mask(rt.alloc(), b"[Unit]\nA=b\n")?;
     assert_eq!(rt;
         text.as_slice(),
         b"  - /etc/systemd/system/x.service file 11\n  \
@@ -83,52 +93,72 @@ fn unmask(alloc: Global, names: &[u8]) -> Result<Action, Fail> {
     }))
 }
 
-fn history(alloc: Global) -> Result<History<Action>, Fail> {
-    let slot = slot(alloc, b"e.service")?;
-    Ok(ample!(
-        {
-            let tree = ample!(tree(alloc, &slot), AllocError)?;
-            History::new(alloc, tree)
-        },
-        AllocError
-    )?)
+/// A history of a tree with an empty file at a slot.
+fn begun(alloc: Global, slot: &TreePath) -> Result<History<Action>, AllocError> {
+    History::new(alloc, tree(alloc, slot)?)
 }
 
+fn history(alloc: Global) -> Result<History<Action>, Fail> {
+    let slot = slot(alloc, b"e.service")?;
+    Ok(ample!(begun(alloc, &slot), AllocError)?)
+}
+
+/// A call. Where memory was wanted, the operation that came back is run.
 fn call(
     alloc: Global,
     history: &mut History<Action>,
     operator: Operator,
     action: Action,
 ) -> Result<u32, CallError> {
-    match history.call(alloc, operator, action) {
+    let called = match history.call(alloc, operator, action) {
+        Err(unrun) => history.call(alloc, operator, unrun.operation),
+        answer => answer,
+    };
+    match called {
         Ok(row) => Ok(row),
         Err(unrun) => Err(unrun.why),
     }
 }
 
+fn unmasked(alloc: Global, history: &mut History<Action>, names: &[u8]) -> Result<u32, Fail> {
+    let operator = Operator::parse(b"alice")?;
+    let action = unmask(alloc, names)?;
+    Ok(call(alloc, history, operator, action)?)
+}
+
+fn undone(alloc: Global, history: &mut History<Action>, row: u32) -> Result<u32, Fail> {
+    let operator = Operator::parse(b"alice")?;
+    Ok(ample!(history.undo(alloc, operator, row), CallError::OutOfMemory)?)
+}
+
+fn assert_told(
+    rt: &impl Abort,
+    alloc: Global,
+    history: &History<Action>,
+    told: &[u8],
+) -> Result<(), Fail> {
+    let text = ample!(text_of_rows(alloc, history), AllocError)?;
+    assert_eq!(rt; text.as_slice(), told);
+    Ok(())
+}
+
+/// The rows of an unmask and its undo.
+const UNDONE: &[u8] = b"1 alice ok\n  \
+      - /etc/systemd/system/e.service file 0\n\
+    2 alice undid 1\n  \
+      + /etc/systemd/system/e.service file 0\n";
+
+fn unmask_and_undo(alloc: Global, history: &mut History<Action>) -> Result<(), Fail> {
+    unmasked(alloc, history, b"e.service")?;
+    undone(alloc, history, 1)?;
+    Ok(())
+}
+
 #[test]
 fn an_empty_file_is_taken_away_and_put_back(rt: HostRuntime) -> Result<(), Fail> {
-    let alloc = rt.alloc();
-    let mut history = history(alloc)?;
-    let operator = Operator::parse(b"alice")?;
-    ample!(
-        {
-            let action = unmask(alloc, b"e.service")?;
-            call(alloc, &mut history, operator, action)
-        },
-        CallError::OutOfMemory
-    )?;
-    ample!(history.undo(alloc, operator, 1), CallError::OutOfMemory)?;
-    let text = ample!(text_of_rows(alloc, &history), AllocError)?;
-    assert_eq!(rt;
-        text.as_slice(),
-        b"1 alice ok\n  \
-          - /etc/systemd/system/e.service file 0\n\
-        2 alice undid 1\n  \
-          + /etc/systemd/system/e.service file 0\n"
-            .as_slice()
-    );
-    Ok(())
+    let mut history = history(rt.alloc())?;
+    unmask_and_undo(rt.alloc(), &mut history)?;
+    assert_told(&rt, rt.alloc(), &history, UNDONE)
 }
 
 /// A unit with words that ask for nothing, for each reason that a word can have.
@@ -163,17 +193,20 @@ const SKIPPED: &[u8] = b"1 a ok\n  \
       ! u.service: Also x: bad name\n\
     3 a refused: n.service is masked\n";
 
+fn tree_of_unit(alloc: Global) -> Result<Tree, InventoryError> {
+    ample!(
+        read_inventory(alloc, &mut Faulty::new(UNIT, UNIT.len(), 0)),
+        InventoryError::OutOfMemory
+    )
+}
+
+fn begun_with(alloc: Global, tree: &Tree) -> Result<History<Action>, AllocError> {
+    History::new(alloc, tree.copy()?)
+}
+
 fn history_of_unit(alloc: Global) -> Result<History<Action>, Fail> {
-    Ok(ample!(
-        {
-            let tree = ample!(
-                read_inventory(alloc, &mut Faulty::new(UNIT, UNIT.len(), 0)),
-                InventoryError::OutOfMemory
-            )?;
-            History::new(alloc, tree)
-        },
-        AllocError
-    )?)
+    let tree = tree_of_unit(alloc)?;
+    Ok(ample!(begun_with(alloc, &tree), AllocError)?)
 }
 
 fn enable(alloc: Global, names: &[u8]) -> Result<Action, Fail> {
@@ -194,34 +227,26 @@ fn disable(alloc: Global, names: &[u8]) -> Result<Action, Fail> {
 
 fn enabled(alloc: Global, history: &mut History<Action>, names: &[u8]) -> Result<u32, Fail> {
     let operator = Operator::parse(b"a")?;
-    Ok(ample!(
-        {
-            let action = enable(alloc, names)?;
-            call(alloc, history, operator, action)
-        },
-        CallError::OutOfMemory
-    )?)
+    let action = enable(alloc, names)?;
+    Ok(call(alloc, history, operator, action)?)
 }
 
 fn disabled(alloc: Global, history: &mut History<Action>, names: &[u8]) -> Result<u32, Fail> {
     let operator = Operator::parse(b"a")?;
-    Ok(ample!(
-        {
-            let action = disable(alloc, names)?;
-            call(alloc, history, operator, action)
-        },
-        CallError::OutOfMemory
-    )?)
+    let action = disable(alloc, names)?;
+    Ok(call(alloc, history, operator, action)?)
+}
+
+fn enable_and_disable(alloc: Global, history: &mut History<Action>) -> Result<(), Fail> {
+    enabled(alloc, history, b"u.service")?;
+    disabled(alloc, history, b"u.service")?;
+    enabled(alloc, history, b"n.service")?;
+    Ok(())
 }
 
 #[test]
 fn skipped_words_are_told_behind_the_changes(rt: HostRuntime) -> Result<(), Fail> {
-    let alloc = rt.alloc();
-    let mut history = history_of_unit(alloc)?;
-    enabled(alloc, &mut history, b"u.service")?;
-    disabled(alloc, &mut history, b"u.service")?;
-    enabled(alloc, &mut history, b"n.service")?;
-    let text = ample!(text_of_rows(alloc, &history), AllocError)?;
-    assert_eq!(rt; text.as_slice(), SKIPPED);
-    Ok(())
+    let mut history = history_of_unit(rt.alloc())?;
+    enable_and_disable(rt.alloc(), &mut history)?;
+    assert_told(&rt, rt.alloc(), &history, SKIPPED)
 }

@@ -22,16 +22,20 @@ fn script_of(alloc: Global, line: &[u8]) -> Result<Vec<u8>, AllocError> {
     Ok(script)
 }
 
+/// The calls of a script.
+fn calls(alloc: Global, script: &[u8]) -> Result<Vec<Call>, ReadError<ScriptFault>> {
+    ample!(
+        read_script(alloc, &mut Faulty::new(script, ALL, 0)),
+        ReadError::OutOfMemory
+    )
+}
+
 /// The call of a line, if it isn't skipped.
 fn read(alloc: Global, line: &[u8]) -> Result<Option<Call>, ReadError<ScriptFault>> {
-    let Ok(script) = ample!(script_of(alloc, line), AllocError) else {
-        return Err(ReadError::OutOfMemory);
-    };
-    let mut calls = ample!(
-        read_script(alloc, &mut Faulty::new(&script, ALL, 0)),
-        ReadError::OutOfMemory
-    )?;
-    Ok(calls.pop())
+    match ample!(script_of(alloc, line), AllocError) {
+        Ok(script) => Ok(calls(alloc, &script)?.pop()),
+        Err(AllocError) => Err(ReadError::OutOfMemory),
+    }
 }
 
 /// A word, in brackets that show where it ends.
@@ -84,6 +88,14 @@ fn push_action(out: &mut Vec<u8>, action: &Action) -> Result<(), AllocError> {
             push_scope(out, b"disable", disable.scope)?;
             push_units(out, &disable.units)
         }
+        Action::Reenable(reenable) => {
+            push_scope(out, b"reenable", reenable.scope)?;
+            push_units(out, &reenable.units)
+        }
+        Action::Preset(preset) => {
+            push_scope(out, b"preset", preset.scope)?;
+            push_units(out, &preset.units)
+        }
         Action::Mask(mask) => {
             push_scope(out, b"mask", mask.scope)?;
             push_units(out, &mask.units)
@@ -112,99 +124,126 @@ fn push_action(out: &mut Vec<u8>, action: &Action) -> Result<(), AllocError> {
     }
 }
 
+fn push_copy(out: &mut Vec<u8>, action: &Action) -> Result<(), AllocError> {
+    let copy = action.copy()?;
+    push_action(out, &copy)
+}
+
 /// What a line asks for, by a copy of its action.
-fn text_of(alloc: Global, call: &Option<Call>) -> Result<Vec<u8>, AllocError> {
-    let mut out = Vec::new(alloc);
+fn push_call(out: &mut Vec<u8>, call: &Option<Call>) -> Result<(), AllocError> {
     match call {
         Some(call) => match &call.request {
-            Request::Do(action) => {
-                let copy = ample!(action.copy(), AllocError)?;
-                push_action(&mut out, &copy)?;
-            }
-            Request::Undo(_) => out.extend_from_slice(b"undo")?,
+            Request::Do(action) => push_copy(out, action),
+            Request::Undo(_) => out.extend_from_slice(b"undo"),
         },
-        None => out.extend_from_slice(b"skipped")?,
+        None => out.extend_from_slice(b"skipped"),
     }
+}
+
+fn text_of(alloc: Global, call: &Option<Call>) -> Result<Vec<u8>, AllocError> {
+    let mut out = Vec::new(alloc);
+    push_call(&mut out, call)?;
     Ok(out)
 }
 
+/// A call asks for this.
+fn assert_asks(rt: &impl Abort, alloc: Global, call: &Option<Call>, asks: &[u8]) {
+    match ample!(text_of(alloc, call), AllocError) {
+        Ok(text) => assert_eq!(rt; text.as_slice(), asks),
+        Err(AllocError) => panic!(rt; "out of memory"),
+    }
+}
+
+/// A line, and what it asks for.
+type Row = (&'static [u8], &'static [u8]);
+
 /// Each line asks for what stands beside it.
-fn assert_read(rt: &impl Abort, alloc: Global, rows: &[(&[u8], &[u8])]) {
+fn assert_read(rt: &impl Abort, alloc: Global, rows: &[Row]) {
     for (line, asks) in rows {
         match read(alloc, line) {
-            Ok(call) => match ample!(text_of(alloc, &call), AllocError) {
-                Ok(text) => assert_eq!(rt; text.as_slice(), *asks),
-                Err(AllocError) => panic!(rt; "out of memory"),
-            },
+            Ok(call) => assert_asks(rt, alloc, &call, asks),
             Err(_) => panic!(rt; "refused"),
         }
     }
 }
 
+const VERBS: [Row; 27] = [
+    (b"a enable x.service", b"enable etc [x.service]"),
+    (
+        b"a enable --runtime x.service y@.service x.service",
+        b"enable run [x.service][y@.service][x.service]",
+    ),
+    (
+        b"a disable x.service y@z.service",
+        b"disable etc [x.service][y@z.service]",
+    ),
+    (b"a disable --runtime x.service", b"disable run [x.service]"),
+    (
+        b"a reenable x.service y@z.service",
+        b"reenable etc [x.service][y@z.service]",
+    ),
+    (
+        b"a reenable --runtime x.service",
+        b"reenable run [x.service]",
+    ),
+    (
+        b"a preset x.service y@z.service",
+        b"preset etc [x.service][y@z.service]",
+    ),
+    (b"a preset --runtime x.service", b"preset run [x.service]"),
+    (b"a mask x.service", b"mask etc [x.service]"),
+    (b"a unmask --runtime x.service", b"unmask run [x.service]"),
+    (b"a link /a", b"units etc [/a]"),
+    (b"a link --runtime /b /a /b", b"units run [/b][/a][/b]"),
+    (
+        b"a add-wants b.target x.service",
+        b"wants etc [b.target][x.service]",
+    ),
+    (
+        b"a add-wants --runtime b.target x.service b.target",
+        b"wants run [b.target][x.service][b.target]",
+    ),
+    (
+        b"a add-requires b.target x.service",
+        b"requires etc [b.target][x.service]",
+    ),
+    (
+        b"a add-requires --runtime b.target x.service",
+        b"requires run [b.target][x.service]",
+    ),
+    (b"a set-default b.target", b"default [b.target]"),
+    (b"a place /a link /b", b"link [/a][/b]"),
+    (b"a place /link link link", b"link [/link][link]"),
+    (b"a place /a link \\s", b"link [/a][\\s]"),
+    (b"a place /a file", b"file [/a][]"),
+    (b"a place /a file file", b"file [/a][file]"),
+    (b"a place /a file --runtime", b"file [/a][--runtime]"),
+    (b"a remove /a", b"remove [/a]"),
+    (b"a undo 1", b"undo"),
+    (b"# a remove /a", b"skipped"),
+    (b"  a   remove   /a ", b"remove [/a]"),
+];
+
 #[test]
 fn each_verb_is_read(rt: HostRuntime) {
-    let alloc = rt.alloc();
-    let rows: [(&[u8], &[u8]); 23] = [
-        (b"a enable x.service", b"enable etc [x.service]"),
-        (
-            b"a enable --runtime x.service y@.service x.service",
-            b"enable run [x.service][y@.service][x.service]",
-        ),
-        (
-            b"a disable x.service y@z.service",
-            b"disable etc [x.service][y@z.service]",
-        ),
-        (b"a disable --runtime x.service", b"disable run [x.service]"),
-        (b"a mask x.service", b"mask etc [x.service]"),
-        (b"a unmask --runtime x.service", b"unmask run [x.service]"),
-        (b"a link /a", b"units etc [/a]"),
-        (b"a link --runtime /b /a /b", b"units run [/b][/a][/b]"),
-        (
-            b"a add-wants b.target x.service",
-            b"wants etc [b.target][x.service]",
-        ),
-        (
-            b"a add-wants --runtime b.target x.service b.target",
-            b"wants run [b.target][x.service][b.target]",
-        ),
-        (
-            b"a add-requires b.target x.service",
-            b"requires etc [b.target][x.service]",
-        ),
-        (
-            b"a add-requires --runtime b.target x.service",
-            b"requires run [b.target][x.service]",
-        ),
-        (b"a set-default b.target", b"default [b.target]"),
-        (b"a place /a link /b", b"link [/a][/b]"),
-        (b"a place /link link link", b"link [/link][link]"),
-        (b"a place /a link \\s", b"link [/a][\\s]"),
-        (b"a place /a file", b"file [/a][]"),
-        (b"a place /a file file", b"file [/a][file]"),
-        (b"a place /a file --runtime", b"file [/a][--runtime]"),
-        (b"a remove /a", b"remove [/a]"),
-        (b"a undo 1", b"undo"),
-        (b"# a remove /a", b"skipped"),
-        (b"  a   remove   /a ", b"remove [/a]"),
-    ];
-    assert_read(&rt, alloc, &rows);
+    assert_read(&rt, rt.alloc(), &VERBS);
 }
+
+const ESCAPES: [Row; 6] = [
+    (
+        b"a place /a file [Unit]\\nA=b\\n",
+        b"file [/a][[Unit]\nA=b\n]",
+    ),
+    (b"a place /a file \\n\\t\\s\\\\", b"file [/a][\n\t \\]"),
+    (b"a place /a file \\\\n", b"file [/a][\\n]"),
+    (b"a place /a file \\\\\\n", b"file [/a][\\\n]"),
+    (b"a place /a file \t\0\xff\r", b"file [/a][\t\0\xff\r]"),
+    (b"a place /a file nts", b"file [/a][nts]"),
+];
 
 #[test]
 fn texts_are_escaped(rt: HostRuntime) {
-    let alloc = rt.alloc();
-    let rows: [(&[u8], &[u8]); 6] = [
-        (
-            b"a place /a file [Unit]\\nA=b\\n",
-            b"file [/a][[Unit]\nA=b\n]",
-        ),
-        (b"a place /a file \\n\\t\\s\\\\", b"file [/a][\n\t \\]"),
-        (b"a place /a file \\\\n", b"file [/a][\\n]"),
-        (b"a place /a file \\\\\\n", b"file [/a][\\\n]"),
-        (b"a place /a file \t\0\xff\r", b"file [/a][\t\0\xff\r]"),
-        (b"a place /a file nts", b"file [/a][nts]"),
-    ];
-    assert_read(&rt, alloc, &rows);
+    assert_read(&rt, rt.alloc(), &ESCAPES);
 }
 
 fn error(alloc: Global, line: &[u8]) -> Option<ReadError<ScriptFault>> {
@@ -224,141 +263,121 @@ fn assert_refused(rt: &impl Abort, alloc: Global, why: Reason, lines: &[&[u8]]) 
     }
 }
 
+const BAD_OPERATORS: [&[u8]; 3] = [b"A", b"A fly", b"A link a"];
+
+const UNKNOWN_VERBS: [&[u8]; 7] = [
+    b"a",
+    b"a fly",
+    b"a Link /a",
+    b"a link\t/a",
+    b"a add a b",
+    b"a Enable x.service",
+    b"a check x.service",
+];
+
 #[test]
 fn operator_and_verb_come_first(rt: HostRuntime) {
-    let alloc = rt.alloc();
-    assert_refused(
-        &rt,
-        alloc,
-        Reason::BadOperator,
-        &[b"A", b"A fly", b"A link a"],
-    );
-    assert_refused(
-        &rt,
-        alloc,
-        Reason::UnknownVerb,
-        &[
-            b"a",
-            b"a fly",
-            b"a Link /a",
-            b"a link\t/a",
-            b"a add a b",
-            b"a Enable x.service",
-            b"a check x.service",
-        ],
-    );
+    assert_refused(&rt, rt.alloc(), Reason::BadOperator, &BAD_OPERATORS);
+    assert_refused(&rt, rt.alloc(), Reason::UnknownVerb, &UNKNOWN_VERBS);
 }
+
+const WRONG_ARGUMENTS: [&[u8]; 22] = [
+    b"a enable",
+    b"a enable --runtime",
+    b"a disable",
+    b"a disable --runtime",
+    b"a reenable",
+    b"a reenable --runtime",
+    b"a preset",
+    b"a preset --runtime",
+    b"a mask",
+    b"a link",
+    b"a link --runtime",
+    b"a add-wants",
+    b"a add-wants x",
+    b"a add-wants --runtime",
+    b"a add-wants --runtime x",
+    b"a add-requires x",
+    b"a set-default",
+    b"a set-default x y",
+    b"a remove",
+    b"a remove x y",
+    b"a undo",
+    b"a undo x y",
+];
+
+const WRONG_PLACES: [&[u8]; 9] = [
+    b"a place",
+    b"a place x",
+    b"a place x y",
+    b"a place x link",
+    b"a place x link \0 y",
+    b"a place x file \\ y",
+    b"a place x Link y",
+    b"a place x files",
+    b"a place --runtime x file",
+];
 
 #[test]
 fn arguments_are_counted_first(rt: HostRuntime) {
-    let alloc = rt.alloc();
-    assert_refused(
-        &rt,
-        alloc,
-        Reason::WrongArguments,
-        &[
-            b"a enable",
-            b"a enable --runtime",
-            b"a disable",
-            b"a disable --runtime",
-            b"a mask",
-            b"a link",
-            b"a link --runtime",
-            b"a add-wants",
-            b"a add-wants x",
-            b"a add-wants --runtime",
-            b"a add-wants --runtime x",
-            b"a add-requires x",
-            b"a set-default",
-            b"a set-default x y",
-            b"a remove",
-            b"a remove x y",
-            b"a undo",
-            b"a undo x y",
-        ],
-    );
-    assert_refused(
-        &rt,
-        alloc,
-        Reason::WrongArguments,
-        &[
-            b"a place",
-            b"a place x",
-            b"a place x y",
-            b"a place x link",
-            b"a place x link \0 y",
-            b"a place x file \\ y",
-            b"a place x Link y",
-            b"a place x files",
-            b"a place --runtime x file",
-        ],
-    );
+    assert_refused(&rt, rt.alloc(), Reason::WrongArguments, &WRONG_ARGUMENTS);
+    assert_refused(&rt, rt.alloc(), Reason::WrongArguments, &WRONG_PLACES);
 }
+
+const BAD_NAMES: [&[u8]; 15] = [
+    b"a enable x.service x",
+    b"a enable /x.service",
+    b"a enable --runtime --runtime",
+    b"a disable x.service --runtime",
+    b"a disable --runtime x",
+    b"a reenable --runtime x",
+    b"a preset x.service --runtime",
+    b"a mask x.service x",
+    b"a mask --runtime --runtime",
+    b"a mask x.service --runtime",
+    b"a add-wants x y.service",
+    b"a add-wants x.target y.service y",
+    b"a add-requires x.target --runtime y.service",
+    b"a set-default x",
+    b"a set-default --runtime",
+];
+
+const BAD_PATHS: [&[u8]; 10] = [
+    b"a link x",
+    b"a link /x y /x",
+    b"a link /x --runtime",
+    b"a link --runtime --runtime",
+    b"a place x link \0",
+    b"a place x link y",
+    b"a place / file \\",
+    b"a place x file",
+    b"a remove /x/",
+    b"a remove --runtime",
+];
 
 #[test]
 fn the_first_bad_argument_decides(rt: HostRuntime) {
-    let alloc = rt.alloc();
-    assert_refused(
-        &rt,
-        alloc,
-        Reason::BadName,
-        &[
-            b"a enable x.service x",
-            b"a enable /x.service",
-            b"a enable --runtime --runtime",
-            b"a disable x.service --runtime",
-            b"a disable --runtime x",
-            b"a mask x.service x",
-            b"a mask --runtime --runtime",
-            b"a mask x.service --runtime",
-            b"a add-wants x y.service",
-            b"a add-wants x.target y.service y",
-            b"a add-requires x.target --runtime y.service",
-            b"a set-default x",
-            b"a set-default --runtime",
-        ],
-    );
-    assert_refused(
-        &rt,
-        alloc,
-        Reason::BadPath,
-        &[
-            b"a link x",
-            b"a link /x y /x",
-            b"a link /x --runtime",
-            b"a link --runtime --runtime",
-            b"a place x link \0",
-            b"a place x link y",
-            b"a place / file \\",
-            b"a place x file",
-            b"a remove /x/",
-            b"a remove --runtime",
-        ],
-    );
+    assert_refused(&rt, rt.alloc(), Reason::BadName, &BAD_NAMES);
+    assert_refused(&rt, rt.alloc(), Reason::BadPath, &BAD_PATHS);
 }
+
+const BAD_TARGETS: [&[u8]; 2] = [b"a place /x link \0", b"a place /x link y\tz"];
+
+const BAD_TEXTS: [&[u8]; 7] = [
+    b"a place /x file \\",
+    b"a place /x file y\\",
+    b"a place /x file \\\\\\",
+    b"a place /x file \\x",
+    b"a place /x file \\N",
+    b"a place /x file \\\t",
+    b"a place /x file y\\0z",
+];
+
+const BAD_NUMBERS: [&[u8]; 2] = [b"a undo x", b"a undo \\n"];
 
 #[test]
 fn what_is_placed_comes_last(rt: HostRuntime) {
-    let alloc = rt.alloc();
-    assert_refused(
-        &rt,
-        alloc,
-        Reason::BadTarget,
-        &[b"a place /x link \0", b"a place /x link y\tz"],
-    );
-    assert_refused(
-        &rt,
-        alloc,
-        Reason::BadText,
-        &[
-            b"a place /x file \\",
-            b"a place /x file y\\",
-            b"a place /x file \\\\\\",
-            b"a place /x file \\x",
-            b"a place /x file \\N",
-            b"a place /x file \\\t",
-            b"a place /x file y\\0z",
-        ],
-    );
-    assert_refused(&rt, alloc, Reason::BadNumber, &[b"a undo x", b"a undo \\n"]);
+    assert_refused(&rt, rt.alloc(), Reason::BadTarget, &BAD_TARGETS);
+    assert_refused(&rt, rt.alloc(), Reason::BadText, &BAD_TEXTS);
+    assert_refused(&rt, rt.alloc(), Reason::BadNumber, &BAD_NUMBERS);
 }

@@ -5,12 +5,14 @@ use Rattle.footprint.specs.Operations.{OperationLaws}
 use Rattle.footprint.proofs.Carried.{laws_of, laws_of_steps}
 use Rattle.install_commands.specs.Enable.{enable_command}
 use Rattle.install_commands.specs.Disable.{disable_command}
+use Rattle.install_commands.specs.Reenable.{reenable_disables, reenable_enables}
+use Rattle.install_commands.specs.BothLaws.{laws_of_both, preset_laws}
 use Rattle.slot_commands.specs.Masks.{mask_steps, unmask_steps}
 use Rattle.slot_commands.specs.LinkUnits.{link_steps}
 use Rattle.slot_commands.specs.AddTo.{add_steps}
 use Rattle.slot_commands.specs.SetDefault.{default_steps}
 use Rattle.slot_commands.specs.ByHand.{place_steps, remove_steps}
-use Rattle.unit_script.specs.declared.action.Action.TheVariants.{Enable, Disable, Mask, Unmask, LinkUnits, AddTo, SetDefault, PlaceEntry, RemoveEntry}
+use Rattle.unit_script.specs.declared.action.Action.TheVariants.{Enable, Disable, Reenable, Preset, Mask, Unmask, LinkUnits, AddTo, SetDefault, PlaceEntry, RemoveEntry}
 use Rattle.unit_script.specs.Actions.{asks, meaning}
 
 pub action_laws : OperationLaws asks meaning
@@ -18,6 +20,8 @@ action_laws = record {
   confinement = elim [
     | Enable enable ↦ (laws_of enable_command).confinement enable
     | Disable disable ↦ (laws_of disable_command).confinement disable
+    | Reenable reenable ↦ (laws_of_both reenable_disables reenable_enables).confinement reenable
+    | Preset preset ↦ preset_laws.confinement preset
     | Mask mask ↦ (laws_of_steps mask_steps).confinement mask
     | Unmask unmask ↦ (laws_of_steps unmask_steps).confinement unmask
     | LinkUnits link ↦ (laws_of_steps link_steps).confinement link
@@ -29,6 +33,8 @@ action_laws = record {
   changes = elim [
     | Enable enable ↦ (laws_of enable_command).changes enable
     | Disable disable ↦ (laws_of disable_command).changes disable
+    | Reenable reenable ↦ (laws_of_both reenable_disables reenable_enables).changes reenable
+    | Preset preset ↦ preset_laws.changes preset
     | Mask mask ↦ (laws_of_steps mask_steps).changes mask
     | Unmask unmask ↦ (laws_of_steps unmask_steps).changes unmask
     | LinkUnits link ↦ (laws_of_steps link_steps).changes link
@@ -40,6 +46,8 @@ action_laws = record {
   refusal = elim [
     | Enable enable ↦ (laws_of enable_command).refusal enable
     | Disable disable ↦ (laws_of disable_command).refusal disable
+    | Reenable reenable ↦ (laws_of_both reenable_disables reenable_enables).refusal reenable
+    | Preset preset ↦ preset_laws.refusal preset
     | Mask mask ↦ (laws_of_steps mask_steps).refusal mask
     | Unmask unmask ↦ (laws_of_steps unmask_steps).refusal unmask
     | LinkUnits link ↦ (laws_of_steps link_steps).refusal link

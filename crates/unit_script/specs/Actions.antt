@@ -4,17 +4,21 @@ use Rattle.footprint.specs.Inquiry.{Inquiry}
 use Rattle.footprint.specs.Operations.{Effect}
 use Rattle.install_commands.specs.Enable.{enable_meaning}
 use Rattle.install_commands.specs.Disable.{disable_meaning}
+use Rattle.install_commands.specs.Reenable.{reenable_meaning}
+use Rattle.install_commands.specs.Preset.{preset_meaning}
 use Rattle.slot_commands.specs.Masks.{mask_meaning, unmask_meaning}
 use Rattle.slot_commands.specs.LinkUnits.{link_meaning}
 use Rattle.slot_commands.specs.AddTo.{add_meaning}
 use Rattle.slot_commands.specs.SetDefault.{default_meaning}
 use Rattle.slot_commands.specs.ByHand.{place_meaning, remove_meaning}
 use Rattle.unit_script.specs.declared.action.Action.{Action}
-use Rattle.unit_script.specs.declared.action.Action.TheVariants.{Enable, Disable, Mask, Unmask, LinkUnits, AddTo, SetDefault, PlaceEntry, RemoveEntry}
+use Rattle.unit_script.specs.declared.action.Action.TheVariants.{Enable, Disable, Reenable, Preset, Mask, Unmask, LinkUnits, AddTo, SetDefault, PlaceEntry, RemoveEntry}
 
 abbrev pub meaning : Action → Inquiry Effect
 meaning (Enable enable) = enable_meaning enable
 meaning (Disable disable) = disable_meaning disable
+meaning (Reenable reenable) = reenable_meaning reenable
+meaning (Preset preset) = preset_meaning preset
 meaning (Mask mask) = mask_meaning mask
 meaning (Unmask unmask) = unmask_meaning unmask
 meaning (LinkUnits link) = link_meaning link

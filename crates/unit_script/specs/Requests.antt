@@ -41,6 +41,12 @@ enable_of words = units_of (arguments_of words) >>= λ units. Ok (Do (actions.En
 abbrev pub disable_of : List (List ℕ) → Result (Request Action) Reason
 disable_of words = units_of (arguments_of words) >>= λ units. Ok (Do (actions.Disable (record { scope = scope_of words; units = units })))
 
+abbrev pub reenable_of : List (List ℕ) → Result (Request Action) Reason
+reenable_of words = units_of (arguments_of words) >>= λ units. Ok (Do (actions.Reenable (record { scope = scope_of words; units = units })))
+
+abbrev pub preset_of : List (List ℕ) → Result (Request Action) Reason
+preset_of words = units_of (arguments_of words) >>= λ units. Ok (Do (actions.Preset (record { scope = scope_of words; units = units })))
+
 abbrev pub mask_of : List (List ℕ) → Result (Request Action) Reason
 mask_of words = units_of (arguments_of words) >>= λ units. Ok (Do (actions.Mask (record { scope = scope_of words; units = units })))
 
@@ -109,6 +115,8 @@ unfoldable pub request_of_verb : List ℕ → List (List ℕ) → Result (Reques
 request_of_verb verb words =
     if bytes_eq verb (codes "enable") then enable_of words
     else if bytes_eq verb (codes "disable") then disable_of words
+    else if bytes_eq verb (codes "reenable") then reenable_of words
+    else if bytes_eq verb (codes "preset") then preset_of words
     else if bytes_eq verb (codes "mask") then mask_of words
     else if bytes_eq verb (codes "unmask") then unmask_of words
     else if bytes_eq verb (codes "link") then link_units_of words

@@ -1,7 +1,7 @@
 //! The commands that a script can give, as one type of operation.
 
 use footprint::{Operation, Outcome};
-use install_commands::{Disable, Enable};
+use install_commands::{Disable, Enable, Preset, Reenable};
 use link_tree::Tree;
 use slot_commands::{AddTo, LinkUnits, Mask, PlaceEntry, RemoveEntry, SetDefault, Unmask};
 use std::alloc::{AllocError, Global};
@@ -18,6 +18,10 @@ pub enum Action {
     Enable(Enable),
     /// `disable`
     Disable(Disable),
+    /// `reenable`
+    Reenable(Reenable),
+    /// `preset`
+    Preset(Preset),
     /// `mask`
     Mask(Mask),
     /// `unmask`
@@ -48,6 +52,8 @@ impl Operation for Action {
         match self {
             Action::Enable(enable) => enable.run(alloc, tree),
             Action::Disable(disable) => disable.run(alloc, tree),
+            Action::Reenable(reenable) => reenable.run(alloc, tree),
+            Action::Preset(preset) => preset.run(alloc, tree),
             Action::Mask(mask) => mask.run(alloc, tree),
             Action::Unmask(unmask) => unmask.run(alloc, tree),
             Action::LinkUnits(link) => link.run(alloc, tree),
@@ -66,6 +72,8 @@ impl Operation for Action {
         match self {
             Action::Enable(enable) => Ok(Action::Enable(enable.copy()?)),
             Action::Disable(disable) => Ok(Action::Disable(disable.copy()?)),
+            Action::Reenable(reenable) => Ok(Action::Reenable(reenable.copy()?)),
+            Action::Preset(preset) => Ok(Action::Preset(preset.copy()?)),
             Action::Mask(mask) => Ok(Action::Mask(mask.copy()?)),
             Action::Unmask(unmask) => Ok(Action::Unmask(unmask.copy()?)),
             Action::LinkUnits(link) => Ok(Action::LinkUnits(link.copy()?)),
@@ -80,6 +88,8 @@ impl Operation for Action {
         match (self, other) {
             (Action::Enable(one), Action::Enable(other)) => one.same(other),
             (Action::Disable(one), Action::Disable(other)) => one.same(other),
+            (Action::Reenable(one), Action::Reenable(other)) => one.same(other),
+            (Action::Preset(one), Action::Preset(other)) => one.same(other),
             (Action::Mask(one), Action::Mask(other)) => one.same(other),
             (Action::Unmask(one), Action::Unmask(other)) => one.same(other),
             (Action::LinkUnits(one), Action::LinkUnits(other)) => one.same(other),

@@ -1,6 +1,6 @@
 //! What verbs ask for, with the words that follow them.
 ghost use Rattle.std.specs.Prelude.{◌≡◌, map};
-ghost use Rattle.unit_script.specs.Requests.{of_one, is_runtime, scope_of, arguments_of, enable_of, disable_of, mask_of, unmask_of, link_units_of, add_units, add_arguments, add_to_of, set_default_to, place_entry, place_link, place_file, place_kind, place_of, remove_at, undo_row, request_of_verb, request_of};
+ghost use Rattle.unit_script.specs.Requests.{of_one, is_runtime, scope_of, arguments_of, enable_of, disable_of, reenable_of, preset_of, mask_of, unmask_of, link_units_of, add_units, add_arguments, add_to_of, set_default_to, place_entry, place_link, place_file, place_kind, place_of, remove_at, undo_row, request_of_verb, request_of};
 ghost use Rattle.byte_streams.specs.Reads.{Gives};
 ghost use Rattle.unit_script.specs.Words.{link_of, file_of};
 
@@ -11,7 +11,7 @@ use crate::words::{
 };
 use byte_streams::ReadError;
 use history::Request;
-use install_commands::{Disable, Enable};
+use install_commands::{Disable, Enable, Preset, Reenable};
 use link_tree::{Dependency, Scope};
 use slot_commands::{AddTo, LinkUnits, Mask, PlaceEntry, RemoveEntry, SetDefault, Unmask};
 use std::alloc::Global;
@@ -54,6 +54,22 @@ fn disable_of(alloc: Global, words: &[&[u8]]) -> Result<Request<Action>, ReadErr
     let units = units_of(alloc, arguments_of(words))?;
     let scope = scope_of(words);
     Ok(Request::Do(Action::Disable(Disable { scope, units })))
+}
+
+fn reenable_of(alloc: Global, words: &[&[u8]]) -> Result<Request<Action>, ReadError<Reason>>
+    ensures { Gives (λ x. x) result (reenable_of (map (λ word. word.now) words.now)) }
+{
+    let units = units_of(alloc, arguments_of(words))?;
+    let scope = scope_of(words);
+    Ok(Request::Do(Action::Reenable(Reenable { scope, units })))
+}
+
+fn preset_of(alloc: Global, words: &[&[u8]]) -> Result<Request<Action>, ReadError<Reason>>
+    ensures { Gives (λ x. x) result (preset_of (map (λ word. word.now) words.now)) }
+{
+    let units = units_of(alloc, arguments_of(words))?;
+    let scope = scope_of(words);
+    Ok(Request::Do(Action::Preset(Preset { scope, units })))
 }
 
 fn mask_of(alloc: Global, words: &[&[u8]]) -> Result<Request<Action>, ReadError<Reason>>
@@ -268,6 +284,10 @@ fn request_of_verb(
         enable_of(alloc, words)
     } else if verb == b"disable".as_slice() {
         disable_of(alloc, words)
+    } else if verb == b"reenable".as_slice() {
+        reenable_of(alloc, words)
+    } else if verb == b"preset".as_slice() {
+        preset_of(alloc, words)
     } else if verb == b"mask".as_slice() {
         mask_of(alloc, words)
     } else if verb == b"unmask".as_slice() {

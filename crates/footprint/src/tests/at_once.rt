@@ -64,7 +64,7 @@ fn want(alloc: Global, wanted: &mut WantedLinks, word: &[u8]) -> Result<(), Fail
 
 fn made(alloc: Global, tree: &Tree, wanted: &WantedLinks) -> Result<Outcome, AllocError> {
     let mut keys = Keys::none(alloc);
-    let done = Edit::all_at_once(alloc, tree, wanted, &mut keys)?;
+    let done = Edit::new(alloc, tree)?.all_at_once(alloc, wanted, &mut keys)?;
     Outcome::of(alloc, tree, keys, Notices::none(alloc), done)
 }
 
@@ -243,7 +243,7 @@ fn cleared(
     let mut keys = Keys::none(alloc);
     let links = keys.entries_of_all(alloc, tree, looked)?;
     let wanted = WantedLinks::cleared(alloc, &links)?;
-    let done = Edit::all_at_once(alloc, tree, &wanted, &mut keys)?;
+    let done = Edit::new(alloc, tree)?.all_at_once(alloc, &wanted, &mut keys)?;
     let outcome = Outcome::of(alloc, tree, keys, Notices::none(alloc), done)?;
     let mut text = Vec::new(alloc);
     push_outcome(&mut text, &outcome)?;

@@ -58,6 +58,34 @@ fn keys_are_read_once_in_their_order(rt: HostRuntime) -> Result<(), Fail> {
     Ok(())
 }
 
+/// What `SMALL` is read as by three sets, which have entries in common, and by a cell.
+const READ_OF_SETS: &[u8] = b"/etc/systemd/system/b.service a.service
+etc:a.service
+unitadm-inventory 1
+L\t/etc/systemd/system/b.service\ta.service
+L\t/etc/systemd/system/c.target.wants/a.service\t/usr/lib/systemd/system/a.service
+end
+etc:b.service
+unitadm-inventory 1
+L\t/etc/systemd/system/b.service\ta.service
+end
+links
+unitadm-inventory 1
+L\t/etc/systemd/system/c.target.wants/a.service\t/usr/lib/systemd/system/a.service
+end
+";
+
+#[test]
+fn three_sets_are_read_of_one_tree(rt: HostRuntime) -> Result<(), Fail> {
+    let alloc = rt.alloc();
+    let small = tree(alloc, SMALL)?;
+    let keys = b"links etc:b.service /etc/systemd/system/b.service etc:a.service";
+    let reading = reading(alloc, &small, keys)?;
+    let text = ample!(text_of(alloc, &reading), AllocError)?;
+    assert_eq!(rt; text.as_slice(), READ_OF_SETS);
+    Ok(())
+}
+
 const MASK: &[u8] = b"unitadm-inventory 1\nL\t/etc/systemd/system/x.service\t/dev/null\nend\n";
 
 /// Of these keys, by which the one tree is read, this is the first of which the other says something else; none, if it is

@@ -6,6 +6,7 @@ use crate::{CallError, History, Operator, RowReply, UndoRefusal};
 use footprint::{Answer, Key, Operation, Outcome, Then};
 use link_tree::{PathError, Scope, Tree, TreePath};
 use std::alloc::{AllocError, Global};
+use std::process::Abort;
 use std::test::Fail;
 use unit_name::{NameError, UnitName, ample};
 
@@ -24,7 +25,7 @@ fn path(alloc: Global, text: &[u8]) -> Result<TreePath, PathError> {
 }
 
 /// The kind of a key.
-#[derive(Clone, Copy)]
+#[derive(Clone, Copy, Debug)]
 enum Watched {
     Cell,
     Marked,
@@ -57,73 +58,136 @@ fn watch(alloc: Global, kind: Watched, of: &[u8], slot: &[u8]) -> Result<Watch, 
     })
 }
 
-/// The same, and tells of a unit.
+/// The same by the cell of `b.service`, and tells of a unit.
 fn telling(alloc: Global, slot: &[u8], unit: &[u8]) -> Result<Watch, Fail> {
     let mut watch = watch(alloc, Watched::Cell, b"b.service", slot)?;
     watch.told = Some(name(alloc, unit)?);
     Ok(watch)
 }
 
-fn call(alloc: Global, history: &mut History<Watch>, watch: Watch) -> Result<(), Fail> {
-    let operator = Operator::parse(b"alice")?;
+/// A history of the empty tree.
+fn begun(alloc: Global) -> Result<History<Watch>, AllocError> {
+    let tree = Tree::empty(alloc)?;
+    History::new(alloc, tree.copy()?)
+}
+
+/// The call of a watch. Where memory was wanted, the operation that came back is run.
+fn call(
+    alloc: Global,
+    history: &mut History<Watch>,
+    operator: Operator,
+    watch: Watch,
+) -> Result<u32, CallError> {
     let called = match history.call(alloc, operator, watch) {
         Err(unrun) => history.call(alloc, operator, unrun.operation),
         answer => answer,
     };
-    called.map_err(|_| "no row")?;
+    match called {
+        Ok(row) => Ok(row),
+        Err(unrun) => Err(unrun.why),
+    }
+}
+
+/// Looks by a key of a kind and a name, and links at a slot.
+fn look(
+    alloc: Global,
+    history: &mut History<Watch>,
+    kind: Watched,
+    of: &[u8],
+    slot: &[u8],
+) -> Result<(), Fail> {
+    let operator = Operator::parse(b"alice")?;
+    let watch = watch(alloc, kind, of, slot)?;
+    call(alloc, history, operator, watch)?;
     Ok(())
 }
 
-/// Whether the undo of a link that was made at a slot is blocked by a later command that looks by a key.
-fn is_blocked(alloc: Global, slot: &[u8], kind: Watched, of: &[u8]) -> Result<bool, Fail> {
+/// Undoes the first row.
+fn undo(alloc: Global, history: &mut History<Watch>) -> Result<(), Fail> {
     let operator = Operator::parse(b"alice")?;
-    let tree = ample!(Tree::empty(alloc), AllocError)?;
-    let mut history = ample!(History::new(alloc, tree.copy()?), AllocError)?;
-    call(
-        alloc,
-        &mut history,
-        watch(alloc, Watched::Cell, b"y.service", slot)?,
-    )?;
-    let later = watch(alloc, kind, of, b"/run/systemd/system/z.service")?;
-    call(alloc, &mut history, later)?;
-    ample!(history.undo(alloc, operator, 1), CallError::OutOfMemory).map_err(|_| "full")?;
-    Ok(matches!(
-        history.rows().last().map(|row| &row.reply),
-        Some(RowReply::UndoRefused(UndoRefusal::Blocked(2)))
-    ))
+    ample!(history.undo(alloc, operator, 1), CallError::OutOfMemory)?;
+    Ok(())
 }
+
+/// Whether the last row is an undo that the second row blocked.
+fn is_refused_for_the_second(history: &History<Watch>) -> bool {
+    match history.rows().last() {
+        Some(row) => matches!(row.reply, RowReply::UndoRefused(UndoRefusal::Blocked(2))),
+        None => false,
+    }
+}
+
+/// Whether the undo of a link at a slot is blocked by a later command that looks by a key.
+fn blocks(
+    alloc: Global,
+    history: &mut History<Watch>,
+    slot: &[u8],
+    kind: Watched,
+    of: &[u8],
+) -> Result<bool, Fail> {
+    look(alloc, history, Watched::Cell, b"y.service", slot)?;
+    look(alloc, history, kind, of, b"/run/systemd/system/z.service")?;
+    undo(alloc, history)?;
+    Ok(is_refused_for_the_second(history))
+}
+
+/// As `blocks`, in a history of its own.
+fn is_blocked(alloc: Global, slot: &[u8], kind: Watched, of: &[u8]) -> Result<bool, Fail> {
+    let mut history = ample!(begun(alloc), AllocError)?;
+    blocks(alloc, &mut history, slot, kind, of)
+}
+
+/// By which key a later command looks, and whether it blocks the undo.
+type Row = (Watched, &'static [u8], bool);
+
+fn assert_blocked(rt: &impl Abort, alloc: Global, slot: &[u8], rows: &[Row]) -> Result<(), Fail> {
+    for (kind, of, blocks) in rows {
+        assert_eq!(rt;
+            is_blocked(alloc, slot, *kind, of)?,
+            *blocks,
+            "{kind:?} {of:?}"
+        );
+    }
+    Ok(())
+}
+
+const BLOCK_UNIT: [Row; 6] = [
+    (Watched::Cell, b"a.service", true),
+    (Watched::Cell, b"b.service", false),
+    (Watched::Marked, b"a.service", true),
+    (Watched::Marked, b"b.service", false),
+    (Watched::Presets, b"a.service", false),
+    (Watched::Links, b"a.service", false),
+];
 
 #[test]
 fn a_link_of_a_unit_is_seen_by_its_cell_and_its_name(rt: HostRuntime) -> Result<(), Fail> {
-    let alloc = rt.alloc();
-    assert!(rt; is_blocked(alloc, UNIT, Watched::Cell, b"a.service")?);
-    assert!(rt; !is_blocked(alloc, UNIT, Watched::Cell, b"b.service")?);
-    assert!(rt; is_blocked(alloc, UNIT, Watched::Marked, b"a.service")?);
-    assert!(rt; !is_blocked(alloc, UNIT, Watched::Marked, b"b.service")?);
-    assert!(rt; !is_blocked(alloc, UNIT, Watched::Presets, b"a.service")?);
-    assert!(rt; !is_blocked(alloc, UNIT, Watched::Links, b"a.service")?);
-    Ok(())
+    assert_blocked(&rt, rt.alloc(), UNIT, &BLOCK_UNIT)
 }
+
+const BLOCK_DEPENDENCY: [Row; 5] = [
+    (Watched::Cell, b"a.service", false),
+    (Watched::Marked, b"a.service", true),
+    (Watched::Marked, b"m.target", false),
+    (Watched::Presets, b"a.service", false),
+    (Watched::Links, b"b.service", true),
+];
 
 #[test]
 fn a_dependency_is_seen_by_its_name_and_among_links(rt: HostRuntime) -> Result<(), Fail> {
-    let alloc = rt.alloc();
-    assert!(rt; !is_blocked(alloc, DEPENDENCY, Watched::Cell, b"a.service")?);
-    assert!(rt; is_blocked(alloc, DEPENDENCY, Watched::Marked, b"a.service")?);
-    assert!(rt; !is_blocked(alloc, DEPENDENCY, Watched::Marked, b"m.target")?);
-    assert!(rt; !is_blocked(alloc, DEPENDENCY, Watched::Presets, b"a.service")?);
-    assert!(rt; is_blocked(alloc, DEPENDENCY, Watched::Links, b"b.service")?);
-    Ok(())
+    assert_blocked(&rt, rt.alloc(), DEPENDENCY, &BLOCK_DEPENDENCY)
 }
+
+const BLOCK_PRESET: [Row; 4] = [
+    (Watched::Cell, b"a.service", false),
+    (Watched::Marked, b"a.service", false),
+    (Watched::Presets, b"b.service", true),
+    (Watched::Links, b"a.service", false),
+];
 
 #[test]
 fn a_preset_is_seen_among_presets_alone(rt: HostRuntime) -> Result<(), Fail> {
-    let alloc = rt.alloc();
-    assert!(rt; !is_blocked(alloc, PRESET, Watched::Cell, b"a.service")?);
-    assert!(rt; !is_blocked(alloc, PRESET, Watched::Marked, b"a.service")?);
-    assert!(rt; is_blocked(alloc, PRESET, Watched::Presets, b"b.service")?);
-    assert!(rt; !is_blocked(alloc, PRESET, Watched::Links, b"a.service")?);
-    Ok(())
+    assert_blocked(&rt, rt.alloc(), PRESET, &BLOCK_PRESET)
 }
 
 fn come_to<O: Operation>(alloc: Global, operation: &O) -> Result<Outcome, AllocError> {
@@ -131,54 +195,77 @@ fn come_to<O: Operation>(alloc: Global, operation: &O) -> Result<Outcome, AllocE
     operation.run(alloc, &tree)
 }
 
-/// The lines of the notices of two operations that tell of a unit each.
-fn told(alloc: Global, first: &[u8], second: &[u8]) -> Result<Vec<u8>, Fail> {
-    let both = Then {
-        first: telling(alloc, UNIT, first)?,
-        second: telling(alloc, DEPENDENCY, second)?,
-    };
-    let outcome = ample!(come_to(alloc, &both), AllocError)?;
+/// Two operations that tell of a unit each.
+fn both_telling(
+    alloc: Global,
+    first: (&[u8], &[u8]),
+    second: (&[u8], &[u8]),
+) -> Result<Then<Watch, Watch>, Fail> {
+    let first = telling(alloc, first.0, first.1)?;
+    let second = telling(alloc, second.0, second.1)?;
+    Ok(Then { first, second })
+}
+
+fn outcome_of<O: Operation>(alloc: Global, operation: &O) -> Result<Outcome, Fail> {
+    Ok(ample!(come_to(alloc, operation), AllocError)?)
+}
+
+/// What two operations that tell of a unit each come to.
+fn outcome(alloc: Global, first: (&[u8], &[u8]), second: (&[u8], &[u8])) -> Result<Outcome, Fail> {
+    let both = both_telling(alloc, first, second)?;
+    outcome_of(alloc, &both)
+}
+
+/// The lines of the notices of an answer.
+fn lines(alloc: Global, answer: &Answer) -> Result<Vec<u8>, AllocError> {
     let mut out = Vec::new(alloc);
-    if let Answer::Done(notices) = &outcome.answer {
-        ample!(
-            {
-                out.clear();
-                notices.push_lines(&mut out)
-            },
-            AllocError
-        )?;
+    if let Answer::Done(notices) = answer {
+        notices.push_lines(&mut out)?;
     }
     Ok(out)
 }
 
-#[test]
-fn both_tell_their_notices_each_once(rt: HostRuntime) -> Result<(), Fail> {
-    let alloc = rt.alloc();
-    let text =
-        b"  ! a.service: Also a.service: not found\n  ! b.service: Also b.service: not found\n";
-    assert_eq!(rt;
-        told(alloc, b"b.service", b"a.service")?.as_slice(),
-        text.as_slice()
-    );
-    let text = b"  ! a.service: Also a.service: not found\n";
-    assert_eq!(rt;
-        told(alloc, b"a.service", b"a.service")?.as_slice(),
-        text.as_slice()
-    );
+fn lines_of(alloc: Global, answer: &Answer) -> Result<Vec<u8>, Fail> {
+    Ok(ample!(lines(alloc, answer), AllocError)?)
+}
+
+/// The lines of the notices of two operations that tell of a unit each.
+fn told(alloc: Global, first: &[u8], second: &[u8]) -> Result<Vec<u8>, Fail> {
+    let outcome = outcome(alloc, (UNIT, first), (DEPENDENCY, second))?;
+    lines_of(alloc, &outcome.answer)
+}
+
+fn assert_told(
+    rt: &impl Abort,
+    alloc: Global,
+    first: &[u8],
+    second: &[u8],
+    text: &[u8],
+) -> Result<(), Fail> {
+    let told = told(alloc, first, second)?;
+    assert_eq!(rt; told.as_slice(), text);
     Ok(())
 }
 
 #[test]
-fn a_refused_row_tells_nothing(rt: HostRuntime) -> Result<(), Fail> {
-    let alloc = rt.alloc();
-    let both = Then {
-        first: telling(alloc, UNIT, b"a.service")?,
-        second: telling(alloc, b"/opt/a", b"b.service")?,
-    };
-    let outcome = ample!(come_to(alloc, &both), AllocError)?;
+fn both_tell_their_notices_each_once(rt: HostRuntime) -> Result<(), Fail> {
+    let text =
+        b"  ! a.service: Also a.service: not found\n  ! b.service: Also b.service: not found\n";
+    assert_told(&rt, rt.alloc(), b"b.service", b"a.service", text)?;
+    let text = b"  ! a.service: Also a.service: not found\n";
+    assert_told(&rt, rt.alloc(), b"a.service", b"a.service", text)
+}
+
+fn assert_refused(rt: &impl Abort, outcome: &Outcome, keys: usize) {
     assert!(rt; matches!(outcome.answer, Answer::Refused(_)));
     assert!(rt; outcome.changes.as_slice().is_empty());
-    assert_eq!(rt; outcome.reading.as_slice().len(), 2);
+    assert_eq!(rt; outcome.reading.as_slice().len(), keys);
+}
+
+#[test]
+fn a_refused_row_tells_nothing(rt: HostRuntime) -> Result<(), Fail> {
+    let outcome = outcome(rt.alloc(), (UNIT, b"a.service"), (b"/opt/a", b"b.service"))?;
+    assert_refused(&rt, &outcome, 2);
     Ok(())
 }
 
@@ -190,24 +277,30 @@ fn step(alloc: Global, asks: bool) -> Result<Step, PathError> {
     })
 }
 
+/// Whether two steps in one ask only.
+fn ask_only(alloc: Global, first: bool, second: bool) -> Result<bool, PathError> {
+    let first = step(alloc, first)?;
+    let second = step(alloc, second)?;
+    Ok(Then { first, second }.asks_only())
+}
+
 #[test]
 fn two_questions_ask_only(rt: HostRuntime) -> Result<(), Fail> {
-    let alloc = rt.alloc();
     for (first, second) in [(true, true), (true, false), (false, true), (false, false)] {
-        let both = Then {
-            first: step(alloc, first)?,
-            second: step(alloc, second)?,
-        };
-        assert_eq!(rt; both.asks_only(), first && second);
+        assert_eq!(rt; ask_only(rt.alloc(), first, second)?, first && second);
     }
+    Ok(())
+}
+
+/// A copy is the same, and no question.
+fn assert_copied(rt: &impl Abort, watch: &Watch) -> Result<(), Fail> {
+    let copy = ample!(watch.copy(), AllocError)?;
+    assert!(rt; copy.same(watch) && !copy.asks_only());
     Ok(())
 }
 
 #[test]
 fn watches_are_copied(rt: HostRuntime) -> Result<(), Fail> {
-    let alloc = rt.alloc();
-    let watch = telling(alloc, UNIT, b"a.service")?;
-    let copy = ample!(watch.copy(), AllocError)?;
-    assert!(rt; copy.same(&watch) && !copy.asks_only());
-    Ok(())
+    let watch = telling(rt.alloc(), UNIT, b"a.service")?;
+    assert_copied(&rt, &watch)
 }

@@ -2,6 +2,7 @@
 use crate::{RowReply, UndoRefusal};
 use footprint::{Answer, StateWord};
 use std::alloc::{AllocError, Global};
+use std::process::Abort;
 use std::test::Fail;
 use unit_name::ample;
 
@@ -21,12 +22,32 @@ fn text_of(alloc: Global, reply: &RowReply) -> Result<String, AllocError> {
     ample!(format!(in alloc; "{reply:?}"), AllocError)
 }
 
+fn assert_same(
+    rt: &impl Abort,
+    alloc: Global,
+    one: &RowReply,
+    other: &RowReply,
+) -> Result<(), AllocError> {
+    let one = text_of(alloc, one)?;
+    let other = text_of(alloc, other)?;
+    assert_eq!(rt; one, other);
+    Ok(())
+}
+
+fn assert_copied(rt: &impl Abort, alloc: Global, reply: &RowReply) -> Result<(), AllocError> {
+    let copy = ample!(reply.copy(), AllocError)?;
+    assert_same(rt, alloc, &copy, reply)
+}
+
+fn assert_kind_copied(rt: &impl Abort, alloc: Global, number: u32) -> Result<(), AllocError> {
+    let reply = reply(number);
+    assert_copied(rt, alloc, &reply)
+}
+
 #[test]
 fn replies_are_copied(rt: HostRuntime) -> Result<(), Fail> {
     for number in 0..6 {
-        let reply = reply(number);
-        let copy = ample!(reply.copy(), AllocError)?;
-        assert_eq!(rt; text_of(rt.alloc(), &copy)?, text_of(rt.alloc(), &reply)?);
+        assert_kind_copied(&rt, rt.alloc(), number)?;
     }
     Ok(())
 }

@@ -5,6 +5,7 @@ use crate::{CallError, History, Operator, Row, RowReply, UndoRefusal, Unrun};
 use footprint::{Answer, Operation};
 use link_tree::{PathError, Tree, TreePath};
 use std::alloc::{AllocError, Global};
+use std::process::Abort;
 use std::test::Fail;
 use unit_name::ample;
 
@@ -48,20 +49,28 @@ fn call(
     }
 }
 
+/// Makes the call of a word that names a step.
+fn take(alloc: Global, history: &mut History<Step>, word: &[u8]) -> Result<(), Fail> {
+    let operator = Operator::parse(b"alice")?;
+    let step = step(alloc, word)?;
+    match call(alloc, history, operator, step) {
+        Ok(_) => Ok(()),
+        Err(unrun) => Err(Fail::from(unrun.why)),
+    }
+}
+
+fn undo(alloc: Global, history: &mut History<Step>, n: u32) -> Result<(), Fail> {
+    let operator = Operator::parse(b"alice")?;
+    ample!(history.undo(alloc, operator, n), CallError::OutOfMemory)?;
+    Ok(())
+}
+
 /// Makes the call of a word, of which `u1` undoes row 1.
 fn make(alloc: Global, history: &mut History<Step>, word: &[u8]) -> Result<(), Fail> {
-    let operator = Operator::parse(b"alice")?;
     match word {
-        [b'u', digit] => {
-            let n = u32::from(digit.wrapping_sub(b'0'));
-            ample!(history.undo(alloc, operator, n), CallError::OutOfMemory).map_err(|_| "full")?;
-        }
-        _ => {
-            let step = step(alloc, word)?;
-            call(alloc, history, operator, step).map_err(|_| "full")?;
-        }
+        [b'u', digit] => undo(alloc, history, u32::from(digit.wrapping_sub(b'0'))),
+        _ => take(alloc, history, word),
     }
-    Ok(())
 }
 
 /// What a reply says: that it was done, refused or told, or why an undo was refused.
@@ -110,34 +119,50 @@ fn begun_with_room(alloc: Global) -> Result<History<Step>, AllocError> {
     History::with_limit(alloc, Tree::empty(alloc)?, 1)
 }
 
-/// The replies to the calls of a script.
-fn said(alloc: Global, script: &[u8]) -> Result<Vec<u8>, Fail> {
+/// A history of the calls of a script.
+fn made(alloc: Global, script: &[u8]) -> Result<History<Step>, Fail> {
     let mut history = ample!(begun(alloc), AllocError)?;
     for word in script.split(|b| *b == b' ') {
         make(alloc, &mut history, word)?;
     }
+    Ok(history)
+}
+
+/// The replies to the calls of a script.
+fn said(alloc: Global, script: &[u8]) -> Result<Vec<u8>, Fail> {
+    let history = made(alloc, script)?;
     Ok(ample!(text_of(alloc, history.rows()), AllocError)?)
+}
+
+fn assert_said(rt: &impl Abort, alloc: Global, script: &[u8], replies: &[u8]) -> Result<(), Fail> {
+    let said = said(alloc, script)?;
+    assert_eq!(rt; said.as_slice(), replies);
+    Ok(())
 }
 
 #[test]
 fn a_command_is_undone_under_later_ones(rt: HostRuntime) -> Result<(), Fail> {
-    let said = said(rt.alloc(), b"+a +b =b u1 u1 -a +b")?;
-    assert_eq!(rt; said.as_slice(), b"k-k-k-U1a4r-r-".as_slice());
-    Ok(())
+    assert_said(&rt, rt.alloc(), b"+a +b =b u1 u1 -a +b", b"k-k-k-U1a4r-r-")
 }
 
 #[test]
 fn what_looked_at_a_change_blocks_it(rt: HostRuntime) -> Result<(), Fail> {
-    let said = said(rt.alloc(), b"+a =a -a =a +b u1 u3 u4 u3 u2 u1 -a +b")?;
-    assert_eq!(rt; said.as_slice(), b"k-k-k-k-k-b2b4U4U3U2U1r-r-".as_slice());
-    Ok(())
+    assert_said(
+        &rt,
+        rt.alloc(),
+        b"+a =a -a =a +b u1 u3 u4 u3 u2 u1 -a +b",
+        b"k-k-k-k-k-b2b4U4U3U2U1r-r-",
+    )
 }
 
 #[test]
 fn refused_calls_and_questions_block_nothing(rt: HostRuntime) -> Result<(), Fail> {
-    let said = said(rt.alloc(), b"+a +a ?a u0 u6 u2 u3 u4 u1 u1")?;
-    assert_eq!(rt; said.as_slice(), b"k-r-s-n-n-c-c-c-U1a9".as_slice());
-    Ok(())
+    assert_said(
+        &rt,
+        rt.alloc(),
+        b"+a +a ?a u0 u6 u2 u3 u4 u1 u1",
+        b"k-r-s-n-n-c-c-c-U1a9",
+    )
 }
 
 /// A history that has as many rows as it may have: one.
@@ -147,10 +172,13 @@ fn full(alloc: Global) -> Result<History<Step>, Fail> {
     Ok(history)
 }
 
-/// Whether the call of a word is refused since the history is full, and the operation comes back.
-fn comes_back(alloc: Global, history: &mut History<Step>, word: &[u8]) -> Result<bool, Fail> {
+/// The operation of a call that is refused since the history is full.
+fn handed_back(
+    alloc: Global,
+    history: &mut History<Step>,
+    word: &[u8],
+) -> Result<Option<Step>, Fail> {
     let operator = Operator::parse(b"alice")?;
-    let expected = step(alloc, word)?;
     let step = step(alloc, word)?;
     Ok(match call(alloc, history, operator, step) {
         Err(
@@ -158,19 +186,47 @@ fn comes_back(alloc: Global, history: &mut History<Step>, word: &[u8]) -> Result
                 operation,
                 why: CallError::Full,
             },
-        ) => operation.same(&expected),
-        _ => false,
+        ) => Some(operation),
+        _ => None,
     })
+}
+
+/// Whether the call of a word is refused since the history is full, and the operation comes back.
+fn comes_back(alloc: Global, history: &mut History<Step>, word: &[u8]) -> Result<bool, Fail> {
+    let expected = step(alloc, word)?;
+    match handed_back(alloc, history, word)? {
+        Some(operation) => Ok(operation.same(&expected)),
+        None => Ok(false),
+    }
+}
+
+/// Whether a full history refuses an undo too.
+fn refuses_undo(alloc: Global, history: &mut History<Step>) -> Result<bool, Fail> {
+    let operator = Operator::parse(b"alice")?;
+    Ok(history.undo(alloc, operator, 0) == Err(CallError::Full))
+}
+
+/// A history with one row, which put an entry into the empty tree.
+fn assert_one_row(rt: &impl Abort, history: &History<Step>) {
+    assert_eq!(rt; history.rows().len(), 1);
+    assert_eq!(rt; history.tree().len(), 1);
+    assert!(rt; history.first().is_empty() && history.blocker(1).is_none());
+}
+
+fn assert_full(
+    rt: &impl Abort,
+    alloc: Global,
+    history: &mut History<Step>,
+    word: &[u8],
+) -> Result<(), Fail> {
+    assert!(rt; comes_back(alloc, history, word)?);
+    assert!(rt; refuses_undo(alloc, history)?);
+    assert_one_row(rt, history);
+    Ok(())
 }
 
 #[test]
 fn a_full_history_hands_the_operation_back(rt: HostRuntime) -> Result<(), Fail> {
-    let operator = Operator::parse(b"alice")?;
     let mut history = full(rt.alloc())?;
-    assert!(rt; comes_back(rt.alloc(), &mut history, b"+b")?);
-    assert_eq!(rt; history.undo(rt.alloc(), operator, 0), Err(CallError::Full));
-    assert_eq!(rt; history.rows().len(), 1);
-    assert_eq!(rt; history.tree().len(), 1);
-    assert!(rt; history.first().is_empty() && history.blocker(1).is_none());
-    Ok(())
+    assert_full(&rt, rt.alloc(), &mut history, b"+b")
 }

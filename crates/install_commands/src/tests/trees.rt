@@ -146,7 +146,8 @@ fn push_key(out: &mut Vec<u8>, key: &Key) -> Result<(), AllocError> {
             out.extend_from_slice(b"run ")?;
             out.extend_from_slice(name.text())?;
         }
-        Key::Presets | Key::Links => out.extend_from_slice(b"none of these")?,
+        Key::Presets => out.extend_from_slice(b"presets")?,
+        Key::Links => out.extend_from_slice(b"none of these")?,
     }
     out.extend_from_slice(b"\n")
 }

@@ -6,7 +6,7 @@ use load_path::Cells;
 use std::alloc::{AllocError, Global};
 use std::process::Abort;
 use std::test::Fail;
-use unit_name::{UnitName, ample};
+use unit_name::{NameError, UnitName, ample};
 
 const A: Row = Row::File(
     b"a.service",
@@ -64,6 +64,14 @@ fn each_reason_has_its_notice(rt: HostRuntime) -> Result<(), Fail> {
     assert_closure(&rt, rt.alloc(), &rows, b"x.service", text)
 }
 
+const EXPANDED: [(&[u8], &[u8]); 2] = [
+    (b"w@.service", b"w@.service\nh@one.service\nw.socket\n"),
+    (
+        b"w@two.service",
+        b"w@two.service\nh@two.service\nw.socket\n",
+    ),
+];
+
 #[test]
 fn words_are_expanded_with_the_identity(rt: HostRuntime) -> Result<(), Fail> {
     let rows = [
@@ -74,16 +82,7 @@ fn words_are_expanded_with_the_identity(rt: HostRuntime) -> Result<(), Fail> {
         Row::File(b"h@.service", b"[Install]\n"),
         Row::File(b"w.socket", b"[Socket]\n"),
     ];
-    for (given, text) in [
-        (
-            b"w@.service".as_slice(),
-            b"w@.service\nh@one.service\nw.socket\n".as_slice(),
-        ),
-        (
-            b"w@two.service".as_slice(),
-            b"w@two.service\nh@two.service\nw.socket\n".as_slice(),
-        ),
-    ] {
+    for (given, text) in EXPANDED {
         assert_closure(&rt, rt.alloc(), &rows, given, text)?;
     }
     Ok(())
@@ -101,6 +100,10 @@ fn looks(alloc: Global, tree: &Tree, given: &[UnitName]) -> Result<usize, AllocE
     Ok(cells.as_slice().len())
 }
 
+fn looked(alloc: Global, tree: &Tree, given: &[UnitName]) -> Result<usize, AllocError> {
+    ample!(looks(alloc, tree, given), AllocError)
+}
+
 fn looks_for(alloc: Global, also: &[u8]) -> Result<usize, Fail> {
     let tree = tree(
         alloc,
@@ -110,18 +113,20 @@ fn looks_for(alloc: Global, also: &[u8]) -> Result<usize, Fail> {
         ],
     )?;
     let given = names(alloc, b"a.service")?;
-    Ok(ample!(looks(alloc, &tree, &given), AllocError)?)
+    Ok(looked(alloc, &tree, &given)?)
 }
+
+const LOOKS: [(&[u8], usize); 4] = [
+    (b"[Install]\n", 5),
+    (b"[Install]\nAlso=b.service\n", 14),
+    (b"[Install]\nAlso=b.service b.service\n", 18),
+    (b"[Install]\nAlso=a.service\n", 9),
+];
 
 #[test]
 fn a_word_is_looked_up_as_often_as_it_stands(rt: HostRuntime) -> Result<(), Fail> {
     // A unit in the last directory is found by four paths, and for its words its file is looked at once more.
-    for (also, count) in [
-        (b"[Install]\n".as_slice(), 5),
-        (b"[Install]\nAlso=b.service\n".as_slice(), 14),
-        (b"[Install]\nAlso=b.service b.service\n".as_slice(), 18),
-        (b"[Install]\nAlso=a.service\n".as_slice(), 9),
-    ] {
+    for (also, count) in LOOKS {
         assert_eq!(rt; looks_for(rt.alloc(), also)?, count);
     }
     Ok(())
@@ -145,18 +150,38 @@ fn assert_members(rt: &impl Abort, members: &Members, one: &UnitName, none: &Uni
     assert!(rt; members.get(2).is_none());
 }
 
+/// What is found for units that are given, of `A` and `B`.
+fn closed_of(alloc: Global, given: &[u8]) -> Result<Result<Closed, ClosureFault>, Fail> {
+    let tree = tree(alloc, &[A, B])?;
+    let given = names(alloc, given)?;
+    Ok(ample!(closed(alloc, &tree, &given), AllocError)?)
+}
+
+fn assert_named(
+    rt: &impl Abort,
+    alloc: Global,
+    members: &Members,
+    one: &[u8],
+    none: &[u8],
+) -> Result<(), NameError> {
+    let one = named(alloc, one)?;
+    let none = named(alloc, none)?;
+    assert_members(rt, members, &one, &none);
+    Ok(())
+}
+
 #[test]
 fn members_are_found_by_name_and_place(rt: HostRuntime) -> Result<(), Fail> {
-    let alloc = rt.alloc();
-    let tree = tree(alloc, &[A, B])?;
-    let given = names(alloc, b"a.service")?;
-    let one = named(alloc, b"b.service")?;
-    let none = named(alloc, b"none.service")?;
-    match ample!(closed(alloc, &tree, &given), AllocError)? {
-        Ok(closed) => assert_members(&rt, &closed.units, &one, &none),
-        Err(ClosureFault::TooMany) => assert!(rt; false),
+    match closed_of(rt.alloc(), b"a.service")? {
+        Ok(closed) => Ok(assert_named(
+            &rt,
+            rt.alloc(),
+            &closed.units,
+            b"b.service",
+            b"none.service",
+        )?),
+        Err(ClosureFault::TooMany) => Err(Fail::from("too many")),
     }
-    Ok(())
 }
 
 fn assert_cells(rt: &impl Abort, closure: &Closure, count: usize, last: &[u8]) {
@@ -168,12 +193,20 @@ fn assert_cells(rt: &impl Abort, closure: &Closure, count: usize, last: &[u8]) {
     }
 }
 
+fn closure_again(alloc: Global, tree: &Tree, given: &[UnitName]) -> Result<Closure, ClosureError> {
+    ample!(closure(alloc, tree, given), ClosureError::OutOfMemory)
+}
+
+/// The closure of units that are given, of `A` and `B`.
+fn closure_of(alloc: Global, given: &[u8]) -> Result<Closure, Fail> {
+    let tree = tree(alloc, &[A, B])?;
+    let given = names(alloc, given)?;
+    Ok(closure_again(alloc, &tree, &given)?)
+}
+
 #[test]
 fn each_path_is_listed_once(rt: HostRuntime) -> Result<(), Fail> {
-    let alloc = rt.alloc();
-    let tree = tree(alloc, &[A, B])?;
-    let given = names(alloc, b"a.service")?;
-    let closure = ample!(closure(alloc, &tree, &given), ClosureError::OutOfMemory)?;
+    let closure = closure_of(rt.alloc(), b"a.service")?;
     assert_cells(&rt, &closure, 12, b"/usr/lib/systemd/system/none.service");
     Ok(())
 }

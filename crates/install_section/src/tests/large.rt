@@ -91,20 +91,25 @@ fn a_thousand_given_units(rt: HostRuntime) -> Result<(), Fail> {
     assert_given(&rt, rt.alloc(), 1025, Err(0))
 }
 
+/// A tree with a unit whose section names so many different units.
+fn star(alloc: Global, count: usize) -> Result<Tree, Fail> {
+    let section = naming(alloc, count)?;
+    tree(
+        alloc,
+        &[
+            Row::File(b"a.service", &section),
+            Row::File(b"u@.service", b"[Install]\n"),
+        ],
+    )
+}
+
 fn assert_star(
     rt: &impl Abort,
     alloc: Global,
     count: usize,
     counts: Result<(usize, usize), usize>,
 ) -> Result<(), Fail> {
-    let section = naming(alloc, count)?;
-    let tree = tree(
-        alloc,
-        &[
-            Row::File(b"a.service", &section),
-            Row::File(b"u@.service", b"[Install]\n"),
-        ],
-    )?;
+    let tree = star(alloc, count)?;
     let given = names(alloc, b"a.service")?;
     assert_counts(rt, alloc, &tree, &given, counts);
     Ok(())

@@ -1,6 +1,6 @@
 //! Which links units want.
 use crate::tests::units::{Row, names, tree, wanted_text};
-use crate::{Links, wanted, wanted_into};
+use crate::{Links, Wanted, WantedError, wanted, wanted_into};
 use link_tree::{PathError, Scope, Tree, TreePath};
 use load_path::Cells;
 use std::alloc::{AllocError, Global};
@@ -49,6 +49,18 @@ fn equal_targets_are_no_clash(rt: HostRuntime) -> Result<(), Fail> {
     assert_wanted(&rt, rt.alloc(), &rows, b"a.service a.service", text)
 }
 
+const CLASHES: [(&[u8], &[u8]); 3] = [
+    (
+        b"a.service b.service",
+        b"clash /etc/systemd/system/c.service\n",
+    ),
+    (
+        b"b.service a.service",
+        b"clash /etc/systemd/system/c.service\n",
+    ),
+    (b"a.service b.service t@.service", b"needs t@.service\n"),
+];
+
 #[test]
 fn the_least_clash_is_told(rt: HostRuntime) -> Result<(), Fail> {
     let rows = [
@@ -56,20 +68,7 @@ fn the_least_clash_is_told(rt: HostRuntime) -> Result<(), Fail> {
         Row::File(b"b.service", b"[Install]\nAlias=d.service c.service\n"),
         Row::File(b"t@.service", b"[Install]\nWantedBy=m.target\n"),
     ];
-    for (units, text) in [
-        (
-            b"a.service b.service".as_slice(),
-            b"clash /etc/systemd/system/c.service\n".as_slice(),
-        ),
-        (
-            b"b.service a.service".as_slice(),
-            b"clash /etc/systemd/system/c.service\n".as_slice(),
-        ),
-        (
-            b"a.service b.service t@.service".as_slice(),
-            b"needs t@.service\n".as_slice(),
-        ),
-    ] {
+    for (units, text) in CLASHES {
         assert_wanted(&rt, rt.alloc(), &rows, units, text)?;
     }
     Ok(())
@@ -92,39 +91,29 @@ const MONITOR: Row = Row::File(
     b"[Install]\nWantedBy=container@.target\nDefaultInstance=x\n",
 );
 
+const DEFAULTS: [(&[u8], &[u8]); 7] = [
+    (
+        b"getty@.service",
+        b"/etc/systemd/system/getty.target.wants/getty@tty1.service -> /usr/lib/systemd/system/getty@.service\n",
+    ),
+    (
+        b"getty@tty2.service",
+        b"/etc/systemd/system/getty.target.wants/getty@tty2.service -> /usr/lib/systemd/system/getty@.service\n",
+    ),
+    (
+        b"monitor@.service",
+        b"/etc/systemd/system/container@.target.wants/monitor@.service -> /usr/lib/systemd/system/monitor@.service\n",
+    ),
+    (b"web@.service", b"needs web@.service\n"),
+    (b"odd@.service", b"needs odd@.service\n"),
+    (b"web@.service odd@.service", b"needs odd@.service\n"),
+    (b"odd@.service web@.service", b"needs odd@.service\n"),
+];
+
 #[test]
 fn templates_stand_for_their_default_instance(rt: HostRuntime) -> Result<(), Fail> {
     let rows = [GETTY, WEB, ODD, MONITOR];
-    for (units, text) in [
-        (
-            b"getty@.service".as_slice(),
-            b"/etc/systemd/system/getty.target.wants/getty@tty1.service -> /usr/lib/systemd/system/getty@.service\n".as_slice(),
-        ),
-        (
-            b"getty@tty2.service".as_slice(),
-            b"/etc/systemd/system/getty.target.wants/getty@tty2.service -> /usr/lib/systemd/system/getty@.service\n".as_slice(),
-        ),
-        (
-            b"monitor@.service".as_slice(),
-            b"/etc/systemd/system/container@.target.wants/monitor@.service -> /usr/lib/systemd/system/monitor@.service\n".as_slice(),
-        ),
-        (
-            b"web@.service".as_slice(),
-            b"needs web@.service\n".as_slice(),
-        ),
-        (
-            b"odd@.service".as_slice(),
-            b"needs odd@.service\n".as_slice(),
-        ),
-        (
-            b"web@.service odd@.service".as_slice(),
-            b"needs odd@.service\n".as_slice(),
-        ),
-        (
-            b"odd@.service web@.service".as_slice(),
-            b"needs odd@.service\n".as_slice(),
-        ),
-    ] {
+    for (units, text) in DEFAULTS {
         assert_wanted(&rt, rt.alloc(), &rows, units, text)?;
     }
     Ok(())
@@ -167,19 +156,43 @@ fn path(alloc: Global, text: &[u8]) -> Result<TreePath, PathError> {
     ample!(TreePath::parse(alloc, text), PathError::OutOfMemory)
 }
 
-#[test]
-fn links_are_found_by_path(rt: HostRuntime) -> Result<(), Fail> {
-    let alloc = rt.alloc();
+fn assert_found(
+    rt: &impl Abort,
+    alloc: Global,
+    links: &Links,
+    at: &[u8],
+    none: &[u8],
+) -> Result<(), PathError> {
+    let at = path(alloc, at)?;
+    let none = path(alloc, none)?;
+    assert_links(rt, links, &at, &none);
+    Ok(())
+}
+
+fn wanted_again(alloc: Global, tree: &Tree, units: &[UnitName]) -> Result<Wanted, WantedError> {
+    ample!(
+        wanted(alloc, tree, units, Scope::Etc, false),
+        WantedError::OutOfMemory
+    )
+}
+
+/// What `ssh.service` wants.
+fn wanted_by_ssh(alloc: Global) -> Result<Wanted, Fail> {
     let tree = tree(alloc, &[SSH])?;
     let units = names(alloc, b"ssh.service")?;
-    let at = path(alloc, b"/etc/systemd/system/sshd.service")?;
-    let none = path(alloc, b"/etc/systemd/system/ssh.service")?;
-    let wanted = ample!(
-        wanted(alloc, &tree, &units, Scope::Etc, false),
-        crate::WantedError::OutOfMemory
-    )?;
-    assert_links(&rt, &wanted.links, &at, &none);
-    Ok(())
+    Ok(wanted_again(alloc, &tree, &units)?)
+}
+
+#[test]
+fn links_are_found_by_path(rt: HostRuntime) -> Result<(), Fail> {
+    let wanted = wanted_by_ssh(rt.alloc())?;
+    Ok(assert_found(
+        &rt,
+        rt.alloc(),
+        &wanted.links,
+        b"/etc/systemd/system/sshd.service",
+        b"/etc/systemd/system/ssh.service",
+    )?)
 }
 
 /// How many paths are looked at, each counted as often.
@@ -189,13 +202,19 @@ fn looks(alloc: Global, tree: &Tree, units: &[UnitName]) -> Result<usize, AllocE
     Ok(cells.as_slice().len())
 }
 
+fn looked(alloc: Global, tree: &Tree, units: &[UnitName]) -> Result<usize, AllocError> {
+    ample!(looks(alloc, tree, units), AllocError)
+}
+
+fn looks_for(alloc: Global, units: &[u8]) -> Result<usize, Fail> {
+    let tree = tree(alloc, &[SSH])?;
+    let units = names(alloc, units)?;
+    Ok(looked(alloc, &tree, &units)?)
+}
+
 #[test]
 fn units_are_looked_up_and_their_files_read(rt: HostRuntime) -> Result<(), Fail> {
-    let alloc = rt.alloc();
-    let tree = tree(alloc, &[SSH])?;
     // Found by four paths, and its file looked at once more; of the other there is none.
-    let units = names(alloc, b"ssh.service none.service")?;
-    let count = ample!(looks(alloc, &tree, &units), AllocError)?;
-    assert_eq!(rt; count, 9);
+    assert_eq!(rt; looks_for(rt.alloc(), b"ssh.service none.service")?, 9);
     Ok(())
 }

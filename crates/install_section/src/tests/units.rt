@@ -17,29 +17,44 @@ pub(crate) fn named(alloc: Global, text: &[u8]) -> Result<UnitName, NameError> {
     ample!(UnitName::parse(alloc, text), NameError::OutOfMemory)
 }
 
+/// Puts an entry at the slot of a name in `/usr/lib/systemd/system`.
+fn put_named(
+    alloc: Global,
+    tree: &mut Tree,
+    name: &UnitName,
+    entry: &Entry,
+) -> Result<(), AllocError> {
+    let slot = Place::Vendor.slot(alloc, name)?;
+    tree.set(&slot, Some(entry.copy()?))
+}
+
 fn put(alloc: Global, tree: &mut Tree, name: &[u8], entry: &Entry) -> Result<(), Fail> {
     let name = named(alloc, name)?;
-    let slot = ample!(Place::Vendor.slot(alloc, &name), AllocError)?;
-    ample!(
-        {
-            let entry = ample!(entry.copy(), AllocError)?;
-            tree.set(&slot, Some(entry))
-        },
-        AllocError
-    )?;
-    Ok(())
+    Ok(ample!(put_named(alloc, tree, &name, entry), AllocError)?)
+}
+
+fn file(alloc: Global, bytes: &[u8]) -> Result<Entry, FileError> {
+    ample!(Entry::file(alloc, bytes), FileError::OutOfMemory)
+}
+
+fn link(alloc: Global, target: &[u8]) -> Result<Entry, TargetError> {
+    ample!(Entry::link(alloc, target), TargetError::OutOfMemory)
+}
+
+fn put_file(alloc: Global, tree: &mut Tree, name: &[u8], bytes: &[u8]) -> Result<(), Fail> {
+    let file = file(alloc, bytes)?;
+    put(alloc, tree, name, &file)
+}
+
+fn put_link(alloc: Global, tree: &mut Tree, name: &[u8], target: &[u8]) -> Result<(), Fail> {
+    let link = link(alloc, target)?;
+    put(alloc, tree, name, &link)
 }
 
 fn put_row(alloc: Global, tree: &mut Tree, row: Row) -> Result<(), Fail> {
     match row {
-        Row::File(name, bytes) => {
-            let file = ample!(Entry::file(alloc, bytes), FileError::OutOfMemory)?;
-            put(alloc, tree, name, &file)
-        }
-        Row::Link(name, target) => {
-            let link = ample!(Entry::link(alloc, target), TargetError::OutOfMemory)?;
-            put(alloc, tree, name, &link)
-        }
+        Row::File(name, bytes) => put_file(alloc, tree, name, bytes),
+        Row::Link(name, target) => put_link(alloc, tree, name, target),
     }
 }
 
@@ -107,17 +122,27 @@ fn closed(alloc: Global, tree: &Tree, given: &[UnitName]) -> Result<Closure, Clo
     ample!(closure(alloc, tree, given), ClosureError::OutOfMemory)
 }
 
+fn text_of_closure(alloc: Global, closure: &Closure) -> Result<Vec<u8>, AllocError> {
+    ample!(closure_told(alloc, closure), AllocError)
+}
+
+fn too_many(alloc: Global) -> Result<Vec<u8>, AllocError> {
+    ample!(Vec::from_slice(alloc, b"too many\n"), AllocError)
+}
+
+fn found(alloc: Global, tree: &Tree, given: &[UnitName]) -> Result<Vec<u8>, AllocError> {
+    match closed(alloc, tree, given) {
+        Ok(closure) => text_of_closure(alloc, &closure),
+        Err(ClosureError::TooMany(_)) => too_many(alloc),
+        Err(ClosureError::OutOfMemory) => Err(AllocError),
+    }
+}
+
 /// The units of a closure and its notices, a line each; or `too many`.
 pub(crate) fn closure_text(alloc: Global, rows: &[Row], given: &[u8]) -> Result<Vec<u8>, Fail> {
     let tree = tree(alloc, rows)?;
     let given = names(alloc, given)?;
-    match closed(alloc, &tree, &given) {
-        Ok(closure) => Ok(ample!(closure_told(alloc, &closure), AllocError)?),
-        Err(ClosureError::TooMany(_)) => {
-            Ok(ample!(Vec::from_slice(alloc, b"too many\n"), AllocError)?)
-        }
-        Err(ClosureError::OutOfMemory) => Err(Fail::from(AllocError)),
-    }
+    Ok(found(alloc, &tree, &given)?)
 }
 
 fn wants(
@@ -140,6 +165,29 @@ fn with_line(alloc: Global, before: &[u8], text: &[u8]) -> Result<Vec<u8>, Alloc
     Ok(line)
 }
 
+fn text_of_line(alloc: Global, before: &[u8], text: &[u8]) -> Result<Vec<u8>, AllocError> {
+    ample!(with_line(alloc, before, text), AllocError)
+}
+
+fn text_of_wanted(alloc: Global, wanted: &Wanted) -> Result<Vec<u8>, AllocError> {
+    ample!(wanted_told(alloc, wanted), AllocError)
+}
+
+fn asked(
+    alloc: Global,
+    tree: &Tree,
+    units: &[UnitName],
+    scope: Scope,
+    skip: bool,
+) -> Result<Vec<u8>, AllocError> {
+    match wants(alloc, tree, units, scope, skip) {
+        Ok(wanted) => text_of_wanted(alloc, &wanted),
+        Err(WantedError::NeedsInstance(unit)) => text_of_line(alloc, b"needs ", unit.text()),
+        Err(WantedError::Clash(path)) => text_of_line(alloc, b"clash ", path.text()),
+        Err(WantedError::OutOfMemory) => Err(AllocError),
+    }
+}
+
 /// The links that units want and the notices, a line each; or what is wrong with them.
 pub(crate) fn wanted_text(
     alloc: Global,
@@ -150,14 +198,5 @@ pub(crate) fn wanted_text(
 ) -> Result<Vec<u8>, Fail> {
     let tree = tree(alloc, rows)?;
     let units = names(alloc, units)?;
-    match wants(alloc, &tree, &units, scope, skip) {
-        Ok(wanted) => Ok(ample!(wanted_told(alloc, &wanted), AllocError)?),
-        Err(WantedError::NeedsInstance(unit)) => {
-            Ok(ample!(with_line(alloc, b"needs ", unit.text()), AllocError)?)
-        }
-        Err(WantedError::Clash(path)) => {
-            Ok(ample!(with_line(alloc, b"clash ", path.text()), AllocError)?)
-        }
-        Err(WantedError::OutOfMemory) => Err(Fail::from(AllocError)),
-    }
+    Ok(asked(alloc, &tree, &units, scope, skip)?)
 }

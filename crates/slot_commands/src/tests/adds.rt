@@ -1,5 +1,5 @@
 //! add-wants and add-requires.
-use super::trees::{assert_other, assert_reads, assert_told, name, tree, units};
+use super::trees::{assert_other, assert_reads, assert_told, name, units};
 use crate::AddTo;
 use link_tree::{Dependency, Scope};
 use std::alloc::Global;
@@ -31,13 +31,24 @@ const DEFAULT: &[u8] = b"unitadm-inventory 1\n\
     F\t1\t/usr/lib/systemd/system/ssh.service\ns\n\
     end\n";
 
-fn wants(alloc: Global, target: &[u8], list: &[u8]) -> Result<AddTo, NameError> {
+fn add(
+    alloc: Global,
+    (scope, dependency): (Scope, Dependency),
+    target: &[u8],
+    list: &[u8],
+) -> Result<AddTo, NameError> {
+    let target = name(alloc, target)?;
+    let units = units(alloc, list)?;
     Ok(AddTo {
-        scope: Scope::Etc,
-        dependency: Dependency::Wants,
-        target: name(alloc, target)?,
-        units: units(alloc, list)?,
+        scope,
+        dependency,
+        target,
+        units,
     })
+}
+
+fn wants(alloc: Global, target: &[u8], list: &[u8]) -> Result<AddTo, NameError> {
+    add(alloc, (Scope::Etc, Dependency::Wants), target, list)
 }
 
 /// What `add-wants` comes to without `--runtime`.
@@ -48,10 +59,8 @@ fn assert_added(
     list: &[u8],
     text: &[u8],
 ) -> Result<(), Fail> {
-    let tree = tree(alloc, TREE)?;
     let add = wants(alloc, target, list)?;
-    assert_told(rt, alloc, &add, &tree, text)?;
-    Ok(())
+    assert_told(rt, alloc, &add, TREE, text)
 }
 
 #[test]
@@ -69,16 +78,16 @@ fn units_are_wanted_by_the_target(rt: HostRuntime) -> Result<(), Fail> {
 
 #[test]
 fn units_are_required_by_the_target(rt: HostRuntime) -> Result<(), Fail> {
-    let alloc = rt.alloc();
-    let tree = tree(alloc, TREE)?;
-    let mut add = wants(alloc, b"default.target", b"ssh.service getty@.service")?;
-    add.scope = Scope::Run;
-    add.dependency = Dependency::Requires;
+    let add = add(
+        rt.alloc(),
+        (Scope::Run, Dependency::Requires),
+        b"default.target",
+        b"ssh.service getty@.service",
+    )?;
     let text = b"done\n\
         + /run/systemd/system/graphical.target.requires/getty@tty1.service -> /usr/lib/systemd/system/getty@.service\n\
         + /run/systemd/system/graphical.target.requires/ssh.service -> /usr/lib/systemd/system/ssh.service\n";
-    assert_told(&rt, alloc, &add, &tree, text)?;
-    Ok(())
+    assert_told(&rt, rt.alloc(), &add, TREE, text)
 }
 
 #[test]
@@ -144,9 +153,7 @@ fn add_wants_an_instance(rt: HostRuntime) -> Result<(), Fail> {
 
 #[test]
 fn add_reads_what_is_found_and_its_link(rt: HostRuntime) -> Result<(), Fail> {
-    let alloc = rt.alloc();
-    let tree = tree(alloc, DEFAULT)?;
-    let add = wants(alloc, b"default.target", b"ssh.service")?;
+    let add = wants(rt.alloc(), b"default.target", b"ssh.service")?;
     let text = b"/etc/systemd/system/default.target\n\
         /etc/systemd/system/graphical.target.wants/ssh.service\n\
         /etc/systemd/system/ssh.service\n\
@@ -157,39 +164,42 @@ fn add_reads_what_is_found_and_its_link(rt: HostRuntime) -> Result<(), Fail> {
         /usr/lib/systemd/system/ssh.service\n\
         /usr/local/lib/systemd/system/default.target\n\
         /usr/local/lib/systemd/system/ssh.service\n";
-    assert_reads(&rt, alloc, &add, &tree, text)?;
-    Ok(())
+    assert_reads(&rt, rt.alloc(), &add, DEFAULT, text)
 }
 
 #[test]
 fn a_refused_add_has_read_up_to_the_refusal(rt: HostRuntime) -> Result<(), Fail> {
-    let alloc = rt.alloc();
-    let tree = tree(alloc, TREE)?;
-    let add = wants(alloc, b"d.target", b"ssh.service")?;
+    let add = wants(rt.alloc(), b"d.target", b"ssh.service")?;
     let text = b"/etc/systemd/system/d.target\n/etc/systemd/system/none\n";
-    assert_reads(&rt, alloc, &add, &tree, text)?;
+    assert_reads(&rt, rt.alloc(), &add, TREE, text)
+}
+
+/// An addition is told apart from this one.
+fn assert_apart(
+    rt: &impl Abort,
+    alloc: Global,
+    one: &AddTo,
+    (scope, dependency): (Scope, Dependency),
+    (target, list): (&[u8], &[u8]),
+) -> Result<(), NameError> {
+    let other = add(alloc, (scope, dependency), target, list)?;
+    assert_other(rt, one, &other);
     Ok(())
 }
+
+/// Each has one thing in which it is other than `add-wants a.target a.service`.
+const OTHERS: [(Scope, Dependency, &[u8], &[u8]); 4] = [
+    (Scope::Etc, Dependency::Wants, b"b.target", b"a.service"),
+    (Scope::Etc, Dependency::Requires, b"a.target", b"a.service"),
+    (Scope::Run, Dependency::Wants, b"a.target", b"a.service"),
+    (Scope::Etc, Dependency::Wants, b"a.target", b"b.service"),
+];
 
 #[test]
 fn adds_are_told_apart(rt: HostRuntime) -> Result<(), Fail> {
-    let alloc = rt.alloc();
-    let one = wants(alloc, b"a.target", b"a.service")?;
-    let mut other = wants(alloc, b"b.target", b"a.service")?;
-    assert_other(&rt, &one, &other);
-    other.target = name(alloc, b"a.target")?;
-    other.dependency = Dependency::Requires;
-    assert_other(&rt, &one, &other);
-    other.dependency = Dependency::Wants;
-    other.scope = Scope::Run;
-    assert_other(&rt, &one, &other);
-    Ok(())
-}
-
-#[test]
-fn adds_of_other_units_are_told_apart(rt: HostRuntime) -> Result<(), Fail> {
-    let alloc = rt.alloc();
-    let one = wants(alloc, b"a.target", b"a.service")?;
-    assert_other(&rt, &one, &wants(alloc, b"a.target", b"b.service")?);
+    let one = wants(rt.alloc(), b"a.target", b"a.service")?;
+    for (scope, dependency, target, list) in OTHERS {
+        assert_apart(&rt, rt.alloc(), &one, (scope, dependency), (target, list))?;
+    }
     Ok(())
 }

@@ -1,7 +1,6 @@
 //! set-default.
-use super::trees::{assert_other, assert_reads, assert_told, name, tree};
+use super::trees::{assert_other, assert_reads, assert_told, name};
 use crate::SetDefault;
-use link_tree::Tree;
 use std::alloc::{AllocError, Global};
 use std::process::Abort;
 use std::test::Fail;
@@ -36,10 +35,9 @@ fn inventory(alloc: Global, default: &[u8]) -> Result<Vec<u8>, AllocError> {
     Ok(text)
 }
 
-/// The tree with this entry as the default target.
-fn tree_with(alloc: Global, default: &[u8]) -> Result<Tree, Fail> {
-    let text = ample!(inventory(alloc, default), AllocError)?;
-    Ok(tree(alloc, text.as_slice())?)
+/// The inventory with this entry as the default target.
+fn inventory_with(alloc: Global, default: &[u8]) -> Result<Vec<u8>, AllocError> {
+    ample!(inventory(alloc, default), AllocError)
 }
 
 fn set_default(alloc: Global, unit: &[u8]) -> Result<SetDefault, NameError> {
@@ -54,10 +52,16 @@ fn assert_set(
     unit: &[u8],
     text: &[u8],
 ) -> Result<(), Fail> {
-    let tree = tree_with(alloc, default)?;
+    let inventory = inventory_with(alloc, default)?;
     let command = set_default(alloc, unit)?;
-    assert_told(rt, alloc, &command, &tree, text)?;
-    Ok(())
+    assert_told(rt, alloc, &command, &inventory, text)
+}
+
+/// What `set-default` reads, where there is no default target.
+fn assert_read(rt: &impl Abort, alloc: Global, unit: &[u8], text: &[u8]) -> Result<(), Fail> {
+    let inventory = inventory_with(alloc, b"")?;
+    let command = set_default(alloc, unit)?;
+    assert_reads(rt, alloc, &command, &inventory, text)
 }
 
 #[test]
@@ -129,33 +133,25 @@ fn a_file_is_in_the_way_of_the_default(rt: HostRuntime) -> Result<(), Fail> {
 
 #[test]
 fn the_default_is_read_where_a_target_is_found(rt: HostRuntime) -> Result<(), Fail> {
-    let alloc = rt.alloc();
-    let tree = tree_with(alloc, b"")?;
-    let done = set_default(alloc, b"runlevel3.target")?;
     let text = b"/etc/systemd/system/default.target\n\
         /etc/systemd/system/runlevel3.target\n\
         /run/systemd/system/runlevel3.target\n\
         /usr/lib/systemd/system/multi-user.target\n\
         /usr/lib/systemd/system/runlevel3.target\n\
         /usr/local/lib/systemd/system/runlevel3.target\n";
-    assert_reads(&rt, alloc, &done, &tree, text)?;
-    Ok(())
+    assert_read(&rt, rt.alloc(), b"runlevel3.target", text)
 }
 
 #[test]
 fn a_refused_default_is_not_read(rt: HostRuntime) -> Result<(), Fail> {
-    let alloc = rt.alloc();
-    let tree = tree_with(alloc, b"")?;
-    let refused = set_default(alloc, b"m.service")?;
     let text = b"/etc/systemd/system/m.service\n";
-    assert_reads(&rt, alloc, &refused, &tree, text)?;
-    Ok(())
+    assert_read(&rt, rt.alloc(), b"m.service", text)
 }
 
 #[test]
 fn defaults_are_told_apart(rt: HostRuntime) -> Result<(), Fail> {
-    let alloc = rt.alloc();
-    let one = set_default(alloc, b"a.target")?;
-    assert_other(&rt, &one, &set_default(alloc, b"b.target")?);
+    let one = set_default(rt.alloc(), b"a.target")?;
+    let other = set_default(rt.alloc(), b"b.target")?;
+    assert_other(&rt, &one, &other);
     Ok(())
 }

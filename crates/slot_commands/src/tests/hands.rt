@@ -1,5 +1,5 @@
 //! Entries that are placed and removed by hand.
-use super::trees::{assert_other, assert_reads, assert_told, path, tree};
+use super::trees::{assert_other, assert_reads, assert_told, path};
 use crate::{PlaceEntry, RemoveEntry};
 use link_tree::{Entry, FileError, PathError, TargetError};
 use std::alloc::Global;
@@ -13,18 +13,24 @@ const TREE: &[u8] = b"unitadm-inventory 1\n\
     L\t/etc/systemd/system/a.service\t/dev/null\n\
     end\n";
 
+fn file(alloc: Global, bytes: &[u8]) -> Result<Entry, FileError> {
+    ample!(Entry::file(alloc, bytes), FileError::OutOfMemory)
+}
+
+fn link(alloc: Global, target: &[u8]) -> Result<Entry, TargetError> {
+    ample!(Entry::link(alloc, target), TargetError::OutOfMemory)
+}
+
 fn place_file(alloc: Global, text: &[u8], bytes: &[u8]) -> Result<PlaceEntry, Fail> {
-    Ok(PlaceEntry {
-        path: path(alloc, text)?,
-        entry: ample!(Entry::file(alloc, bytes), FileError::OutOfMemory)?,
-    })
+    let path = path(alloc, text)?;
+    let entry = file(alloc, bytes)?;
+    Ok(PlaceEntry { path, entry })
 }
 
 fn place_link(alloc: Global, text: &[u8], target: &[u8]) -> Result<PlaceEntry, Fail> {
-    Ok(PlaceEntry {
-        path: path(alloc, text)?,
-        entry: ample!(Entry::link(alloc, target), TargetError::OutOfMemory)?,
-    })
+    let path = path(alloc, text)?;
+    let entry = link(alloc, target)?;
+    Ok(PlaceEntry { path, entry })
 }
 
 fn remove(alloc: Global, text: &[u8]) -> Result<RemoveEntry, PathError> {
@@ -32,23 +38,14 @@ fn remove(alloc: Global, text: &[u8]) -> Result<RemoveEntry, PathError> {
     Ok(RemoveEntry { path })
 }
 
-fn assert_placed(
-    rt: &impl Abort,
-    alloc: Global,
-    place: &PlaceEntry,
-    text: &[u8],
-) -> Result<(), Fail> {
-    let tree = tree(alloc, TREE)?;
-    assert_told(rt, alloc, place, &tree, text)?;
-    Ok(())
-}
-
 fn assert_linked(rt: &impl Abort, alloc: Global, at: &[u8], text: &[u8]) -> Result<(), Fail> {
-    assert_placed(rt, alloc, &place_link(alloc, at, b"y")?, text)
+    let place = place_link(alloc, at, b"y")?;
+    assert_told(rt, alloc, &place, TREE, text)
 }
 
 fn assert_filed(rt: &impl Abort, alloc: Global, at: &[u8], text: &[u8]) -> Result<(), Fail> {
-    assert_placed(rt, alloc, &place_file(alloc, at, b"n")?, text)
+    let place = place_file(alloc, at, b"n")?;
+    assert_told(rt, alloc, &place, TREE, text)
 }
 
 #[test]
@@ -72,10 +69,8 @@ fn entries_are_placed_in_empty_slots_alone(rt: HostRuntime) -> Result<(), Fail> 
 }
 
 fn assert_removed(rt: &impl Abort, alloc: Global, at: &[u8], text: &[u8]) -> Result<(), Fail> {
-    let tree = tree(alloc, TREE)?;
     let remove = remove(alloc, at)?;
-    assert_told(rt, alloc, &remove, &tree, text)?;
-    Ok(())
+    assert_told(rt, alloc, &remove, TREE, text)
 }
 
 #[test]
@@ -96,12 +91,20 @@ fn entries_are_removed_from_slots_alone(rt: HostRuntime) -> Result<(), Fail> {
     assert_removed(&rt, alloc, b"/usr/lib/systemd/system/none.service", absent)
 }
 
+fn assert_place_reads(rt: &impl Abort, alloc: Global, at: &[u8], text: &[u8]) -> Result<(), Fail> {
+    let place = place_link(alloc, at, b"y")?;
+    assert_reads(rt, alloc, &place, TREE, text)
+}
+
+fn assert_remove_reads(rt: &impl Abort, alloc: Global, at: &[u8], text: &[u8]) -> Result<(), Fail> {
+    let remove = remove(alloc, at)?;
+    assert_reads(rt, alloc, &remove, TREE, text)
+}
+
 /// What placing a link reads, and removing what stands there.
 fn assert_read(rt: &impl Abort, alloc: Global, at: &[u8], text: &[u8]) -> Result<(), Fail> {
-    let tree = tree(alloc, TREE)?;
-    assert_reads(rt, alloc, &place_link(alloc, at, b"y")?, &tree, text)?;
-    assert_reads(rt, alloc, &remove(alloc, at)?, &tree, text)?;
-    Ok(())
+    assert_place_reads(rt, alloc, at, text)?;
+    assert_remove_reads(rt, alloc, at, text)
 }
 
 #[test]
@@ -112,18 +115,39 @@ fn slots_alone_are_read(rt: HostRuntime) -> Result<(), Fail> {
     assert_read(&rt, alloc, b"/opt/x", b"")
 }
 
+fn assert_other_link(
+    rt: &impl Abort,
+    alloc: Global,
+    one: &PlaceEntry,
+    at: &[u8],
+) -> Result<(), Fail> {
+    let other = place_link(alloc, at, b"a")?;
+    assert_other(rt, one, &other);
+    Ok(())
+}
+
+fn assert_other_file(
+    rt: &impl Abort,
+    alloc: Global,
+    one: &PlaceEntry,
+    at: &[u8],
+) -> Result<(), Fail> {
+    let other = place_file(alloc, at, b"a")?;
+    assert_other(rt, one, &other);
+    Ok(())
+}
+
 #[test]
 fn places_are_told_apart(rt: HostRuntime) -> Result<(), Fail> {
-    let alloc = rt.alloc();
-    let one = place_link(alloc, b"/x", b"a")?;
-    assert_other(&rt, &one, &place_link(alloc, b"/y", b"a")?);
-    assert_other(&rt, &one, &place_file(alloc, b"/x", b"a")?);
-    Ok(())
+    let one = place_link(rt.alloc(), b"/x", b"a")?;
+    assert_other_link(&rt, rt.alloc(), &one, b"/y")?;
+    assert_other_file(&rt, rt.alloc(), &one, b"/x")
 }
 
 #[test]
 fn removals_are_told_apart(rt: HostRuntime) -> Result<(), Fail> {
     let one = remove(rt.alloc(), b"/x")?;
-    assert_other(&rt, &one, &remove(rt.alloc(), b"/y")?);
+    let other = remove(rt.alloc(), b"/y")?;
+    assert_other(&rt, &one, &other);
     Ok(())
 }

@@ -1,7 +1,7 @@
 //! link.
-use super::trees::{assert_other, assert_reads, assert_told, paths, tree};
+use super::trees::{assert_other, assert_reads, assert_told, paths};
 use crate::LinkUnits;
-use link_tree::Scope;
+use link_tree::{PathError, Scope};
 use std::alloc::Global;
 use std::process::Abort;
 use std::test::Fail;
@@ -24,17 +24,25 @@ const TREE: &[u8] = b"unitadm-inventory 1\n\
     F\t1\t/usr/lib/systemd/system/ssh.service\ns\n\
     end\n";
 
-fn link(alloc: Global, scope: Scope, texts: &[u8]) -> Result<LinkUnits, Fail> {
+fn link(alloc: Global, scope: Scope, texts: &[u8]) -> Result<LinkUnits, PathError> {
     let paths = paths(alloc, texts)?;
     Ok(LinkUnits { scope, paths })
 }
 
+fn assert_linked_in(
+    rt: &impl Abort,
+    alloc: Global,
+    scope: Scope,
+    texts: &[u8],
+    text: &[u8],
+) -> Result<(), Fail> {
+    let link = link(alloc, scope, texts)?;
+    assert_told(rt, alloc, &link, TREE, text)
+}
+
 /// What `link` comes to without `--runtime`.
 fn assert_linked(rt: &impl Abort, alloc: Global, texts: &[u8], text: &[u8]) -> Result<(), Fail> {
-    let tree = tree(alloc, TREE)?;
-    let link = link(alloc, Scope::Etc, texts)?;
-    assert_told(rt, alloc, &link, &tree, text)?;
-    Ok(())
+    assert_linked_in(rt, alloc, Scope::Etc, texts, text)
 }
 
 #[test]
@@ -48,12 +56,15 @@ fn files_are_linked_under_their_names(rt: HostRuntime) -> Result<(), Fail> {
         + /etc/systemd/system/app.service -> /opt/app.service\n\
         + /etc/systemd/system/l.service -> /opt/l.service\n",
     )?;
-    let run = link(alloc, Scope::Run, b"/opt/b.service /opt/app.service")?;
-    let text = b"done\n\
+    assert_linked_in(
+        &rt,
+        alloc,
+        Scope::Run,
+        b"/opt/b.service /opt/app.service",
+        b"done\n\
         + /run/systemd/system/app.service -> /opt/app.service\n\
-        + /run/systemd/system/b.service -> /opt/b.service\n";
-    assert_told(&rt, alloc, &run, &tree(alloc, TREE)?, text)?;
-    Ok(())
+        + /run/systemd/system/b.service -> /opt/b.service\n",
+    )
 }
 
 #[test]
@@ -94,10 +105,8 @@ fn link_is_refused_by_its_name_and_slot(rt: HostRuntime) -> Result<(), Fail> {
 
 #[test]
 fn link_reads_up_to_the_refused_path(rt: HostRuntime) -> Result<(), Fail> {
-    let alloc = rt.alloc();
-    let tree = tree(alloc, TREE)?;
     let refused = link(
-        alloc,
+        rt.alloc(),
         Scope::Etc,
         b"/usr/lib/systemd/system/ssh.service /opt/l.service /opt/d.service /opt/b.service",
     )?;
@@ -108,15 +117,25 @@ fn link_reads_up_to_the_refused_path(rt: HostRuntime) -> Result<(), Fail> {
         /opt/l.service\n\
         /opt/none\n\
         /usr/lib/systemd/system/ssh.service\n";
-    assert_reads(&rt, alloc, &refused, &tree, text)?;
+    assert_reads(&rt, rt.alloc(), &refused, TREE, text)
+}
+
+fn assert_apart(
+    rt: &impl Abort,
+    alloc: Global,
+    one: &LinkUnits,
+    scope: Scope,
+    texts: &[u8],
+) -> Result<(), PathError> {
+    let other = link(alloc, scope, texts)?;
+    assert_other(rt, one, &other);
     Ok(())
 }
 
 #[test]
 fn links_are_told_apart(rt: HostRuntime) -> Result<(), Fail> {
-    let alloc = rt.alloc();
-    let one = link(alloc, Scope::Etc, b"/opt/a.service")?;
-    assert_other(&rt, &one, &link(alloc, Scope::Etc, b"/opt/b.service")?);
-    assert_other(&rt, &one, &link(alloc, Scope::Run, b"/opt/a.service")?);
+    let one = link(rt.alloc(), Scope::Etc, b"/opt/a.service")?;
+    assert_apart(&rt, rt.alloc(), &one, Scope::Etc, b"/opt/b.service")?;
+    assert_apart(&rt, rt.alloc(), &one, Scope::Run, b"/opt/a.service")?;
     Ok(())
 }

@@ -31,10 +31,8 @@ fn unmask(alloc: Global, scope: Scope, names: &[u8]) -> Result<Unmask, NameError
 
 /// What `mask` comes to without `--runtime`.
 fn assert_masked(rt: &impl Abort, alloc: Global, names: &[u8], text: &[u8]) -> Result<(), Fail> {
-    let tree = tree(alloc, TREE)?;
     let mask = mask(alloc, Scope::Etc, names)?;
-    assert_told(rt, alloc, &mask, &tree, text)?;
-    Ok(())
+    assert_told(rt, alloc, &mask, TREE, text)
 }
 
 #[test]
@@ -48,12 +46,9 @@ fn mask_fills_empty_slots(rt: HostRuntime) -> Result<(), Fail> {
 
 #[test]
 fn mask_fills_a_slot_until_the_next_start(rt: HostRuntime) -> Result<(), Fail> {
-    let alloc = rt.alloc();
-    let tree = tree(alloc, TREE)?;
-    let mask = mask(alloc, Scope::Run, b"x.service")?;
+    let mask = mask(rt.alloc(), Scope::Run, b"x.service")?;
     let text = b"done\n+ /run/systemd/system/x.service -> /dev/null\n";
-    assert_told(&rt, alloc, &mask, &tree, text)?;
-    Ok(())
+    assert_told(&rt, rt.alloc(), &mask, TREE, text)
 }
 
 #[test]
@@ -69,67 +64,79 @@ fn other_entries_are_in_the_way_of_mask(rt: HostRuntime) -> Result<(), Fail> {
 
 #[test]
 fn unmask_takes_masks_away(rt: HostRuntime) -> Result<(), Fail> {
-    let alloc = rt.alloc();
-    let tree = tree(alloc, TREE)?;
     let names = b"x.service d.service a.service e.service r.service f.service d.service";
-    let unmask = unmask(alloc, Scope::Etc, names)?;
+    let unmask = unmask(rt.alloc(), Scope::Etc, names)?;
     let text = b"done\n\
         - /etc/systemd/system/a.service -> /dev/null\n\
         - /etc/systemd/system/d.service -> ../../../dev/./null\n\
         - /etc/systemd/system/e.service file \n";
-    assert_told(&rt, alloc, &unmask, &tree, text)?;
-    Ok(())
+    assert_told(&rt, rt.alloc(), &unmask, TREE, text)
 }
 
 #[test]
 fn mask_reads_up_to_the_refused_slot(rt: HostRuntime) -> Result<(), Fail> {
-    let alloc = rt.alloc();
-    let tree = tree(alloc, TREE)?;
-    let mask = mask(alloc, Scope::Etc, b"z.service x.service b.service")?;
+    let mask = mask(rt.alloc(), Scope::Etc, b"z.service x.service b.service")?;
     let text = b"/etc/systemd/system/x.service\n/etc/systemd/system/z.service\n";
-    assert_reads(&rt, alloc, &mask, &tree, text)?;
-    Ok(())
+    assert_reads(&rt, rt.alloc(), &mask, TREE, text)
 }
 
 #[test]
 fn unmask_reads_each_slot_once(rt: HostRuntime) -> Result<(), Fail> {
-    let alloc = rt.alloc();
-    let tree = tree(alloc, TREE)?;
-    let unmask = unmask(alloc, Scope::Run, b"r.service b.service r.service")?;
+    let unmask = unmask(rt.alloc(), Scope::Run, b"r.service b.service r.service")?;
     let text = b"/run/systemd/system/b.service\n/run/systemd/system/r.service\n";
-    assert_reads(&rt, alloc, &unmask, &tree, text)?;
+    assert_reads(&rt, rt.alloc(), &unmask, TREE, text)
+}
+
+fn assert_masks_apart(
+    rt: &impl Abort,
+    alloc: Global,
+    one: &Mask,
+    scope: Scope,
+    names: &[u8],
+) -> Result<(), NameError> {
+    let other = mask(alloc, scope, names)?;
+    assert_other(rt, one, &other);
     Ok(())
 }
 
 #[test]
 fn masks_are_told_apart(rt: HostRuntime) -> Result<(), Fail> {
-    let alloc = rt.alloc();
-    let one = mask(alloc, Scope::Etc, b"x.service")?;
-    let mut other = mask(alloc, Scope::Etc, b"y.service")?;
-    assert_other(&rt, &one, &other);
-    other.units = units(alloc, b"x.service")?;
-    other.scope = Scope::Run;
-    assert_other(&rt, &one, &other);
+    let one = mask(rt.alloc(), Scope::Etc, b"x.service")?;
+    assert_masks_apart(&rt, rt.alloc(), &one, Scope::Etc, b"y.service")?;
+    assert_masks_apart(&rt, rt.alloc(), &one, Scope::Run, b"x.service")?;
+    Ok(())
+}
+
+fn assert_unmasks_apart(
+    rt: &impl Abort,
+    alloc: Global,
+    one: &Unmask,
+    scope: Scope,
+    names: &[u8],
+) -> Result<(), NameError> {
+    let other = unmask(alloc, scope, names)?;
+    assert_other(rt, one, &other);
     Ok(())
 }
 
 #[test]
 fn unmasks_are_told_apart(rt: HostRuntime) -> Result<(), Fail> {
-    let alloc = rt.alloc();
-    let one = unmask(alloc, Scope::Etc, b"x.service")?;
-    let mut other = unmask(alloc, Scope::Etc, b"x.service y.service")?;
-    assert_other(&rt, &one, &other);
-    other.units = units(alloc, b"x.service")?;
-    other.scope = Scope::Run;
-    assert_other(&rt, &one, &other);
+    let one = unmask(rt.alloc(), Scope::Etc, b"x.service")?;
+    let names = b"x.service y.service";
+    assert_unmasks_apart(&rt, rt.alloc(), &one, Scope::Etc, names)?;
+    assert_unmasks_apart(&rt, rt.alloc(), &one, Scope::Run, b"x.service")?;
     Ok(())
+}
+
+fn run_on_empty(alloc: Global, mask: &Mask) -> Result<Outcome, AllocError> {
+    let tree = Tree::empty(alloc)?;
+    mask.run(alloc, &tree)
 }
 
 /// The mask of `x` on the empty tree.
 fn masked(alloc: Global) -> Result<Outcome, Fail> {
     let mask = mask(alloc, Scope::Etc, b"x.service")?;
-    let tree = ample!(Tree::empty(alloc), AllocError)?;
-    Ok(ample!(mask.run(alloc, &tree), AllocError)?)
+    Ok(ample!(run_on_empty(alloc, &mask), AllocError)?)
 }
 
 /// The slot of `x` is read as other than it is in a tree.
@@ -142,17 +149,29 @@ fn assert_other_slot(rt: &impl Abort, tree: &Tree, reading: &Reading) {
     }
 }
 
+fn assert_own(rt: &impl Abort, alloc: Global, reading: &Reading) -> Result<(), AllocError> {
+    let tree = ample!(Tree::empty(alloc), AllocError)?;
+    assert!(rt; agrees(&tree, reading).is_ok());
+    Ok(())
+}
+
+fn assert_other_than(
+    rt: &impl Abort,
+    alloc: Global,
+    inventory: &[u8],
+    reading: &Reading,
+) -> Result<(), Fail> {
+    let tree = tree(alloc, inventory)?;
+    assert_other_slot(rt, &tree, reading);
+    Ok(())
+}
+
 #[test]
 fn a_mask_reads_its_slot_which_is_other_then(rt: HostRuntime) -> Result<(), Fail> {
     let outcome = masked(rt.alloc())?;
-    let before = ample!(Tree::empty(rt.alloc()), AllocError)?;
-    assert!(rt; agrees(&before, &outcome.reading).is_ok());
-    let after = tree(
-        rt.alloc(),
-        b"unitadm-inventory 1\nL\t/etc/systemd/system/x.service\t/dev/null\nend\n",
-    )?;
-    assert_other_slot(&rt, &after, &outcome.reading);
-    Ok(())
+    assert_own(&rt, rt.alloc(), &outcome.reading)?;
+    let after = b"unitadm-inventory 1\nL\t/etc/systemd/system/x.service\t/dev/null\nend\n";
+    assert_other_than(&rt, rt.alloc(), after, &outcome.reading)
 }
 
 fn assert_cell_alone(rt: &impl Abort, change: &Change, cell: &Key, marked: &Key) {
@@ -162,15 +181,19 @@ fn assert_cell_alone(rt: &impl Abort, change: &Change, cell: &Key, marked: &Key)
     assert!(rt; !touches(change, &Key::Links));
 }
 
-#[test]
-fn a_mask_touches_its_slot_alone(rt: HostRuntime) -> Result<(), Fail> {
-    let alloc = rt.alloc();
+fn assert_touched(rt: &impl Abort, alloc: Global, change: &Change) -> Result<(), Fail> {
     let cell = Key::Cell(path(alloc, b"/etc/systemd/system/x.service")?);
     let marked = Key::Marked(Scope::Etc, name(alloc, b"x.service")?);
-    let outcome = masked(alloc)?;
+    assert_cell_alone(rt, change, &cell, &marked);
+    Ok(())
+}
+
+#[test]
+fn a_mask_touches_its_slot_alone(rt: HostRuntime) -> Result<(), Fail> {
+    let outcome = masked(rt.alloc())?;
     assert_eq!(rt; outcome.changes.as_slice().len(), 1);
     for change in outcome.changes.as_slice() {
-        assert_cell_alone(&rt, change, &cell, &marked);
+        assert_touched(&rt, rt.alloc(), change)?;
     }
     Ok(())
 }

@@ -28,32 +28,30 @@ pub(crate) fn path(alloc: Global, text: &[u8]) -> Result<TreePath, PathError> {
     ample!(TreePath::parse(alloc, text), PathError::OutOfMemory)
 }
 
+fn push_unit(alloc: Global, units: &mut Units, text: &[u8]) -> Result<(), NameError> {
+    let name = UnitName::parse(alloc, text)?;
+    Ok(units.push(name)?)
+}
+
 /// The names of units that have spaces between them.
 pub(crate) fn units(alloc: Global, names: &[u8]) -> Result<Units, NameError> {
     let mut units = Units::none(alloc);
     for name in names.split(|b| *b == b' ') {
-        ample!(
-            {
-                let name = ample!(UnitName::parse(alloc, name), NameError::OutOfMemory)?;
-                units.push(name)
-            },
-            AllocError
-        )?;
+        ample!(push_unit(alloc, &mut units, name), NameError::OutOfMemory)?;
     }
     Ok(units)
 }
 
+fn push_path(alloc: Global, paths: &mut Paths, text: &[u8]) -> Result<(), PathError> {
+    let path = TreePath::parse(alloc, text)?;
+    Ok(paths.push(path)?)
+}
+
 /// Paths that have spaces between them.
-pub(crate) fn paths(alloc: Global, texts: &[u8]) -> Result<Paths, Fail> {
+pub(crate) fn paths(alloc: Global, texts: &[u8]) -> Result<Paths, PathError> {
     let mut paths = Paths::none(alloc);
     for text in texts.split(|b| *b == b' ') {
-        ample!(
-            {
-                let path = ample!(TreePath::parse(alloc, text), PathError::OutOfMemory)?;
-                paths.push(path)
-            },
-            AllocError
-        )?;
+        ample!(push_path(alloc, &mut paths, text), PathError::OutOfMemory)?;
     }
     Ok(paths)
 }
@@ -164,16 +162,21 @@ fn assert_copied<O: Operation>(rt: &impl Abort, operation: &O) -> Result<(), All
     Ok(())
 }
 
-/// An operation comes to this, and can be copied.
+fn told_on<O: Operation>(alloc: Global, operation: &O, inventory: &[u8]) -> Result<Vec<u8>, Fail> {
+    let tree = tree(alloc, inventory)?;
+    Ok(ample!(told(alloc, operation, &tree), AllocError)?)
+}
+
+/// An operation comes to this on the tree of an inventory, and can be copied.
 pub(crate) fn assert_told<O: Operation>(
     rt: &impl Abort,
     alloc: Global,
     operation: &O,
-    tree: &Tree,
+    inventory: &[u8],
     text: &[u8],
-) -> Result<(), AllocError> {
+) -> Result<(), Fail> {
     assert_copied(rt, operation)?;
-    let told = ample!(told(alloc, operation, tree), AllocError)?;
+    let told = told_on(alloc, operation, inventory)?;
     assert_eq!(rt; told.as_slice(), text);
     Ok(())
 }
@@ -197,14 +200,20 @@ fn read_by<O: Operation>(alloc: Global, operation: &O, tree: &Tree) -> Result<Ve
     Ok(out)
 }
 
+fn read_on<O: Operation>(alloc: Global, operation: &O, inventory: &[u8]) -> Result<Vec<u8>, Fail> {
+    let tree = tree(alloc, inventory)?;
+    Ok(ample!(read_by(alloc, operation, &tree), AllocError)?)
+}
+
+/// An operation reads these cells in the tree of an inventory.
 pub(crate) fn assert_reads<O: Operation>(
     rt: &impl Abort,
     alloc: Global,
     operation: &O,
-    tree: &Tree,
+    inventory: &[u8],
     text: &[u8],
-) -> Result<(), AllocError> {
-    let read = ample!(read_by(alloc, operation, tree), AllocError)?;
+) -> Result<(), Fail> {
+    let read = read_on(alloc, operation, inventory)?;
     assert_eq!(rt; read.as_slice(), text);
     Ok(())
 }

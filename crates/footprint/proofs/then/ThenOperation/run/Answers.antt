@@ -4,9 +4,21 @@ use Rattle.unit_paths.specs.Slots.{is_slot}
 use Rattle.link_tree.specs.Trees.{after_changes}
 use Rattle.footprint.specs.declared.outcome.Outcome.{Outcome}
 use Rattle.footprint.specs.Operations.{outcome_of, is_refused}
+use Rattle.footprint.specs.Merging.{IsReading}
 use Rattle.footprint.specs.Then.{outcome_of_both}
+use Rattle.footprint.proofs.Merged.{is_reading}
 use Rattle.footprint.proofs.InSteps.{then_outcome, then_at_slots}
 use Rattle.footprint.proofs.then.ThenOperation.run.Goals as goal
+
+pub and_then-requires-clause-first_reading : goal.and_then-requires-clause-first_reading
+and_then-requires-clause-first_reading g c =
+    let t = c.args.tree.now in
+    subst (λ (o : Outcome). IsReading t o.reading) (sym c.in_ok-first.ensures.outcome) (is_reading ((g.A.Operation.meaning c.args.self.now.first).keys t) t)
+
+pub and_then-requires-clause-second_reading : goal.and_then-requires-clause-second_reading
+and_then-requires-clause-second_reading g c =
+    let u = after_changes c.in_ok-first.first.changes c.args.tree.now in
+    subst (λ (o : Outcome). IsReading u o.reading) (sym c.in_ok-second.ensures.outcome) (is_reading ((g.B.Operation.meaning c.args.self.now.second).keys u) u)
 
 pub returns-clause-outcome : goal.returns-clause-outcome
 returns-clause-outcome g c =

@@ -1,0 +1,116 @@
+//! Two readings as one: of a tree, and of the tree after changes of it.
+ghost use Rattle.std.specs.Prelude.{◌≡◌, ◌++◌, ◌∷◌, ◌<◌, ◌+◌, [], length, IfOk, IfSome, MatchOption};
+ghost use Rattle.std.specs.List.{list_any};
+ghost use Rattle.link_tree.specs.Trees.{AreFrom, after_changes};
+ghost use Rattle.footprint.specs.Keys as keys;
+ghost use Rattle.footprint.specs.Merging.{turn, IsReading};
+ghost use Rattle.footprint.specs.Readings.{keys_of, observed, reading_of, Holds};
+
+use crate::changes::Changes;
+use crate::key::Key;
+use crate::reading::{Observation, Observations, Reading};
+use crate::touching::touches;
+use link_tree::{Change, Tree};
+use std::alloc::{AllocError, Global};
+use std::cmp::Ordering;
+
+/// Whether one of the changes touches what a key looks at.
+fn is_touched(changes: &[Change], key: &Key) -> bool
+    ensures { result ≡ list_any (λ change. keys.touches change key.now) changes.now }
+{
+    changes.iter().any(|change| touches(change, key))
+}
+
+impl Observation {
+    /// What its key sees of a tree, by what it saw in the tree after changes. A set that no change touches is as it was, which spares a
+    /// walk through the tree; a cell is as cheap to look at again as to compare with one change.
+    fn before(
+        self,
+        alloc: Global,
+        tree: &Tree,
+        changes: &Changes,
+    ) -> Result<Observation, AllocError>
+        requires from { AreFrom tree.now changes.now }
+        requires holds { Holds (after_changes changes.now tree.now) self }
+        ensures { IfOk result (λ before. before ≡ observed tree.now self.key) }
+    {
+        if !self.key.is_cell() && !is_touched(changes.as_slice(), &self.key) {
+            return Ok(self);
+        }
+        let seen = self.key.seen(alloc, tree)?;
+        Ok(Observation {
+            key: self.key,
+            seen,
+        })
+    }
+}
+
+/// Which of two readings has the next key: both where the keys are the same, and the second where none is left.
+fn turn(first: &[Observation], second: &[Observation]) -> Ordering
+    ensures { result ≡ turn first.now second.now }
+{
+    match (first, second) {
+        ([], _) => Ordering::Greater,
+        (_, []) => Ordering::Less,
+        ([one, ..], [other, ..]) => one.key.cmp(&other.key),
+    }
+}
+
+/// The next observation of both readings in one of the tree. What the first saw stands as it is.
+fn next_of_both(
+    alloc: Global,
+    tree: &Tree,
+    changes: &Changes,
+    first: &mut Observations,
+    second: &mut Observations,
+) -> Result<Option<Observation>, AllocError>
+    requires from { AreFrom tree.now changes.now }
+    requires first { IsReading tree.now first.old }
+    requires second { IsReading (after_changes changes.now tree.now) second.old }
+    ensures next { IfOk result (λ next. MatchOption next (reading_of (keys_of first.old ++ keys_of second.old) tree.now ≡ []) (λ one. reading_of (keys_of first.old ++ keys_of second.old) tree.now ≡ one ∷ reading_of (keys_of first.new ++ keys_of second.new) tree.now)) }
+    ensures first { IsReading tree.now first.new }
+    ensures second { IsReading (after_changes changes.now tree.now) second.new }
+    ensures fewer { IfOk result (λ next. IfSome next (λ _. length first.new + length second.new < length first.old + length second.old)) }
+{
+    match turn(first.as_slice(), second.as_slice()) {
+        Ordering::Less => Ok(first.next()),
+        Ordering::Equal => {
+            second.next();
+            Ok(first.next())
+        }
+        Ordering::Greater => match second.next() {
+            Some(observation) => Ok(Some(observation.before(alloc, tree, changes)?)),
+            None => Ok(None),
+        },
+    }
+}
+
+impl Reading {
+    /// The reading of the tree by the keys of both, where the later one is of the tree after changes.
+    pub(crate) fn and_then(
+        self,
+        alloc: Global,
+        tree: &Tree,
+        changes: &Changes,
+        later: Reading,
+    ) -> Result<Reading, AllocError>
+        requires from { AreFrom tree.now changes.now }
+        requires first { IsReading tree.now self }
+        requires second { IsReading (after_changes changes.now tree.now) later }
+        ensures { IfOk result (λ reading. reading ≡ reading_of (keys_of self ++ keys_of later) tree.now) }
+    {
+        let mut reading = Reading::none(alloc);
+        let mut first = self.into_observations();
+        let mut second = later.into_observations();
+        'keys: while let Some(observation) = next_of_both(
+            alloc,
+            tree,
+            changes,
+            &mut first,
+            &mut second,
+        )? {
+            reading.push(observation)?;
+        }
+        Ok(reading)
+    }
+}

@@ -1,0 +1,17 @@
+-- For the proofs of this crate: no public contract cites it. Questions keep the laws of operations.
+use Rattle.std.specs.Prelude.{true, Contains, refl}
+use Rattle.std.proofs.lemmas.List.Elements.{All-nil}
+use Rattle.footprint.specs.declared.answer.Answer.{Answer}
+use Rattle.footprint.specs.declared.key.Key.TheVariants.{Cell}
+use Rattle.footprint.specs.Inquiry.{Inquiry}
+use Rattle.footprint.specs.Operations.{OperationLaws}
+use Rattle.footprint.specs.ThenLaws.{no_changes}
+use Rattle.states.specs.Questions.{asked}
+
+pub question_laws : {C : Type 0} (question : C → Inquiry Answer) → OperationLaws (λ c. true) (λ c. asked (question c))
+question_laws question = record {
+  confinement = λ c t. All-nil (λ change. Contains ((question c).keys t) (Cell change.path));
+  changes = λ c t. no_changes t;
+  refusal = λ c t refused. refl;
+  question = λ c t asks. refl;
+}

@@ -1,0 +1,217 @@
+//! is-enabled.
+ghost use Rattle.std.specs.Prelude.{◌≡◌, IfOk};
+ghost use Rattle.std.specs.Option.{option_copied};
+ghost use Rattle.unit_paths.specs.Slots.{slot_of};
+ghost use Rattle.footprint.specs.Inquiry.{Asks};
+ghost use Rattle.states.specs.IsEnabled as states;
+ghost use Rattle.states.specs.IsEnabled.{by_place, has_other, asks_for_none, by_lists, is_unit_slot, by_file, by_links, state_word};
+
+use crate::answering::answered;
+use footprint::{Answer, Key, Keys, Operation, Outcome, StateWord};
+use install_section::{Section, section_into};
+use link_tree::{Place, Scope, Slot, Tree, TreePath};
+use load_path::{Cells, Found};
+use std::alloc::{AllocError, Global};
+use unit_name::UnitName;
+
+/// systemctl(1), `is-enabled`: the first of these words that holds (`Answer::State`). It is a question, changes nothing and refuses nothing.
+///
+/// - `NotFound`: the name is found nowhere, or its links lead nowhere.
+/// - `Masked`, or `MaskedRuntime` where its entry stands in `/run`.
+/// - `Alias`: it is another name of a unit.
+/// - `Enabled`: a link in `/etc` belongs to the unit, but for that of its own name; or else `EnabledRuntime`: one in `/run` does.
+/// - `Linked`: its file lies outside the directories of units, or `LinkedRuntime`, where its entry stands in `/run`.
+/// - `Static`: its [Install] section names no unit and asks for no link; `Indirect`: it names units alone.
+/// - `Disabled`.
+#[derive(Debug, Drop)]
+pub struct IsEnabled {
+    pub unit: UnitName,
+}
+
+/// One word where an entry stands in `/run`, and another elsewhere.
+fn by_place(place: Place, in_run: StateWord, elsewhere: StateWord) -> StateWord
+    ensures { result ≡ by_place place in_run elsewhere }
+{
+    match place {
+        Place::Run => in_run,
+        Place::Etc | Place::Local | Place::Vendor => elsewhere,
+    }
+}
+
+/// Whether one of the links stands at another path than this.
+fn has_other(own: &TreePath, links: &Tree) -> bool
+    ensures { result ≡ has_other own.now links.now }
+{
+    for (path, _link) in links.iter() {
+        if path.text() != own.text() {
+            return true;
+        }
+    }
+    false
+}
+
+/// Whether a link of a scope, of those that belong to the unit, is another than that of its own name.
+fn is_enabled_in(
+    alloc: Global,
+    scope: Scope,
+    unit: &UnitName,
+    links: &Tree,
+) -> Result<bool, AllocError>
+    ensures { IfOk result (λ enabled. enabled ≡ states.is_enabled_in scope unit.now links.now) }
+{
+    let own = scope.place().slot(alloc, unit)?;
+    Ok(has_other(&own, links))
+}
+
+/// Whether a section asks for no link.
+fn asks_for_none(section: &Section) -> bool
+    ensures { result ≡ asks_for_none section.now }
+{
+    let text = &section.text;
+    text.alias.is_empty() && text.wanted_by.is_empty() && text.required_by.is_empty()
+}
+
+/// By what the lists of a section hold.
+fn by_lists(section: Option<&Section>) -> StateWord
+    ensures { result ≡ by_lists (option_copied section.entry) }
+{
+    match section {
+        None => StateWord::Static,
+        Some(section) => {
+            if section.is_empty() {
+                StateWord::Static
+            } else if asks_for_none(section) {
+                StateWord::Indirect
+            } else {
+                StateWord::Disabled
+            }
+        }
+    }
+}
+
+/// Whether a file lies in one of the four directories of units.
+fn is_in_unit_directory(file: &TreePath) -> bool
+    ensures { result ≡ is_unit_slot (slot_of file.now) }
+{
+    match Slot::of(file) {
+        Some(Slot::Unit(_)) => true,
+        _ => false,
+    }
+}
+
+/// By where its file lies.
+fn by_file(file: &TreePath, place: Place, section: Option<&Section>) -> StateWord
+    ensures { result ≡ by_file file.now place (option_copied section.entry) }
+{
+    if is_in_unit_directory(file) {
+        return by_lists(section);
+    }
+    by_place(place, StateWord::LinkedRuntime, StateWord::Linked)
+}
+
+/// By the links that belong to a unit, and by its file.
+fn by_links(
+    alloc: Global,
+    unit: &UnitName,
+    file: &TreePath,
+    place: Place,
+    section: Option<&Section>,
+    etc: &Tree,
+    run: &Tree,
+) -> Result<StateWord, AllocError>
+    ensures { IfOk result (λ word. word ≡ by_links unit.now file.now place (option_copied section.entry) etc.now run.now) }
+{
+    if is_enabled_in(alloc, Scope::Etc, unit, etc)? {
+        return Ok(StateWord::Enabled);
+    }
+    if is_enabled_in(alloc, Scope::Run, unit, run)? {
+        return Ok(StateWord::EnabledRuntime);
+    }
+    Ok(by_file(file, place, section))
+}
+
+/// The word for a unit that is found under its own name.
+fn unit_word(
+    alloc: Global,
+    tree: &Tree,
+    unit: &UnitName,
+    file: &TreePath,
+    place: Place,
+    keys: &mut Keys,
+) -> Result<StateWord, AllocError>
+    ensures { IfOk result (Asks tree.now (states.unit_word unit.now file.now place) keys.old keys.new) }
+{
+    let mut cells = Cells::new(alloc);
+    let section = section_into(alloc, tree, unit, &mut cells)?;
+    keys.push_cells(cells)?;
+    let etc = keys.entries(alloc, tree, Key::Marked(Scope::Etc, unit.copy()?))?;
+    let run = keys.entries(alloc, tree, Key::Marked(Scope::Run, unit.copy()?))?;
+    by_links(alloc, unit, file, place, section.as_ref(), &etc, &run)
+}
+
+/// The word for a unit that is found, by its own name.
+fn named_word(
+    alloc: Global,
+    tree: &Tree,
+    name: &UnitName,
+    real: &UnitName,
+    file: &TreePath,
+    place: Place,
+    keys: &mut Keys,
+) -> Result<StateWord, AllocError>
+    ensures { IfOk result (Asks tree.now (states.named_word name.now real.now file.now place) keys.old keys.new) }
+{
+    if real.text() == name.text() {
+        return unit_word(alloc, tree, name, file, place, keys);
+    }
+    Ok(StateWord::Alias)
+}
+
+impl IsEnabled {
+    /// The word, by what the name is found as.
+    fn word(&self, alloc: Global, tree: &Tree, keys: &mut Keys) -> Result<StateWord, AllocError>
+        ensures { IfOk result (Asks tree.now (state_word self.now.unit) keys.old keys.new) }
+    {
+        match keys.find(alloc, tree, &self.unit)? {
+            Found::Missing | Found::Dangling(_) => Ok(StateWord::NotFound),
+            Found::Masked(place) => {
+                Ok(by_place(place, StateWord::MaskedRuntime, StateWord::Masked))
+            }
+            Found::Unit { real, file, place } => {
+                named_word(alloc, tree, &self.unit, &real, &file, place, keys)
+            }
+        }
+    }
+}
+
+impl Operation for IsEnabled {
+    ghost use Rattle.std.specs.Prelude.{true};
+    ghost use Rattle.states.specs.IsEnabled.{is_enabled_meaning};
+    ghost use Rattle.states.specs.QuestionLaws.{question_laws};
+
+    ghost meaning = { is_enabled_meaning };
+
+    ghost asks = { λ c. true };
+
+    fn run(&self, alloc: Global, tree: &Tree) -> Result<Outcome, AllocError> {
+        let mut keys = Keys::none(alloc);
+        let word = self.word(alloc, tree, &mut keys)?;
+        answered(alloc, tree, keys, Answer::State(word))
+    }
+
+    fn asks_only(&self) -> bool {
+        true
+    }
+
+    fn copy(&self) -> Result<IsEnabled, AllocError> {
+        Ok(IsEnabled {
+            unit: self.unit.copy()?,
+        })
+    }
+
+    fn same(&self, other: &IsEnabled) -> bool {
+        self.unit == other.unit
+    }
+
+    ghost laws = { question_laws _ };
+}
