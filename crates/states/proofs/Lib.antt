@@ -1,2 +1,10 @@
 pub mod Others
 pub mod Words
+pub mod Members
+pub mod Reaches
+pub mod Walks
+pub mod Linked
+pub mod Around
+pub mod Ended
+pub mod Ordered
+pub mod Least

@@ -1,14 +1,21 @@
-//! Questions that a tree answers: systemctl(1), `is-enabled` and `get-default`.
+//! Questions that a tree answers: systemctl(1), `is-enabled`, `get-default` and `list-dependencies`.
 #![tactic(auto)]
 
 mod answering;
+mod dependencies;
+mod ends;
 mod get_default;
 mod is_enabled;
 mod laws;
+mod reaching;
+mod step;
 
+pub use dependencies::Dependencies;
 pub use get_default::GetDefault;
 pub use is_enabled::IsEnabled;
-pub use laws::a_unit_is_enabled_where_a_link_belongs_to_it;
+pub use laws::{
+    a_unit_is_enabled_where_a_link_belongs_to_it, dependencies_are_least, dependencies_turn_round,
+};
 
 #[cfg(test)]
 mod tests;

@@ -38,7 +38,7 @@ fn push_key(out: &mut Vec<u8>, key: &Key) -> Result<(), AllocError> {
             out.extend_from_slice(name.text())?;
         }
         Key::Presets => out.extend_from_slice(b"presets")?,
-        Key::Links => out.extend_from_slice(b"none of these")?,
+        Key::Links => out.extend_from_slice(b"links")?,
     }
     out.extend_from_slice(b"\n")
 }

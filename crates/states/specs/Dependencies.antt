@@ -1,0 +1,107 @@
+-- What units depend on, by links: systemctl(1), "list-dependencies"; systemd.unit(5), "Description", on .wants/ and .requires/.
+use Rattle.std.specs.Prelude.{ℕ, zero, suc, ◌-◌, Bool, false, not, ◌&&◌, if◌then◌else◌, List, [], ◌∷◌, ◌++◌, length, take, map as list_map, filter_map, flat_map, Option, Some, None}
+use Rattle.std.specs.Option.{option_map}
+use Rattle.std.specs.Str.{bytes_eq}
+use Rattle.std.specs.FinMap as map
+use Rattle.unit_name.specs.declared.kind.Kind.{Kind}
+use Rattle.unit_name.specs.declared.kind.Kind.TheVariants.{Template, Instance}
+use Rattle.unit_name.specs.Parts.{kind_of}
+use Rattle.unit_name.specs.Name.{is_unit_name, instance_of, template_of}
+use Rattle.unit_paths.specs.declared.slot.Dependency.TheVariants.{Wants, Requires}
+use Rattle.unit_paths.specs.declared.slot.Slot.{Slot}
+use Rattle.unit_paths.specs.declared.slot.Slot.TheVariants as slots
+use Rattle.unit_paths.specs.Canonical.{is_null_target}
+use Rattle.unit_paths.specs.Paths.{name_at, parent_of}
+use Rattle.unit_paths.specs.Slots.{slot_of, dependency_ending}
+use Rattle.link_tree.specs.declared.entry.Entry.{Entry}
+use Rattle.link_tree.specs.declared.entry.Entry.TheVariants.{File, Link}
+use Rattle.link_tree.specs.Trees.{Entries, path_cmp}
+use Rattle.load_path.specs.RealNames.{put_in}
+use Rattle.footprint.specs.declared.answer.Answer.TheVariants.{Names}
+use Rattle.footprint.specs.declared.key.Key.TheVariants.{Links}
+use Rattle.footprint.specs.Inquiry.{Inquiry, entries_seen, giving}
+use Rattle.footprint.specs.Operations.{Effect}
+use Rattle.states.specs.declared.step.Step.{Step}
+use Rattle.states.specs.declared.dependencies.Dependencies.{Dependencies}
+use Rattle.states.specs.Questions.{asked}
+
+-- how the names of the directories end in which a slot of dependencies lies
+abbrev pub ending_of : Option Slot → Option (List ℕ)
+ending_of (Some (slots.Wants place)) = Some (dependency_ending Wants)
+ending_of (Some (slots.Requires place)) = Some (dependency_ending Requires)
+ending_of other = None
+
+-- from one unit to another, where both texts are names
+abbrev pub named_step : (from to : List ℕ) → Option Step
+named_step from to = if is_unit_name from && is_unit_name to then Some (record { from = from; to = to }) else None
+
+-- from the unit whose directory this is, by its name and this ending
+abbrev pub step_from : (directory : Option (List ℕ)) → (ending : Option (List ℕ)) → (to : List ℕ) → Option Step
+step_from (Some directory) (Some ending) to = named_step (take (length (name_at directory) - length ending) (name_at directory)) to
+step_from directory ending to = None
+
+-- a link, and not one to /dev/null
+abbrev pub is_other_link : (path : List ℕ) → Entry → Bool
+is_other_link path (File contents) = false
+is_other_link path (Link target) = not (is_null_target path target)
+
+-- from the unit OF to the unit NAME by a link at DIR/OF.wants/NAME or DIR/OF.requires/NAME
+unfoldable pub step_at : (path : List ℕ) → Entry → Option Step
+step_at path entry = if is_other_link path entry then step_from (parent_of path) (ending_of (slot_of path)) (name_at path) else None
+
+-- in reverse the other way
+abbrev pub turned : (reverse : Bool) → Step → Step
+turned reverse step = if reverse then record { from = step.to; to = step.from } else step
+
+-- the steps of these links
+unfoldable pub steps_of : (reverse : Bool) → List (List ℕ × Entry) → List Step
+steps_of reverse links = filter_map (λ link. option_map (turned reverse) (step_at link.0 link.1)) links
+
+-- the names to which steps lead from a name
+abbrev pub ends_of : List Step → (name : List ℕ) → List (List ℕ)
+ends_of steps name = filter_map (λ step. if bytes_eq step.from name then Some step.to else None) steps
+
+-- Where a step from a template leads its instances: to the instance, with the same text, of another template, if that is a name.
+-- To any other unit it leads them as it is; but not in reverse, since that unit depends on the template alone.
+abbrev pub end_for : (reverse : Bool) → (instance : Option (List ℕ)) → (end : List ℕ) → Kind → Option (List ℕ)
+end_for reverse instance end Template = put_in end instance
+end_for reverse instance end other = if reverse then None else Some end
+
+abbrev pub ends_for : (reverse : Bool) → (instance : Option (List ℕ)) → (ends : List (List ℕ)) → Kind → List (List ℕ)
+ends_for reverse instance ends Instance = filter_map (λ end. end_for reverse instance end (kind_of (instance_of end))) ends
+ends_for reverse instance ends other = []
+
+-- The names to which one step leads from a name, by the ends of the steps from each: its own, and an instance's also by those of its template.
+unfoldable pub next_names : (reverse : Bool) → (ends : List ℕ → List (List ℕ)) → (name : List ℕ) → List (List ℕ)
+next_names reverse ends name = ends name ++ ends_for reverse (instance_of name) (ends (template_of name)) (kind_of (instance_of name))
+
+-- the names to which one step leads, or more, up to so many
+abbrev pub within : (steps : ℕ) → (next : List ℕ → List (List ℕ)) → (name : List ℕ) → List (List ℕ)
+within zero next name = []
+within (suc steps) next name = next name ++ flat_map next (within steps next name)
+
+-- No other names can be reached: the ends of steps, and these with the instance of the unit or of an end put in.
+abbrev pub names_around : List Step → (unit : List ℕ) → List (List ℕ)
+names_around steps unit =
+    let ends = list_map (λ step. step.to) steps in
+    ends ++ flat_map (λ end. filter_map (λ name. put_in end (instance_of name)) (unit ∷ ends)) ends
+
+-- the names that are reached by any number of steps: at most as many as there are names around
+abbrev pub reached_names : (reverse : Bool) → List Step → (unit : List ℕ) → List (List ℕ)
+reached_names reverse steps unit = within (length (names_around steps unit)) (next_names reverse (ends_of steps)) unit
+
+-- names as a set: a map with nothing at each
+abbrev pub NameSet : Type 0
+NameSet = map.FinMap path_cmp (Unit {0})
+
+abbrev pub set_of : List (List ℕ) → NameSet
+set_of [] = map.empty
+set_of (name ∷ names) = map.insert (set_of names) name tt
+
+-- The names of the units on which a unit depends, without its own; in reverse of those that depend on it.
+unfoldable pub dependencies : (reverse : Bool) → (unit : List ℕ) → (links : Entries) → NameSet
+dependencies reverse unit links = map.remove (set_of (reached_names reverse (steps_of reverse (map.entries links)) unit)) unit
+
+-- What the question asks of a tree, and what it answers: the names, in byte order.
+abbrev pub dependencies_meaning : Dependencies → Inquiry Effect
+dependencies_meaning c = asked (giving (entries_seen Links) (λ links. Names (map.keys (dependencies c.reverse c.unit links))))

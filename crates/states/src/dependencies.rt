@@ -1,0 +1,53 @@
+//! list-dependencies.
+use crate::answering::answered;
+use crate::reaching::dependencies;
+use footprint::{Answer, Key, Keys, Operation, Outcome};
+use link_tree::Tree;
+use std::alloc::{AllocError, Global};
+use unit_name::UnitName;
+
+/// systemctl(1), `list-dependencies`: the names of all units on which a unit depends by links, over one or more (`Answer::Names`), without its own,
+/// in byte order; in reverse of all that depend on it. It is a question, changes nothing and refuses nothing.
+///
+/// A unit depends on another where a link that doesn't lead to `/dev/null` stands at `DIR/UNIT.wants/OTHER` or `DIR/UNIT.requires/OTHER`, in any of
+/// the four directories, whether the two are found or not. An instance takes each link of its template too, where one to another template leads it
+/// to that one's instance of the same text; a name of over 255 bytes is none.
+#[derive(Debug, Drop)]
+pub struct Dependencies {
+    pub unit: UnitName,
+    pub reverse: bool,
+}
+
+impl Operation for Dependencies {
+    ghost use Rattle.std.specs.Prelude.{true};
+    ghost use Rattle.states.specs.Dependencies.{dependencies_meaning};
+    ghost use Rattle.states.specs.QuestionLaws.{question_laws};
+
+    ghost meaning = { dependencies_meaning };
+
+    ghost asks = { λ c. true };
+
+    fn run(&self, alloc: Global, tree: &Tree) -> Result<Outcome, AllocError> {
+        let mut keys = Keys::none(alloc);
+        let links = keys.entries(alloc, tree, Key::Links)?;
+        let names = dependencies(alloc, self.reverse, &self.unit, &links)?;
+        answered(alloc, tree, keys, Answer::Names(names))
+    }
+
+    fn asks_only(&self) -> bool {
+        true
+    }
+
+    fn copy(&self) -> Result<Dependencies, AllocError> {
+        Ok(Dependencies {
+            unit: self.unit.copy()?,
+            reverse: self.reverse,
+        })
+    }
+
+    fn same(&self, other: &Dependencies) -> bool {
+        self.reverse == other.reverse && self.unit == other.unit
+    }
+
+    ghost laws = { question_laws _ };
+}

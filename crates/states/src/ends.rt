@@ -1,0 +1,82 @@
+//! Where steps lead, by the names from which they do.
+ghost use Rattle.std.specs.Prelude.{◌≡◌, IfOk, OnOk};
+ghost use Rattle.std.specs.FinMap as map;
+ghost use Rattle.states.specs.Dependencies.{steps_of};
+ghost use Rattle.states.specs.Reaching.{ends_at, with_step, AreEnds};
+
+use crate::step::Step;
+use footprint::Units;
+use link_tree::Tree;
+use std::alloc::{AllocError, Global};
+use std::collections::BTreeMap;
+use std::marker::Model;
+use unit_name::UnitName;
+
+/// The ends of steps, by the names from which they lead, so that each is found at once. Contracts see the finite map.
+#[derive(Drop)]
+pub(crate) struct Ends {
+    by_name: BTreeMap<UnitName, Units>,
+}
+
+impl Model for Ends {
+    ghost use Rattle.std.specs.FinMap as map;
+    ghost use Rattle.std.specs.Coded.{coded_list};
+    ghost use Rattle.link_tree.specs.Values.{coded_path};
+    ghost use Rattle.states.specs.Reaching.{EndMap};
+
+    ghost Value = { EndMap };
+
+    ghost coded = { map.code coded_path (coded_list coded_path) };
+
+    ghost view = { λ ends. map.from_entries ends.by_name.entries };
+}
+
+impl Ends {
+    /// No steps. Takes no memory.
+    fn none(alloc: Global) -> Ends
+        ensures { result ≡ map.empty }
+    {
+        Ends {
+            by_name: BTreeMap::new(alloc),
+        }
+    }
+
+    /// One step more.
+    #[tactic(auto, unfolding(crate::specs::Reaching::with_step))]
+    fn add(&mut self, alloc: Global, step: Step) -> Result<(), AllocError>
+        ensures { OnOk result (self.new ≡ with_step self.old step) }
+    {
+        let Step { from, to } = step;
+        let mut ends = match self.by_name.remove(&from) {
+            Some(ends) => ends,
+            None => Units::none(alloc),
+        };
+        ends.push(to)?;
+        self.by_name.insert(from, ends)?;
+        Ok(())
+    }
+
+    /// The names to which steps lead from a name, in no order.
+    #[tactic(auto, unfolding(crate::specs::Reaching::ends_at))]
+    pub(crate) fn at(&self, name: &UnitName) -> &[UnitName]
+        ensures { result.now ≡ ends_at self.now name.now }
+    {
+        match self.by_name.get(name) {
+            Some(ends) => ends.as_slice(),
+            None => &[],
+        }
+    }
+
+    /// Those of the steps of links. Fails only where memory runs out.
+    pub(crate) fn of(alloc: Global, reverse: bool, links: &Tree) -> Result<Ends, AllocError>
+        ensures { IfOk result (λ ends. AreEnds ends (steps_of reverse (map.entries links.now))) }
+    {
+        let mut ends = Ends::none(alloc);
+        for (path, entry) in links.iter() {
+            if let Some(step) = Step::at(alloc, path, entry)? {
+                ends.add(alloc, step.turned(reverse))?;
+            }
+        }
+        Ok(ends)
+    }
+}

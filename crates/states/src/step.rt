@@ -1,0 +1,118 @@
+//! The links by which units depend on one another.
+ghost use Rattle.std.specs.Prelude.{◌≡◌, IfOk};
+ghost use Rattle.std.specs.Option.{option_copied};
+ghost use Rattle.load_path.specs.RealNames.{named};
+ghost use Rattle.unit_paths.specs.Slots.{slot_of};
+ghost use Rattle.states.specs.Dependencies.{ending_of, named_step, step_from, is_other_link, step_at, turned};
+
+use link_tree::{Entry, Slot, TreePath, is_null_link};
+use std::alloc::{AllocError, Global};
+use unit_name::{NameError, UnitName};
+
+/// From a unit to one on which it depends by a link; in reverse from a unit to one that depends on it.
+#[derive(Debug, Drop)]
+pub(crate) struct Step {
+    pub(crate) from: UnitName,
+    pub(crate) to: UnitName,
+}
+
+/// How the names of the directories end in which a slot of dependencies lies.
+#[tactic(auto, unfolding(unit_paths::specs::Slots::dependency_ending))]
+fn ending_of(slot: Option<Slot>) -> Option<&'static [u8]>
+    ensures { option_copied result ≡ ending_of slot }
+{
+    match slot {
+        Some(Slot::Wants(_)) => Some(b".wants"),
+        Some(Slot::Requires(_)) => Some(b".requires"),
+        _ => None,
+    }
+}
+
+/// The text as a name, if it is one.
+fn named(alloc: Global, text: &[u8]) -> Result<Option<UnitName>, AllocError>
+    ensures { IfOk result (λ name. name ≡ named text.now) }
+{
+    match UnitName::parse(alloc, text) {
+        Ok(name) => Ok(Some(name)),
+        Err(NameError::Bad(_)) => Ok(None),
+        Err(NameError::OutOfMemory) => Err(AllocError),
+    }
+}
+
+/// From one unit to another, where both texts are names.
+fn named_step(alloc: Global, from: &[u8], to: &[u8]) -> Result<Option<Step>, AllocError>
+    ensures { IfOk result (λ step. step ≡ named_step from.now to.now) }
+{
+    let Some(from) = named(alloc, from)? else {
+        return Ok(None);
+    };
+    let Some(to) = named(alloc, to)? else {
+        return Ok(None);
+    };
+    Ok(Some(Step { from, to }))
+}
+
+/// From the unit whose directory this is, by its name and this ending.
+fn step_from(
+    alloc: Global,
+    directory: Option<TreePath>,
+    ending: Option<&[u8]>,
+    to: &[u8],
+) -> Result<Option<Step>, AllocError>
+    ensures { IfOk result (λ step. step ≡ step_from directory (option_copied ending.entry) to.now) }
+{
+    let (Some(directory), Some(ending)) = (directory, ending) else {
+        return Ok(None);
+    };
+    let name = directory.file_name();
+    let len = name.len().saturating_sub(ending.len());
+    named_step(alloc, &name[..len], to)
+}
+
+/// Whether an entry is a link, and not one to `/dev/null`.
+fn is_other_link(path: &TreePath, entry: &Entry) -> bool
+    ensures { result ≡ is_other_link path.now entry.now }
+{
+    match entry {
+        Entry::File(_) => false,
+        Entry::Link(_) => !is_null_link(path, entry),
+    }
+}
+
+impl Step {
+    /// From the unit `OF` to the unit `NAME` by a link at `DIR/OF.wants/NAME` or `DIR/OF.requires/NAME`; `None` where an entry is no such link, or
+    /// leads to `/dev/null`.
+    #[tactic(auto, unfolding(crate::specs::Dependencies::step_at))]
+    pub(crate) fn at(
+        alloc: Global,
+        path: &TreePath,
+        entry: &Entry,
+    ) -> Result<Option<Step>, AllocError>
+        ensures { IfOk result (λ step. step ≡ step_at path.now entry.now) }
+    {
+        if !is_other_link(path, entry) {
+            return Ok(None);
+        }
+        let directory = path.copy()?.into_parent();
+        step_from(
+            alloc,
+            directory,
+            ending_of(Slot::of(path)),
+            path.file_name(),
+        )
+    }
+
+    /// In reverse the other way.
+    pub(crate) fn turned(self, reverse: bool) -> Step
+        ensures { result ≡ turned reverse self }
+    {
+        if reverse {
+            Step {
+                from: self.to,
+                to: self.from,
+            }
+        } else {
+            self
+        }
+    }
+}
