@@ -4,6 +4,7 @@ use footprint::{Answer, Operation, Outcome, Units};
 use install_commands::{Disable, Enable, Preset, Reenable};
 use link_tree::{Scope, Tree};
 use slot_commands::{Mask, Unmask};
+use states::{Dependencies, GetDefault, IsEnabled};
 use std::alloc::{AllocError, Global};
 use std::process::Abort;
 use std::test::Fail;
@@ -109,5 +110,35 @@ fn a_copy_reenables_or_presets_too(rt: HostRuntime) -> Result<(), Fail> {
         (&reenable, usize::MAX),
         (&preset, usize::MAX),
     )?;
+    Ok(())
+}
+
+/// A question is the same as its copy, isn't the same as the other, and asks only.
+fn is_question(action: &Action, other: &Action) -> Result<bool, AllocError> {
+    let copy = ample!(action.copy(), AllocError)?;
+    Ok(action.same(&copy) && !action.same(other) && action.asks_only())
+}
+
+#[test]
+fn a_copy_asks_too(rt: HostRuntime) -> Result<(), Fail> {
+    let unit = name(rt.alloc(), b"x.service")?;
+    let state = Action::IsEnabled(IsEnabled { unit });
+    let unit = name(rt.alloc(), b"y.service")?;
+    let other = Action::IsEnabled(IsEnabled { unit });
+    let default = Action::GetDefault(GetDefault {});
+    assert!(rt; is_question(&state, &other)? && is_question(&other, &default)?);
+    assert!(rt; is_question(&default, &state)?);
+    Ok(())
+}
+
+#[test]
+fn a_copy_asks_for_dependencies_too(rt: HostRuntime) -> Result<(), Fail> {
+    let reverse = true;
+    let unit = name(rt.alloc(), b"x.service")?;
+    let back = Action::Dependencies(Dependencies { unit, reverse });
+    let reverse = false;
+    let unit = name(rt.alloc(), b"x.service")?;
+    let forth = Action::Dependencies(Dependencies { unit, reverse });
+    assert!(rt; is_question(&back, &forth)? && is_question(&forth, &back)?);
     Ok(())
 }

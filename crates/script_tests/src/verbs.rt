@@ -6,6 +6,7 @@ use footprint::{Operation, Units};
 use history::Request;
 use link_tree::{Dependency, Entry, Scope};
 use slot_commands::{AddTo, PlaceEntry};
+use states::Dependencies;
 use std::alloc::{AllocError, Global};
 use std::process::Abort;
 use unit_name::ample;
@@ -78,6 +79,14 @@ fn push_place(out: &mut Vec<u8>, place: &PlaceEntry) -> Result<(), AllocError> {
     push_word(out, place.entry.bytes())
 }
 
+fn push_dependencies(out: &mut Vec<u8>, question: &Dependencies) -> Result<(), AllocError> {
+    if question.reverse {
+        out.extend_from_slice(b"reverse ")?;
+    }
+    out.extend_from_slice(b"dependencies ")?;
+    push_word(out, question.unit.text())
+}
+
 fn push_action(out: &mut Vec<u8>, action: &Action) -> Result<(), AllocError> {
     match action {
         Action::Enable(enable) => {
@@ -121,6 +130,12 @@ fn push_action(out: &mut Vec<u8>, action: &Action) -> Result<(), AllocError> {
             out.extend_from_slice(b"remove ")?;
             push_word(out, remove.path.text())
         }
+        Action::IsEnabled(question) => {
+            out.extend_from_slice(b"state ")?;
+            push_word(out, question.unit.text())
+        }
+        Action::GetDefault(_) => out.extend_from_slice(b"default"),
+        Action::Dependencies(question) => push_dependencies(out, question),
     }
 }
 
@@ -165,6 +180,21 @@ fn assert_read(rt: &impl Abort, alloc: Global, rows: &[Row]) {
             Err(_) => panic!(rt; "refused"),
         }
     }
+}
+
+const QUESTIONS: [Row; 4] = [
+    (b"a is-enabled x@y.service", b"state [x@y.service]"),
+    (b"a get-default", b"default"),
+    (b"a dependencies x.target", b"dependencies [x.target]"),
+    (
+        b"a dependencies --reverse x.target",
+        b"reverse dependencies [x.target]",
+    ),
+];
+
+#[test]
+fn questions_are_read(rt: HostRuntime) {
+    assert_read(&rt, rt.alloc(), &QUESTIONS);
 }
 
 const VERBS: [Row; 27] = [
@@ -306,6 +336,18 @@ const WRONG_ARGUMENTS: [&[u8]; 22] = [
     b"a undo x y",
 ];
 
+const WRONG_QUESTIONS: [&[u8]; 9] = [
+    b"a is-enabled",
+    b"a is-enabled x.service y.service",
+    b"a is-enabled --runtime x.service",
+    b"a get-default x.target",
+    b"a dependencies",
+    b"a dependencies --reverse",
+    b"a dependencies x.service y.service",
+    b"a dependencies x.service --reverse",
+    b"a dependencies --reverse --reverse x.service",
+];
+
 const WRONG_PLACES: [&[u8]; 9] = [
     b"a place",
     b"a place x",
@@ -321,10 +363,14 @@ const WRONG_PLACES: [&[u8]; 9] = [
 #[test]
 fn arguments_are_counted_first(rt: HostRuntime) {
     assert_refused(&rt, rt.alloc(), Reason::WrongArguments, &WRONG_ARGUMENTS);
+    assert_refused(&rt, rt.alloc(), Reason::WrongArguments, &WRONG_QUESTIONS);
     assert_refused(&rt, rt.alloc(), Reason::WrongArguments, &WRONG_PLACES);
 }
 
-const BAD_NAMES: [&[u8]; 15] = [
+const BAD_NAMES: [&[u8]; 18] = [
+    b"a is-enabled x",
+    b"a dependencies x",
+    b"a dependencies --reverse --reverse",
     b"a enable x.service x",
     b"a enable /x.service",
     b"a enable --runtime --runtime",

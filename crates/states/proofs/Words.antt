@@ -1,5 +1,5 @@
 -- Which word is told.
-use Rattle.std.proofs.Common.{◌≡◌, ◌≢◌, ℕ, true, List, [], ◌∷◌, Contains, Option, Some, None, refl, sym, ap, subst, ◌∙◌, inl, inr}
+use Rattle.std.proofs.Common.{◌≡◌, ◌≢◌, ◌⊎◌, ℕ, Bool, true, false, List, [], ◌∷◌, Contains, Option, Some, None, refl, sym, ap, subst, ◌∙◌, inl, inr}
 use Rattle.std.specs.Prelude.{not}
 use Rattle.std.specs.FinMap as map
 use Rattle.std.specs.List.{list_any}
@@ -21,16 +21,17 @@ use Rattle.load_path.specs.declared.finding.Found.{Found}
 use Rattle.load_path.specs.declared.finding.Found.TheVariants as founds
 use Rattle.load_path.specs.Find.{find}
 use Rattle.install_section.specs.declared.section.Section.{Section}
-use Rattle.install_section.specs.ClosureLaws.{IsUnit}
 use Rattle.install_section.specs.Sections.{section_of, is_empty}
-use Rattle.install_section.proofs.Least.{is_first, is_later, first_or_later, none_of}
-use Rattle.footprint.specs.declared.answer.StateWord.TheVariants.{Enabled, MaskedRuntime, Masked, LinkedRuntime, Linked}
+use Rattle.install_section.proofs.Least.{some_is, is_first, is_later, first_or_later, none_of}
+use Rattle.footprint.specs.declared.answer.StateWord.{StateWord}
+use Rattle.footprint.specs.declared.answer.StateWord.TheVariants as words
 use Rattle.footprint.specs.declared.key.Key.TheVariants.{Marked}
 use Rattle.footprint.specs.Keys.{part, selects, shown}
 use Rattle.footprint.specs.KeyLaws.{get-part}
 use Rattle.footprint.proofs.Those.{shown_there, shown_chosen}
-use Rattle.states.specs.IsEnabled.{by_place, has_other, asks_for_none, by_lists, is_unit_slot, by_file, by_links, named_word, found_word, state_word}
-use Rattle.states.specs.Laws.{IsLinkedIn, EnabledWhereLinked}
+use Rattle.states.specs.IsEnabled.{by_place, has_other, asks_for_none, by_lists, is_unit_slot, by_file, by_links, found_word, state_word}
+use Rattle.states.specs.Laws.{IsFound, IsLinkedIn, IsFree, LiesInside, Tells, WordsAreTold}
+use Rattle.states.specs.Laws.Tells.{Missing, Dangling, MaskedInRun, MaskedElsewhere, AnotherName, LinkedInEtc, LinkedInRun, OutsideFoundInRun, OutsideFoundElsewhere, NothingListed, UnitsListedAlone, LinksListed}
 use Rattle.states.proofs.Others.{is_other}
 
 abbrev Standing : Type 0
@@ -76,73 +77,123 @@ module _ (scope : Scope) (unit : List ℕ) (t : Entries) where
       get-part (Marked scope unit) t linked.0 ∙ ap (shown (Marked scope unit) linked.0) linked.2 ∙ shown_chosen (selects (Marked scope unit)) linked.0 linked.1 linked.3 in
       has_other_of own (map.entries links) (linked.0, linked.1) (all_listed links linked.0 linked.1 there) (other_path linked.0 linked.4)
 
--- no other word is this one
-not_masked : {P : Type 0} (place : Place) → by_place place MaskedRuntime Masked ≡ Enabled → P
-not_masked places.Etc is = cc
-not_masked places.Run is = cc
-not_masked places.Local is = cc
-not_masked places.Vendor is = cc
+abbrev Linked : (scope : Scope) → (unit : List ℕ) → Entries → Bool
+Linked scope unit t = has_other (unit_slot (scope_place scope) unit) (part (Marked scope unit) t)
 
-not_linked : {P : Type 0} (place : Place) → by_place place LinkedRuntime Linked ≡ Enabled → P
-not_linked places.Etc is = cc
-not_linked places.Run is = cc
-not_linked places.Local is = cc
-not_linked places.Vendor is = cc
+not_linked : (scope : Scope) (unit : List ℕ) (t : Entries) → Linked scope unit t ≡ false → ¬ IsLinkedIn scope t unit
+not_linked scope unit t none linked = false≢true (sym none ∙ has_linked scope unit t linked)
 
-not_listed : {P : Type 0} (section : Option Section) → by_lists section ≡ Enabled → P
-not_listed None is = cc
-not_listed (Some section) is = elim (cases_Bool (is_empty section)) [
-  | inl empty ↦ (let same = rw empty at is in cc)
-  | inr some ↦ elim (cases_Bool (asks_for_none section)) [
-    | inl none ↦ (let same = rw (some, none) at is in cc)
-    | inr asks ↦ (let same = rw (some, asks) at is in cc)
-  ]
+is_free : (scope : Scope) (unit : List ℕ) (t : Entries) → ¬ IsLinkedIn scope t unit → Linked scope unit t ≡ false
+is_free scope unit t none = elim (cases_Bool (Linked scope unit t)) [
+  | inl linked ↦ absurd (none (linked_of scope unit t linked))
+  | inr free ↦ free
 ]
 
-not_by_file : {P : Type 0} (file : List ℕ) (place : Place) (section : Option Section) → by_file file place section ≡ Enabled → P
-not_by_file file place section is = elim (cases_Bool (is_unit_slot (slot_of file))) [
-  | inl inside ↦ not_listed section (rw inside at is)
-  | inr outside ↦ not_linked place (rw outside at is)
-]
+run_or_not : (place : Place) → (place ≡ places.Run) ⊎ (place ≢ places.Run)
+run_or_not places.Run = inl refl
+run_or_not places.Etc = inr (λ same. cc)
+run_or_not places.Local = inr (λ same. cc)
+run_or_not places.Vendor = inr (λ same. cc)
 
-module _ (unit : List ℕ) (t : Entries) where
-  abbrev etc : Entries
-  etc = part (Marked Etc unit) t
+elsewhere : (place : Place) (in_run other : StateWord) → place ≢ places.Run → by_place place in_run other ≡ other
+elsewhere places.Run in_run other away = absurd (away refl)
+elsewhere places.Etc in_run other away = refl
+elsewhere places.Local in_run other away = refl
+elsewhere places.Vendor in_run other away = refl
 
-  abbrev run : Entries
-  run = part (Marked Run unit) t
-
+module _ (name : List ℕ) (t : Entries) where
   abbrev section : Option Section
-  section = (section_of unit).conclusion t
+  section = (section_of name).conclusion t
 
-  abbrev own_in : Scope → List ℕ
-  own_in scope = unit_slot (scope_place scope) unit
+  by_found : (found : Found) → IsFound t name found → (state_word name).conclusion t ≡ (found_word name found).conclusion t
+  by_found found is = ap (λ found. (found_word name found).conclusion t) is
 
-  by_word : (file : List ℕ) (place : Place) → by_links unit file place section etc run ≡ Enabled → IsLinkedIn Etc t unit
-  by_word file place is = elim (cases_Bool (has_other (own_in Etc) etc)) [
-    | inl here ↦ linked_of Etc unit t here
-    | inr none ↦ elim (cases_Bool (has_other (own_in Run) run)) [
-      | inl here ↦ (let same = rw (none, here) at is in cc)
-      | inr none_there ↦ not_by_file file place section (rw (none, none_there) at is)
+  -- a unit with its own name
+  by_own : (file : List ℕ) (place : Place) → IsFound t name (founds.Unit name file place)
+      → (state_word name).conclusion t ≡ by_links name file place section (part (Marked Etc name) t) (part (Marked Run name) t)
+  by_own file place is = by_found (founds.Unit name file place) is ∙ (let same = (bytes_eq-Decides name name).1 refl in rw same refl)
+
+  by_its_file : (file : List ℕ) (place : Place) → IsFound t name (founds.Unit name file place) → IsFree t name → (state_word name).conclusion t ≡ by_file file place section
+  by_its_file file place is free = by_own file place is ∙ rw (is_free Etc name t free.0, is_free Run name t free.1) refl
+
+  by_its_lists : (place : Place) → LiesInside true t name place → IsFree t name → (state_word name).conclusion t ≡ by_lists section
+  by_its_lists place (file, is, inside) free = by_its_file file place is free ∙ rw inside refl
+
+  by_its_place : (place : Place) → LiesInside false t name place → IsFree t name → (state_word name).conclusion t ≡ by_place place words.LinkedRuntime words.Linked
+  by_its_place place (file, is, outside) free = by_its_file file place is free ∙ rw outside refl
+
+  nothing_listed : (o : Option Section) → ((section : Section) → o ≡ Some section → is_empty section ≡ true) → by_lists o ≡ words.Static
+  nothing_listed None empty = refl
+  nothing_listed (Some section) empty = rw (empty section refl) refl
+
+  told : (word : StateWord) → Tells t name word → (state_word name).conclusion t ≡ word
+  told _ (Missing is) = by_found founds.Missing is
+  told _ (Dangling link is) = by_found (founds.Dangling link) is
+  told _ (MaskedInRun is) = by_found (founds.Masked places.Run) is
+  told _ (MaskedElsewhere place is away) = by_found (founds.Masked place) is ∙ elsewhere place words.MaskedRuntime words.Masked away
+  told _ (AnotherName real file place is other) = by_found (founds.Unit real file place) is ∙ (let apart = other_bytes real other in rw apart refl)
+    where
+      other_bytes : (real : List ℕ) → real ≢ name → bytes_eq real name ≡ false
+      other_bytes real other = elim (cases_Bool (bytes_eq real name)) [
+        | inl same ↦ absurd (other (same_bytes real name same))
+        | inr apart ↦ apart
+      ]
+  told _ (LinkedInEtc own linked) = by_own own.0 own.1 own.2 ∙ rw (has_linked Etc name t linked) refl
+  told _ (LinkedInRun own none linked) = by_own own.0 own.1 own.2 ∙ rw (is_free Etc name t none, has_linked Run name t linked) refl
+  told _ (OutsideFoundInRun outside free) = by_its_place places.Run outside free
+  told _ (OutsideFoundElsewhere place outside away free) = by_its_place place outside free ∙ elsewhere place words.LinkedRuntime words.Linked away
+  told _ (NothingListed place inside free empty) = by_its_lists place inside free ∙ nothing_listed section empty
+  told _ (UnitsListedAlone place section inside free is some none) = by_its_lists place inside free ∙ ap by_lists is ∙ rw (some, none) refl
+  told _ (LinksListed place section inside free is some asks) = by_its_lists place inside free ∙ ap by_lists is ∙ rw (some, asks) refl
+
+  abbrev Some_word : Type 0
+  Some_word = (word : StateWord) × Tells t name word
+
+  of_section : (place : Place) → LiesInside true t name place → IsFree t name → (o : Option Section) → section ≡ o → Some_word
+  of_section place inside free None is = (words.Static, NothingListed place inside free (λ listed there. none_some (sym is ∙ there)))
+    where
+      none_some : {P : Type 0} {listed : Section} → None ≡ Some listed → P
+      none_some h = cc
+  of_section place inside free (Some listed) is = elim (cases_Bool (is_empty listed)) [
+    | inl empty ↦ (words.Static, NothingListed place inside free (λ other there. ap is_empty (sym (some_is listed other (sym is ∙ there))) ∙ empty))
+    | inr some ↦ elim (cases_Bool (asks_for_none listed)) [
+      | inl none ↦ (words.Indirect, UnitsListedAlone place listed inside free is some none)
+      | inr asks ↦ (words.Disabled, LinksListed place listed inside free is some asks)
     ]
   ]
 
-  by_name : (real file : List ℕ) (place : Place) → (find unit).conclusion t ≡ founds.Unit real file place → (named_word unit real file place).conclusion t ≡ Enabled → IsUnit t unit × IsLinkedIn Etc t unit
-  by_name real file place at is = elim (cases_Bool (bytes_eq real unit)) [
-    | inl same ↦ ((file, place, at ∙ ap (λ real. founds.Unit real file place) (same_bytes real unit same)), by_word file place (rw same at is))
-    | inr other ↦ (let alias = rw other at is in cc)
+  of_file : (file : List ℕ) (place : Place) → IsFound t name (founds.Unit name file place) → IsFree t name → Some_word
+  of_file file place is free = elim (cases_Bool (is_unit_slot (slot_of file))) [
+    | inl inside ↦ of_section place (file, is, inside) free section refl
+    | inr outside ↦ elim (run_or_not place) [
+      | inl run ↦ (words.LinkedRuntime, OutsideFoundInRun (file, is ∙ ap (founds.Unit name file) run, outside) free)
+      | inr away ↦ (words.Linked, OutsideFoundElsewhere place (file, is, outside) away free)
+    ]
   ]
 
-  by_found : (found : Found) → (find unit).conclusion t ≡ found → (found_word unit found).conclusion t ≡ Enabled → IsUnit t unit × IsLinkedIn Etc t unit
-  by_found founds.Missing at is = cc
-  by_found (founds.Masked place) at is = not_masked place is
-  by_found (founds.Dangling link) at is = cc
-  by_found (founds.Unit real file place) at is = by_name real file place at is
+  of_unit : (file : List ℕ) (place : Place) → IsFound t name (founds.Unit name file place) → Some_word
+  of_unit file place is = elim (cases_Bool (Linked Etc name t)) [
+    | inl linked ↦ (words.Enabled, LinkedInEtc (file, place, is) (linked_of Etc name t linked))
+    | inr none ↦ elim (cases_Bool (Linked Run name t)) [
+      | inl linked ↦ (words.EnabledRuntime, LinkedInRun (file, place, is) (not_linked Etc name t none) (linked_of Run name t linked))
+      | inr free ↦ of_file file place is (not_linked Etc name t none, not_linked Run name t free)
+    ]
+  ]
 
-  is_word : IsUnit t unit → IsLinkedIn Etc t unit → (state_word unit).conclusion t ≡ Enabled
-  is_word own linked =
-      ap (λ found. (found_word unit found).conclusion t) own.2
-      ∙ (let same = (bytes_eq-Decides unit unit).1 refl in rw same (rw (has_linked Etc unit t linked) refl))
+  of_found : (found : Found) → IsFound t name found → Some_word
+  of_found founds.Missing is = (words.NotFound, Missing is)
+  of_found (founds.Dangling link) is = (words.NotFound, Dangling link is)
+  of_found (founds.Masked place) is = elim (run_or_not place) [
+    | inl run ↦ (words.MaskedRuntime, MaskedInRun (is ∙ ap founds.Masked run))
+    | inr away ↦ (words.Masked, MaskedElsewhere place is away)
+  ]
+  of_found (founds.Unit real file place) is = elim (cases_Bool (bytes_eq real name)) [
+    | inl same ↦ of_unit file place (is ∙ ap (λ real. founds.Unit real file place) (same_bytes real name same))
+    | inr other ↦ (words.Alias, AnotherName real file place is (λ same. false≢true (sym other ∙ (bytes_eq-Decides real name).1 same)))
+  ]
 
-pub enabled_where_linked : EnabledWhereLinked
-enabled_where_linked unit t = (by_found unit t ((find unit).conclusion t) refl, λ so. is_word unit t so.0 so.1)
+  tells : (word : StateWord) → (state_word name).conclusion t ≡ word → Tells t name word
+  tells word is = let some = of_found ((find name).conclusion t) refl in subst (Tells t name) (sym (told some.0 some.1) ∙ is) some.1
+
+pub words_are_told : WordsAreTold
+words_are_told name t word = (tells name t word, told name t word)

@@ -21,7 +21,7 @@ pub struct Dependencies {
 impl Operation for Dependencies {
     ghost use Rattle.std.specs.Prelude.{true};
     ghost use Rattle.states.specs.Dependencies.{dependencies_meaning};
-    ghost use Rattle.states.specs.QuestionLaws.{question_laws};
+    ghost use Rattle.states.specs.QuestionLaws.{dependencies_laws};
 
     ghost meaning = { dependencies_meaning };
 
@@ -49,5 +49,5 @@ impl Operation for Dependencies {
         self.reverse == other.reverse && self.unit == other.unit
     }
 
-    ghost laws = { question_laws _ };
+    ghost laws = { dependencies_laws };
 }

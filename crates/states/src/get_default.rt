@@ -38,7 +38,7 @@ fn default_target(alloc: Global) -> Result<UnitName, AllocError>
 impl Operation for GetDefault {
     ghost use Rattle.std.specs.Prelude.{true};
     ghost use Rattle.states.specs.GetDefault.{get_default_meaning};
-    ghost use Rattle.states.specs.QuestionLaws.{question_laws};
+    ghost use Rattle.states.specs.QuestionLaws.{get_default_laws};
 
     ghost meaning = { get_default_meaning };
 
@@ -63,5 +63,5 @@ impl Operation for GetDefault {
         true
     }
 
-    ghost laws = { question_laws _ };
+    ghost laws = { get_default_laws };
 }

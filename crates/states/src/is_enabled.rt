@@ -187,7 +187,7 @@ impl IsEnabled {
 impl Operation for IsEnabled {
     ghost use Rattle.std.specs.Prelude.{true};
     ghost use Rattle.states.specs.IsEnabled.{is_enabled_meaning};
-    ghost use Rattle.states.specs.QuestionLaws.{question_laws};
+    ghost use Rattle.states.specs.QuestionLaws.{is_enabled_laws};
 
     ghost meaning = { is_enabled_meaning };
 
@@ -213,5 +213,5 @@ impl Operation for IsEnabled {
         self.unit == other.unit
     }
 
-    ghost laws = { question_laws _ };
+    ghost laws = { is_enabled_laws };
 }

@@ -1,11 +1,11 @@
 //! What holds of the answers in all trees: each function does nothing, and its contract is the law.
 ghost use Rattle.states.specs.DependencyLaws.{DependenciesAreLeast, DependenciesTurnRound};
-ghost use Rattle.states.specs.Laws.{EnabledWhereLinked};
+ghost use Rattle.states.specs.Laws.{WordsAreTold};
 
-/// `is-enabled` answers `enabled` exactly where a unit is found under its own name, and a link in `/etc` belongs to it, at another path than that of its
-/// own name there.
-pub fn a_unit_is_enabled_where_a_link_belongs_to_it()
-    ensures { EnabledWhereLinked }
+/// `is-enabled` answers each of its words exactly where it holds: by what the name is looked up as, by the links that belong to the unit, by where its
+/// file lies, and by what its [Install] section lists.
+pub fn words_are_told_where_they_hold()
+    ensures { WordsAreTold }
 {}
 
 /// The dependencies of a unit are the least set of names closed under the links of each unit, those of an instance's template among them, without the

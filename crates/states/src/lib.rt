@@ -14,7 +14,7 @@ pub use dependencies::Dependencies;
 pub use get_default::GetDefault;
 pub use is_enabled::IsEnabled;
 pub use laws::{
-    a_unit_is_enabled_where_a_link_belongs_to_it, dependencies_are_least, dependencies_turn_round,
+    dependencies_are_least, dependencies_turn_round, words_are_told_where_they_hold,
 };
 
 #[cfg(test)]

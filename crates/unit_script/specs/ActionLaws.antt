@@ -12,7 +12,8 @@ use Rattle.slot_commands.specs.LinkUnits.{link_steps}
 use Rattle.slot_commands.specs.AddTo.{add_steps}
 use Rattle.slot_commands.specs.SetDefault.{default_steps}
 use Rattle.slot_commands.specs.ByHand.{place_steps, remove_steps}
-use Rattle.unit_script.specs.declared.action.Action.TheVariants.{Enable, Disable, Reenable, Preset, Mask, Unmask, LinkUnits, AddTo, SetDefault, PlaceEntry, RemoveEntry}
+use Rattle.states.specs.QuestionLaws.{is_enabled_laws, get_default_laws, dependencies_laws}
+use Rattle.unit_script.specs.declared.action.Action.TheVariants.{Enable, Disable, Reenable, Preset, Mask, Unmask, LinkUnits, AddTo, SetDefault, PlaceEntry, RemoveEntry, IsEnabled, GetDefault, Dependencies}
 use Rattle.unit_script.specs.Actions.{asks, meaning}
 
 pub action_laws : OperationLaws asks meaning
@@ -29,6 +30,9 @@ action_laws = record {
     | SetDefault set ↦ (laws_of_steps default_steps).confinement set
     | PlaceEntry place ↦ (laws_of_steps place_steps).confinement place
     | RemoveEntry remove ↦ (laws_of_steps remove_steps).confinement remove
+    | IsEnabled question ↦ is_enabled_laws.confinement question
+    | GetDefault question ↦ get_default_laws.confinement question
+    | Dependencies question ↦ dependencies_laws.confinement question
   ];
   changes = elim [
     | Enable enable ↦ (laws_of enable_command).changes enable
@@ -42,6 +46,9 @@ action_laws = record {
     | SetDefault set ↦ (laws_of_steps default_steps).changes set
     | PlaceEntry place ↦ (laws_of_steps place_steps).changes place
     | RemoveEntry remove ↦ (laws_of_steps remove_steps).changes remove
+    | IsEnabled question ↦ is_enabled_laws.changes question
+    | GetDefault question ↦ get_default_laws.changes question
+    | Dependencies question ↦ dependencies_laws.changes question
   ];
   refusal = elim [
     | Enable enable ↦ (laws_of enable_command).refusal enable
@@ -55,6 +62,24 @@ action_laws = record {
     | SetDefault set ↦ (laws_of_steps default_steps).refusal set
     | PlaceEntry place ↦ (laws_of_steps place_steps).refusal place
     | RemoveEntry remove ↦ (laws_of_steps remove_steps).refusal remove
+    | IsEnabled question ↦ is_enabled_laws.refusal question
+    | GetDefault question ↦ get_default_laws.refusal question
+    | Dependencies question ↦ dependencies_laws.refusal question
   ];
-  question = λ c t asked. absurd (true≢false (sym asked));
+  question = elim [
+    | Enable enable ↦ λ t asked. absurd (true≢false (sym asked))
+    | Disable disable ↦ λ t asked. absurd (true≢false (sym asked))
+    | Reenable reenable ↦ λ t asked. absurd (true≢false (sym asked))
+    | Preset preset ↦ λ t asked. absurd (true≢false (sym asked))
+    | Mask mask ↦ λ t asked. absurd (true≢false (sym asked))
+    | Unmask unmask ↦ λ t asked. absurd (true≢false (sym asked))
+    | LinkUnits link ↦ λ t asked. absurd (true≢false (sym asked))
+    | AddTo add ↦ λ t asked. absurd (true≢false (sym asked))
+    | SetDefault set ↦ λ t asked. absurd (true≢false (sym asked))
+    | PlaceEntry place ↦ λ t asked. absurd (true≢false (sym asked))
+    | RemoveEntry remove ↦ λ t asked. absurd (true≢false (sym asked))
+    | IsEnabled question ↦ is_enabled_laws.question question
+    | GetDefault question ↦ get_default_laws.question question
+    | Dependencies question ↦ dependencies_laws.question question
+  ];
 }

@@ -1,5 +1,5 @@
 -- What each command of a script means: what it asks of a tree, and the effect that it has.
-use Rattle.std.specs.Prelude.{Bool, false}
+use Rattle.std.specs.Prelude.{Bool, true, false}
 use Rattle.footprint.specs.Inquiry.{Inquiry}
 use Rattle.footprint.specs.Operations.{Effect}
 use Rattle.install_commands.specs.Enable.{enable_meaning}
@@ -11,8 +11,11 @@ use Rattle.slot_commands.specs.LinkUnits.{link_meaning}
 use Rattle.slot_commands.specs.AddTo.{add_meaning}
 use Rattle.slot_commands.specs.SetDefault.{default_meaning}
 use Rattle.slot_commands.specs.ByHand.{place_meaning, remove_meaning}
+use Rattle.states.specs.IsEnabled.{is_enabled_meaning}
+use Rattle.states.specs.GetDefault.{get_default_meaning}
+use Rattle.states.specs.Dependencies.{dependencies_meaning}
 use Rattle.unit_script.specs.declared.action.Action.{Action}
-use Rattle.unit_script.specs.declared.action.Action.TheVariants.{Enable, Disable, Reenable, Preset, Mask, Unmask, LinkUnits, AddTo, SetDefault, PlaceEntry, RemoveEntry}
+use Rattle.unit_script.specs.declared.action.Action.TheVariants.{Enable, Disable, Reenable, Preset, Mask, Unmask, LinkUnits, AddTo, SetDefault, PlaceEntry, RemoveEntry, IsEnabled, GetDefault, Dependencies}
 
 abbrev pub meaning : Action → Inquiry Effect
 meaning (Enable enable) = enable_meaning enable
@@ -26,7 +29,13 @@ meaning (AddTo add) = add_meaning add
 meaning (SetDefault set) = default_meaning set
 meaning (PlaceEntry place) = place_meaning place
 meaning (RemoveEntry remove) = remove_meaning remove
+meaning (IsEnabled question) = is_enabled_meaning question
+meaning (GetDefault question) = get_default_meaning question
+meaning (Dependencies question) = dependencies_meaning question
 
--- no action is a question yet
+-- whether it is a question
 abbrev pub asks : Action → Bool
-asks action = false
+asks (IsEnabled question) = true
+asks (GetDefault question) = true
+asks (Dependencies question) = true
+asks command = false

@@ -1,5 +1,5 @@
 -- What verbs ask for, with the words that follow them.
-use Rattle.std.specs.Prelude.{ℕ, Bool, if◌then◌else◌, List, [], ◌∷◌, Result, Ok, Err, codes}
+use Rattle.std.specs.Prelude.{ℕ, Bool, true, false, if◌then◌else◌, List, [], ◌∷◌, Result, Ok, Err, codes}
 use Rattle.std.specs.Str.{bytes_eq}
 use Rattle.std.specs.Option.{option_map_or}
 use Rattle.link_tree.specs.declared.entry.Entry.{Entry}
@@ -106,6 +106,25 @@ place_of (path ∷ kind ∷ words) = place_kind path kind words
 abbrev pub remove_at : List ℕ → Result (Request Action) Reason
 remove_at word = path_of word >>= λ path. Ok (Do (actions.RemoveEntry (record { path = path })))
 
+abbrev pub is_enabled_for : List ℕ → Result (Request Action) Reason
+is_enabled_for word = name_of word >>= λ unit. Ok (Do (actions.IsEnabled (record { unit = unit })))
+
+-- no word follows
+abbrev pub get_default_of : List (List ℕ) → Result (Request Action) Reason
+get_default_of [] = Ok (Do (actions.GetDefault (record {})))
+get_default_of (word ∷ words) = Err WrongArguments
+
+abbrev pub is_reverse : List ℕ → Bool
+is_reverse word = bytes_eq word (codes "--reverse")
+
+abbrev pub dependencies_for : (reverse : Bool) → List ℕ → Result (Request Action) Reason
+dependencies_for reverse word = name_of word >>= λ unit. Ok (Do (actions.Dependencies (record { unit = unit; reverse = reverse })))
+
+-- one unit, behind the option if that is given
+abbrev pub dependencies_of : List (List ℕ) → Result (Request Action) Reason
+dependencies_of [] = Err WrongArguments
+dependencies_of (word ∷ words) = if is_reverse word then of_one (dependencies_for true) words else of_one (dependencies_for false) (word ∷ words)
+
 -- the undo of the row that a word names
 abbrev pub undo_row : List ℕ → Result (Request Action) Reason
 undo_row word = option_map_or (λ n. Ok (Undo n)) (number_of word) (Err BadNumber)
@@ -125,6 +144,9 @@ request_of_verb verb words =
     else if bytes_eq verb (codes "set-default") then of_one set_default_to words
     else if bytes_eq verb (codes "place") then place_of words
     else if bytes_eq verb (codes "remove") then of_one remove_at words
+    else if bytes_eq verb (codes "is-enabled") then of_one is_enabled_for words
+    else if bytes_eq verb (codes "get-default") then get_default_of words
+    else if bytes_eq verb (codes "dependencies") then dependencies_of words
     else if bytes_eq verb (codes "undo") then of_one undo_row words
     else Err UnknownVerb
 

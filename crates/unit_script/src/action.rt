@@ -1,15 +1,16 @@
-//! The commands that a script can give, as one type of operation.
+//! The commands and questions that a script can give, as one type of operation.
 
 use footprint::{Operation, Outcome};
 use install_commands::{Disable, Enable, Preset, Reenable};
 use link_tree::Tree;
 use slot_commands::{AddTo, LinkUnits, Mask, PlaceEntry, RemoveEntry, SetDefault, Unmask};
+use states::{Dependencies, GetDefault, IsEnabled};
 use std::alloc::{AllocError, Global};
 
-/// A command of a script with its arguments. systemctl(1), "Unit File Commands".
+/// A command or a question of a script with its arguments. systemctl(1), "Unit File Commands".
 ///
-/// Each variant is an operation of `install_commands` or `slot_commands`, and does as that does: its meaning, and so its answer, its changes
-/// and what it looks at, are that operation's. No action is a question, so each that is accepted counts as a command.
+/// Each variant is an operation of `install_commands`, `slot_commands` or `states`, and does as that does: its meaning, and so its answer, its
+/// changes and what it looks at, are that operation's. Those of `states` are questions, which change nothing and count as no command.
 ///
 /// `run` and `copy` fail only for want of memory, and then nothing has changed.
 #[derive(Debug, Drop)]
@@ -36,6 +37,12 @@ pub enum Action {
     PlaceEntry(PlaceEntry),
     /// `remove`, which systemctl doesn't have: the entry at a slot is taken away.
     RemoveEntry(RemoveEntry),
+    /// `is-enabled`
+    IsEnabled(IsEnabled),
+    /// `get-default`
+    GetDefault(GetDefault),
+    /// `dependencies`, which is `list-dependencies` of systemctl, by links alone.
+    Dependencies(Dependencies),
 }
 
 impl Operation for Action {
@@ -61,11 +68,27 @@ impl Operation for Action {
             Action::SetDefault(set) => set.run(alloc, tree),
             Action::PlaceEntry(place) => place.run(alloc, tree),
             Action::RemoveEntry(remove) => remove.run(alloc, tree),
+            Action::IsEnabled(question) => question.run(alloc, tree),
+            Action::GetDefault(question) => question.run(alloc, tree),
+            Action::Dependencies(question) => question.run(alloc, tree),
         }
     }
 
     fn asks_only(&self) -> bool {
-        false
+        match self {
+            Action::IsEnabled(_) | Action::GetDefault(_) | Action::Dependencies(_) => true,
+            Action::Enable(_)
+            | Action::Disable(_)
+            | Action::Reenable(_)
+            | Action::Preset(_)
+            | Action::Mask(_)
+            | Action::Unmask(_)
+            | Action::LinkUnits(_)
+            | Action::AddTo(_)
+            | Action::SetDefault(_)
+            | Action::PlaceEntry(_)
+            | Action::RemoveEntry(_) => false,
+        }
     }
 
     fn copy(&self) -> Result<Action, AllocError> {
@@ -81,6 +104,9 @@ impl Operation for Action {
             Action::SetDefault(set) => Ok(Action::SetDefault(set.copy()?)),
             Action::PlaceEntry(place) => Ok(Action::PlaceEntry(place.copy()?)),
             Action::RemoveEntry(remove) => Ok(Action::RemoveEntry(remove.copy()?)),
+            Action::IsEnabled(question) => Ok(Action::IsEnabled(question.copy()?)),
+            Action::GetDefault(question) => Ok(Action::GetDefault(question.copy()?)),
+            Action::Dependencies(question) => Ok(Action::Dependencies(question.copy()?)),
         }
     }
 
@@ -97,6 +123,9 @@ impl Operation for Action {
             (Action::SetDefault(one), Action::SetDefault(other)) => one.same(other),
             (Action::PlaceEntry(one), Action::PlaceEntry(other)) => one.same(other),
             (Action::RemoveEntry(one), Action::RemoveEntry(other)) => one.same(other),
+            (Action::IsEnabled(one), Action::IsEnabled(other)) => one.same(other),
+            (Action::GetDefault(one), Action::GetDefault(other)) => one.same(other),
+            (Action::Dependencies(one), Action::Dependencies(other)) => one.same(other),
             _ => false,
         }
     }

@@ -1,6 +1,6 @@
 //! What verbs ask for, with the words that follow them.
 ghost use Rattle.std.specs.Prelude.{◌≡◌, map};
-ghost use Rattle.unit_script.specs.Requests.{of_one, is_runtime, scope_of, arguments_of, enable_of, disable_of, reenable_of, preset_of, mask_of, unmask_of, link_units_of, add_units, add_arguments, add_to_of, set_default_to, place_entry, place_link, place_file, place_kind, place_of, remove_at, undo_row, request_of_verb, request_of};
+ghost use Rattle.unit_script.specs.Requests.{of_one, is_runtime, scope_of, arguments_of, enable_of, disable_of, reenable_of, preset_of, mask_of, unmask_of, link_units_of, add_units, add_arguments, add_to_of, set_default_to, place_entry, place_link, place_file, place_kind, place_of, remove_at, is_enabled_for, get_default_of, is_reverse, dependencies_for, dependencies_of, undo_row, request_of_verb, request_of};
 ghost use Rattle.byte_streams.specs.Reads.{Gives};
 ghost use Rattle.unit_script.specs.Words.{link_of, file_of};
 
@@ -14,6 +14,7 @@ use history::Request;
 use install_commands::{Disable, Enable, Preset, Reenable};
 use link_tree::{Dependency, Scope};
 use slot_commands::{AddTo, LinkUnits, Mask, PlaceEntry, RemoveEntry, SetDefault, Unmask};
+use states::{Dependencies, GetDefault, IsEnabled};
 use std::alloc::Global;
 
 fn is_runtime(word: &[u8]) -> bool
@@ -254,6 +255,62 @@ fn remove_of(alloc: Global, words: &[&[u8]]) -> Result<Request<Action>, ReadErro
     }
 }
 
+fn is_enabled_for(alloc: Global, word: &[u8]) -> Result<Request<Action>, ReadError<Reason>>
+    ensures { Gives (λ x. x) result (is_enabled_for word.now) }
+{
+    let unit = name_of(alloc, word)?;
+    Ok(Request::Do(Action::IsEnabled(IsEnabled { unit })))
+}
+
+fn is_enabled_of(alloc: Global, words: &[&[u8]]) -> Result<Request<Action>, ReadError<Reason>>
+    ensures { Gives (λ x. x) result (of_one is_enabled_for (map (λ word. word.now) words.now)) }
+{
+    match words {
+        [word] => is_enabled_for(alloc, word),
+        _ => Err(ReadError::Fault(Reason::WrongArguments)),
+    }
+}
+
+fn get_default_of(words: &[&[u8]]) -> Result<Request<Action>, ReadError<Reason>>
+    ensures { Gives (λ x. x) result (get_default_of (map (λ word. word.now) words.now)) }
+{
+    match words {
+        [] => Ok(Request::Do(Action::GetDefault(GetDefault {}))),
+        _ => Err(ReadError::Fault(Reason::WrongArguments)),
+    }
+}
+
+fn is_reverse(word: &[u8]) -> bool
+    ensures { result ≡ is_reverse word.now }
+{
+    word == b"--reverse".as_slice()
+}
+
+fn dependencies_for(
+    alloc: Global,
+    reverse: bool,
+    words: &[&[u8]],
+) -> Result<Request<Action>, ReadError<Reason>>
+    ensures { Gives (λ x. x) result (of_one (dependencies_for reverse) (map (λ word. word.now) words.now)) }
+{
+    match words {
+        [word] => {
+            let unit = name_of(alloc, word)?;
+            Ok(Request::Do(Action::Dependencies(Dependencies { unit, reverse })))
+        }
+        _ => Err(ReadError::Fault(Reason::WrongArguments)),
+    }
+}
+
+fn dependencies_of(alloc: Global, words: &[&[u8]]) -> Result<Request<Action>, ReadError<Reason>>
+    ensures { Gives (λ x. x) result (dependencies_of (map (λ word. word.now) words.now)) }
+{
+    match words {
+        [word, words @ ..] if is_reverse(word) => dependencies_for(alloc, true, words),
+        _ => dependencies_for(alloc, false, words),
+    }
+}
+
 fn undo_row(word: &[u8]) -> Result<Request<Action>, ReadError<Reason>>
     ensures { Gives (λ x. x) result (undo_row word.now) }
 {
@@ -304,6 +361,12 @@ fn request_of_verb(
         place_of(alloc, words)
     } else if verb == b"remove".as_slice() {
         remove_of(alloc, words)
+    } else if verb == b"is-enabled".as_slice() {
+        is_enabled_of(alloc, words)
+    } else if verb == b"get-default".as_slice() {
+        get_default_of(words)
+    } else if verb == b"dependencies".as_slice() {
+        dependencies_of(alloc, words)
     } else if verb == b"undo".as_slice() {
         undo_of(words)
     } else {
