@@ -2,7 +2,6 @@
 ghost use Rattle.std.specs.Prelude.{◌≡◌, IfOk};
 ghost use Rattle.std.specs.Option.{option_copied};
 ghost use Rattle.load_path.specs.RealNames.{named};
-ghost use Rattle.unit_paths.specs.Slots.{slot_of};
 ghost use Rattle.states.specs.Dependencies.{ending_of, named_step, step_from, is_other_link, step_at, turned};
 
 use link_tree::{Entry, Slot, TreePath, is_null_link};
