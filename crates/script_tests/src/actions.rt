@@ -119,26 +119,43 @@ fn is_question(action: &Action, other: &Action) -> Result<bool, AllocError> {
     Ok(action.same(&copy) && !action.same(other) && action.asks_only())
 }
 
+/// Two questions are told apart.
+fn assert_questions(rt: &impl Abort, one: &Action, other: &Action) -> Result<(), AllocError> {
+    assert!(rt; is_question(one, other)?);
+    assert!(rt; is_question(other, one)?);
+    Ok(())
+}
+
+fn state_of(alloc: Global, text: &[u8]) -> Result<Action, NameError> {
+    let unit = name(alloc, text)?;
+    Ok(Action::IsEnabled(IsEnabled { unit }))
+}
+
+fn dependencies_of(alloc: Global, reverse: bool) -> Result<Action, NameError> {
+    let unit = name(alloc, b"x.service")?;
+    Ok(Action::Dependencies(Dependencies { unit, reverse }))
+}
+
 #[test]
-fn a_copy_asks_too(rt: HostRuntime) -> Result<(), Fail> {
-    let unit = name(rt.alloc(), b"x.service")?;
-    let state = Action::IsEnabled(IsEnabled { unit });
-    let unit = name(rt.alloc(), b"y.service")?;
-    let other = Action::IsEnabled(IsEnabled { unit });
+fn a_copy_asks_for_the_state_too(rt: HostRuntime) -> Result<(), Fail> {
+    let one = state_of(rt.alloc(), b"x.service")?;
+    let other = state_of(rt.alloc(), b"y.service")?;
+    assert_questions(&rt, &one, &other)?;
+    Ok(())
+}
+
+#[test]
+fn a_copy_asks_for_the_default_too(rt: HostRuntime) -> Result<(), Fail> {
     let default = Action::GetDefault(GetDefault {});
-    assert!(rt; is_question(&state, &other)? && is_question(&other, &default)?);
-    assert!(rt; is_question(&default, &state)?);
+    let other = state_of(rt.alloc(), b"default.target")?;
+    assert_questions(&rt, &default, &other)?;
     Ok(())
 }
 
 #[test]
 fn a_copy_asks_for_dependencies_too(rt: HostRuntime) -> Result<(), Fail> {
-    let reverse = true;
-    let unit = name(rt.alloc(), b"x.service")?;
-    let back = Action::Dependencies(Dependencies { unit, reverse });
-    let reverse = false;
-    let unit = name(rt.alloc(), b"x.service")?;
-    let forth = Action::Dependencies(Dependencies { unit, reverse });
-    assert!(rt; is_question(&back, &forth)? && is_question(&forth, &back)?);
+    let back = dependencies_of(rt.alloc(), true)?;
+    let forth = dependencies_of(rt.alloc(), false)?;
+    assert_questions(&rt, &back, &forth)?;
     Ok(())
 }
