@@ -3,7 +3,7 @@ use Rattle.std.proofs.Common.{◌≡◌, ℕ, true, false, cond, List, [], ◌�
 use Rattle.std.specs.FinMap as map
 use Rattle.std.proofs.lemmas.Bool.{cases_Bool, false≢true}
 use Rattle.std.proofs.lemmas.List.Elements.{Contains-append_left, Contains-append_right, Contains-append_cases}
-use Rattle.unit_paths.specs.Slots.{slot_of}
+use Rattle.unit_paths.specs.Slots.{slot_of, is_unit_slot}
 use Rattle.unit_paths.specs.declared.place.Scope.{Scope}
 use Rattle.link_tree.specs.declared.entry.Entry.{Entry}
 use Rattle.link_tree.specs.declared.entry.Entry.TheVariants.{Link}
@@ -31,7 +31,7 @@ use Rattle.install_commands.specs.CompositeLaws.{IsWayOutside, IsCleared, Reenab
 use Rattle.install_commands.specs.Disable.{units_named}
 use Rattle.install_commands.specs.Enable.{checked_want}
 use Rattle.install_commands.specs.Laws.{Leaves, ChangesNothing, IsNamed, IsWantedBy, JoinedWith, Without}
-use Rattle.install_commands.specs.Reenable.{is_unit_slot, with_kept, kept_behind, checked_named, links_cleared, reenable_disables, reenable_enables, reenable_meaning}
+use Rattle.install_commands.specs.Reenable.{with_kept, kept_behind, checked_named, links_cleared, reenable_disables, reenable_enables, reenable_meaning}
 use Rattle.install_commands.proofs.Checked.{check_passes}
 use Rattle.install_commands.proofs.Composites.{leaves_in_turn, both_come_to_changes}
 use Rattle.install_commands.proofs.Enabled.{Made, wanted_is, made, joins}

@@ -1,7 +1,7 @@
 -- Laws of reenabling and of presets, each the contract of a public function: systemctl(1), "reenable", "preset".
 use Rattle.std.specs.Prelude.{◌≡◌, ℕ, Bool, ◌↔◌, ◌⊎◌, true, false, List, [], ◌∷◌, ◌++◌, All, Contains, Some, Ok, Err}
 use Rattle.unit_file.specs.Listed.{is_template_name}
-use Rattle.unit_paths.specs.Slots.{slot_of}
+use Rattle.unit_paths.specs.Slots.{slot_of, is_unit_slot}
 use Rattle.unit_paths.specs.declared.place.Place.{Place}
 use Rattle.link_tree.specs.declared.entry.Entry.{Entry}
 use Rattle.link_tree.specs.declared.entry.Entry.TheVariants.{Link}
@@ -30,7 +30,7 @@ use Rattle.install_commands.specs.Disable.{units_named, disable_meaning}
 use Rattle.install_commands.specs.Enable.{checked_want, units_enabled}
 use Rattle.install_commands.specs.Laws.{Leaves, ChangesNothing, IsNamed, IsWantedBy, Without}
 use Rattle.install_commands.specs.Preset.{counts, counting_behind, preset_judges, judged_disabled, judged_enabled, preset_meaning}
-use Rattle.install_commands.specs.Reenable.{is_unit_slot, reenable_disables, reenable_enables, reenable_meaning}
+use Rattle.install_commands.specs.Reenable.{reenable_disables, reenable_enables, reenable_meaning}
 
 -- It leaves a tree exactly where the first command leaves one of which the second makes that tree.
 abbrev pub LeavesInTurn : (whole : Inquiry Effect) → (first second : Command) → (t : Entries) → Type 0

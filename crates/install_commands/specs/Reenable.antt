@@ -1,9 +1,7 @@
 -- Reenabling units: systemctl(1), "reenable".
-use Rattle.std.specs.Prelude.{ℕ, Bool, if◌then◌else◌, List, [], ◌∷◌, ◌++◌, map as list_map, Option, Some, Result, true, false}
+use Rattle.std.specs.Prelude.{ℕ, if◌then◌else◌, List, [], ◌∷◌, ◌++◌, map as list_map, Result, false}
 use Rattle.unit_paths.specs.declared.place.Scope.{Scope}
-use Rattle.unit_paths.specs.declared.slot.Slot.{Slot}
-use Rattle.unit_paths.specs.declared.slot.Slot.TheVariants as slots
-use Rattle.unit_paths.specs.Slots.{slot_of}
+use Rattle.unit_paths.specs.Slots.{slot_of, is_unit_slot}
 use Rattle.load_path.specs.declared.finding.Found.{Found}
 use Rattle.load_path.specs.declared.finding.Found.TheVariants.{Unit}
 use Rattle.load_path.specs.Find.{find}
@@ -29,11 +27,6 @@ with_cells s = record {
   keys = λ t. list_map Cell (s.cells t);
   agreement = λ t u agree. let same = s.agreement t u (same_cells (s.cells t) t u agree) in (λ i. (same.0 i, same.1 i), ap (list_map Cell) same.1);
 }
-
--- whether a file that stands here is in one of the four directories of units
-abbrev pub is_unit_slot : Option Slot → Bool
-is_unit_slot (Some (slots.Unit place)) = true
-is_unit_slot other = false
 
 -- The cells by which a name was found are kept too, if that is a unit whose file lies in none of the four directories.
 abbrev pub with_kept : (kept : List (List ℕ)) → Found × List (List ℕ) → List (List ℕ)

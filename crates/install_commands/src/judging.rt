@@ -4,15 +4,15 @@ ghost use Rattle.std.specs.Option.{option_copied};
 ghost use Rattle.unit_name.specs.Name.{instance_of};
 ghost use Rattle.unit_name.specs.Parts.{kind_of};
 ghost use Rattle.unit_name.specs.declared.kind.Kind.TheVariants as kinds;
-ghost use Rattle.load_path.specs.RealNames.{put_in};
 ghost use Rattle.install_commands.specs.Preset as presets;
 ghost use Rattle.install_commands.specs.Preset.{none_judged, judged_by};
 
 use footprint::{Notices, Units};
+use load_path::put_in;
 use preset_rules::{Instances, Rules, Verdict};
 use std::alloc::{AllocError, Global};
 use unit_file::{Notice, NoticeKey, Reason, Word};
-use unit_name::{InstanceError, Kind, UnitName};
+use unit_name::{Kind, UnitName};
 
 /// Which units are to be disabled and which enabled, with what is told of instances that no unit can have.
 #[derive(Debug, Drop)]
@@ -32,22 +32,6 @@ fn bad_instance(template: &UnitName, instance: &Word) -> Result<Notice, AllocErr
         word: instance.copy()?,
         reason: Reason::BadName,
     })
-}
-
-/// A template with an instance put in, if that is a name.
-fn put_in(
-    alloc: Global,
-    template: &UnitName,
-    instance: &Word,
-) -> Result<Option<UnitName>, AllocError>
-    requires { kind_of (instance_of template.now) ≢ kinds.Plain }
-    ensures { IfOk result (λ unit. unit ≡ put_in template.now (Some instance.now)) }
-{
-    match template.with_instance(alloc, instance.bytes()) {
-        Ok(unit) => Ok(Some(unit)),
-        Err(InstanceError::Bad(_)) => Ok(None),
-        Err(InstanceError::OutOfMemory) => Err(AllocError),
-    }
 }
 
 impl Judged {
@@ -111,7 +95,7 @@ impl Judged {
     {
         let mut judged = self;
         for instance in instances {
-            let unit = put_in(alloc, template, instance)?;
+            let unit = put_in(alloc, template, Some(instance.bytes()))?;
             judged = judged.with_listed(template, instance, unit)?;
         }
         Ok(judged)

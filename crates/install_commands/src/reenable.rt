@@ -1,13 +1,12 @@
 //! reenable.
 ghost use Rattle.std.specs.Prelude.{◌≡◌, ◌++◌, [], IfOk, OnOk};
 ghost use Rattle.load_path.specs.Find.{find};
-ghost use Rattle.unit_paths.specs.Slots.{slot_of};
 ghost use Rattle.footprint.specs.Commands.{unless_refused};
 ghost use Rattle.footprint.specs.Edits.{Carries, CarriesOn};
 ghost use Rattle.footprint.specs.Inquiry.{Asks, giving};
 ghost use Rattle.install_commands.specs.Following.{CarriesThrough};
 ghost use Rattle.install_commands.specs.Reenable as reenabling;
-ghost use Rattle.install_commands.specs.Reenable.{is_unit_slot, with_cells, with_kept, kept_behind, reenable_disables, reenable_enables};
+ghost use Rattle.install_commands.specs.Reenable.{with_cells, with_kept, kept_behind, reenable_disables, reenable_enables};
 
 use crate::check::checked;
 use crate::disable::{Named, links_removed_but, units_named};
@@ -29,16 +28,6 @@ pub struct Reenable {
     pub units: Units,
 }
 
-/// Whether a file lies in one of the four directories of units.
-fn is_in_unit_directory(file: &TreePath) -> bool
-    ensures { result ≡ is_unit_slot (slot_of file.now) }
-{
-    match Slot::of(file) {
-        Some(Slot::Unit(_)) => true,
-        _ => false,
-    }
-}
-
 /// Adds paths to those that are kept.
 fn keep_all(kept: &mut Cells, cells: &[TreePath]) -> Result<(), AllocError>
     ensures { OnOk result (kept.new ≡ kept.old ++ cells.now) }
@@ -55,7 +44,7 @@ fn keep(kept: &mut Cells, found: &Found, cells: &[TreePath]) -> Result<(), Alloc
 {
     match found {
         Found::Unit { file, .. } => {
-            if is_in_unit_directory(file) {
+            if Slot::is_of_unit(file) {
                 return Ok(());
             }
             keep_all(kept, cells)

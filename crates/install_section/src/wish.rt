@@ -3,16 +3,17 @@ ghost use Rattle.std.specs.Prelude.{◌≡◌, ◌≢◌, IfOk, Some};
 ghost use Rattle.std.specs.Option.{option_copied};
 ghost use Rattle.unit_name.specs.Name.{instance_of, type_of};
 ghost use Rattle.unit_name.specs.Parts.{kind_of};
-ghost use Rattle.load_path.specs.RealNames.{is_same_type, put_in};
+ghost use Rattle.load_path.specs.RealNames.{is_same_type};
 ghost use Rattle.install_section.specs.Words.{named_by};
 ghost use Rattle.install_section.specs.Wishes.{listed_under, listing, has_aliases, are_alike, may_have, alias_meant, aliased, aliasing, wish, words_for, notice_key};
 ghost use Rattle.install_section.specs.WishSlots.{IsAtSlot};
 
 use crate::word::named_by;
 use link_tree::{Dependency, Place, TreePath};
+use load_path::put_in;
 use std::alloc::{AllocError, Global};
 use unit_file::{InstallText, NoticeKey, Reason, Word, listed_name};
-use unit_name::{InstanceError, Kind, UnitName, UnitType};
+use unit_name::{Kind, UnitName, UnitType};
 
 /// The lists of an [Install] section whose words ask for links: systemd.unit(5), "[Install] Section Options".
 #[derive(Clone, Copy, Debug, PartialEq, Eq)]
@@ -149,25 +150,6 @@ fn alias_meant(
     match (unit.kind(), name.kind()) {
         (Kind::Instance, Kind::Template) => put_in(alloc, &name, unit.instance()),
         _ => Ok(Some(name)),
-    }
-}
-
-/// A template with an instance put in, if that is a name.
-fn put_in(
-    alloc: Global,
-    template: &UnitName,
-    instance: Option<&[u8]>,
-) -> Result<Option<UnitName>, AllocError>
-    requires { kind_of (instance_of template.now) ≢ Kind.Plain }
-    ensures { IfOk result (λ alias. alias ≡ put_in template.now (option_copied instance.entry)) }
-{
-    match instance {
-        None => Ok(None),
-        Some(instance) => match template.with_instance(alloc, instance) {
-            Ok(name) => Ok(Some(name)),
-            Err(InstanceError::Bad(_)) => Ok(None),
-            Err(InstanceError::OutOfMemory) => Err(AllocError),
-        },
     }
 }
 

@@ -14,6 +14,7 @@ pub use laws::{
     cells_are_listed_once, chains_are_followed, links_dangle, look_ups_agree, look_ups_are_short,
     slots_are_followed, the_first_entry_counts, units_have_files_and_names,
 };
+pub use real_name::put_in;
 
 #[cfg(test)]
 mod tests;

@@ -58,8 +58,10 @@ fn by_kinds(alloc: Global, name: &UnitName, file: UnitName) -> Result<Option<Uni
     }
 }
 
-/// The template with an instance put in, where the name isn't too long.
-fn put_in(
+/// The name of an instance of a template: the template with the instance put in, systemd.unit(5), "Description". `None` where no
+/// instance is given, where it holds a byte that no name has, and where the name would be longer than 255 bytes; the empty one gives
+/// the template itself. The only error is that there is no memory for the name.
+pub fn put_in(
     alloc: Global,
     template: &UnitName,
     instance: Option<&[u8]>,

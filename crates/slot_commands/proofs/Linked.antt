@@ -11,7 +11,7 @@ use Rattle.link_tree.specs.declared.entry.Entry.TheVariants.{File, Link}
 use Rattle.unit_paths.specs.declared.place.Place.{Place}
 use Rattle.unit_paths.specs.declared.slot.Dependency.{Dependency}
 use Rattle.unit_paths.specs.Canonical.{canonical}
-use Rattle.unit_paths.specs.Slots.{unit_slot, dependency_slot, slot_of}
+use Rattle.unit_paths.specs.Slots.{unit_slot, dependency_slot, slot_of, is_unit_slot}
 use Rattle.unit_paths.specs.Places.{scope_place}
 use Rattle.unit_paths.specs.Paths.{name_at}
 use Rattle.link_tree.specs.Trees.{Entries, set_entry, after_changes}
@@ -29,7 +29,7 @@ use Rattle.footprint.specs.declared.refusal.Subject.TheVariants as subjects
 use Rattle.footprint.specs.Placing.{Ruling, effect, ruled_at}
 use Rattle.footprint.specs.Steps.{Step, ruled, unless_refused, each_in_turn}
 use Rattle.footprint.specs.Rules.{is_same_path, leads_alike, link_at, relink_at, LeadsAs}
-use Rattle.slot_commands.specs.LinkUnits.{is_of_unit, link_file, link_end, link_unit, IsLinked, FilesAreLinked}
+use Rattle.slot_commands.specs.LinkUnits.{link_file, link_end, link_unit, IsLinked, FilesAreLinked}
 use Rattle.footprint.specs.Units.{found_unit, IsFound}
 use Rattle.unit_file.specs.Listed.{is_template_name}
 use Rattle.slot_commands.specs.AddTo.{default_of, name_listed, add_listed, add_file, add_unit, add_units, IsListedBetween, DependenciesAreAdded}
@@ -171,7 +171,7 @@ module _ (place : Place) where
 
   file_linked : (file : List ℕ) (u v : Entries) → left_by ((link_file place file).conclusion u) u ≡ Ok v → OneLink file u v
   file_linked file u v is = elim (cases_Bool (is_unit_name (name_at file))) [
-    | inl named ↦ elim (cases_Bool (is_of_unit (slot_of file))) [
+    | inl named ↦ elim (cases_Bool (is_unit_slot (slot_of file))) [
       | inl unit ↦ (let left : Ok u ≡ Ok v = rw (named, unit) at is in
           let same : u ≡ v = cc in
           subst (OneLink file u) same (λ path entry there. there, (λ path entry none there. some_none entry (sym none ∙ there), inl unit)))

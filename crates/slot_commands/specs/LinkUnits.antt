@@ -1,13 +1,11 @@
 -- link: systemctl(1), "Unit File Commands".
 use Rattle.std.specs.FinMap as map
-use Rattle.std.specs.Prelude.{◌≡◌, ℕ, Bool, true, false, if◌then◌else◌, List, All, Contains, ◌⊎◌, Option, Some}
+use Rattle.std.specs.Prelude.{◌≡◌, ℕ, true, if◌then◌else◌, List, All, Contains, ◌⊎◌}
 use Rattle.unit_name.specs.Name.{is_unit_name}
 use Rattle.link_tree.specs.declared.entry.Entry.{Entry}
 use Rattle.link_tree.specs.declared.entry.Entry.TheVariants.{Link}
 use Rattle.unit_paths.specs.declared.place.Place.{Place}
-use Rattle.unit_paths.specs.declared.slot.Slot.{Slot}
-use Rattle.unit_paths.specs.declared.slot.Slot.TheVariants as slots
-use Rattle.unit_paths.specs.Slots.{unit_slot, slot_of}
+use Rattle.unit_paths.specs.Slots.{unit_slot, slot_of, is_unit_slot}
 use Rattle.unit_paths.specs.Places.{scope_place}
 use Rattle.unit_paths.specs.Paths.{name_at}
 use Rattle.link_tree.specs.Trees.{Entries, after_changes}
@@ -25,15 +23,10 @@ use Rattle.footprint.specs.Steps.{Step, nothing, refuse, ruled, each_in_turn, �
 use Rattle.slot_commands.specs.declared.link_units.LinkUnits.{LinkUnits}
 use Rattle.slot_commands.specs.Effects.{Keeps, AddsOnly}
 
--- whether a slot is that of a unit
-abbrev pub is_of_unit : Option Slot → Bool
-is_of_unit (Some (slots.Unit place)) = true
-is_of_unit other = false
-
 -- a file is linked under its own name, unless it stands in a directory of units
 abbrev pub link_file : Place → (path : List ℕ) → Step
 link_file place path =
-    if is_unit_name (name_at path) then (if is_of_unit (slot_of path) then nothing else ruled (link_at path) (unit_slot place (name_at path)))
+    if is_unit_name (name_at path) then (if is_unit_slot (slot_of path) then nothing else ruled (link_at path) (unit_slot place (name_at path)))
     else refuse (BadType (Path path))
 
 -- by where the links from the path end
@@ -63,7 +56,7 @@ IsLinkToOne place files path entry = (file : List ℕ) × Contains files file ×
 
 -- A file stands in a directory of units, or a link under its name leads to it.
 abbrev pub IsLinked : Place → Entries → (file : List ℕ) → Type 0
-IsLinked place t file = (is_of_unit (slot_of file) ≡ true) ⊎ LeadsAs t (unit_slot place (name_at file)) file
+IsLinked place t file = (is_unit_slot (slot_of file) ≡ true) ⊎ LeadsAs t (unit_slot place (name_at file)) file
 
 -- Links to the files fill empty slots, all else stays, and each file is linked then.
 pub record LinksFiles (place : Place) (files : List (List ℕ)) (t u : Entries) : Type 0 where

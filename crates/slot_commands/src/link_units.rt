@@ -1,12 +1,12 @@
 //! link.
 ghost use Rattle.std.specs.Prelude.{◌≡◌, [], IfOk};
 ghost use Rattle.unit_paths.specs.Paths.{name_at};
-ghost use Rattle.unit_paths.specs.Slots.{slot_of, unit_slot};
+ghost use Rattle.unit_paths.specs.Slots.{unit_slot};
 ghost use Rattle.load_path.specs.RealNames.{named};
 ghost use Rattle.footprint.specs.Steps.{each_in_turn, ruled};
 ghost use Rattle.footprint.specs.Edits.{GoesOn};
 ghost use Rattle.footprint.specs.Rules.{link_at};
-ghost use Rattle.slot_commands.specs.LinkUnits.{is_of_unit, link_file, link_unit};
+ghost use Rattle.slot_commands.specs.LinkUnits.{link_file, link_unit};
 
 use crate::paths::Paths;
 use footprint::{Edit, Key, Keys, Notices, Operation, Outcome, Refusal, Subject, link_at};
@@ -35,15 +35,6 @@ fn unit_named(alloc: Global, path: &TreePath) -> Result<Option<UnitName>, AllocE
         Ok(name) => Ok(Some(name)),
         Err(NameError::Bad(_)) => Ok(None),
         Err(NameError::OutOfMemory) => Err(AllocError),
-    }
-}
-
-fn is_of_unit(path: &TreePath) -> bool
-    ensures { result ≡ is_of_unit (slot_of path.now) }
-{
-    match Slot::of(path) {
-        Some(Slot::Unit(_)) => true,
-        _ => false,
     }
 }
 
@@ -76,7 +67,7 @@ fn link_file<'a>(
     let Some(name) = unit_named(alloc, path)? else {
         return Ok(Err(Refusal::BadType(Subject::Path(path.copy()?))));
     };
-    if is_of_unit(path) {
+    if Slot::is_of_unit(path) {
         return Ok(Ok(edit));
     }
     link_named(alloc, place, path, &name, edit, keys)

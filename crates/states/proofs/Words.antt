@@ -12,7 +12,7 @@ use Rattle.unit_paths.specs.declared.place.Place.TheVariants as places
 use Rattle.unit_paths.specs.declared.place.Scope.{Scope}
 use Rattle.unit_paths.specs.declared.place.Scope.TheVariants.{Etc, Run}
 use Rattle.unit_paths.specs.Places.{scope_place}
-use Rattle.unit_paths.specs.Slots.{slot_of, unit_slot}
+use Rattle.unit_paths.specs.Slots.{slot_of, unit_slot, is_unit_slot}
 use Rattle.link_tree.specs.declared.entry.Entry.{Entry}
 use Rattle.link_tree.specs.Trees.{Entries}
 use Rattle.link_tree.proofs.Changed.{same_bytes}
@@ -29,7 +29,7 @@ use Rattle.footprint.specs.declared.key.Key.TheVariants.{Marked}
 use Rattle.footprint.specs.Keys.{part, selects, shown}
 use Rattle.footprint.specs.KeyLaws.{get-part}
 use Rattle.footprint.proofs.Those.{shown_there, shown_chosen}
-use Rattle.states.specs.IsEnabled.{by_place, has_other, asks_for_none, by_lists, is_unit_slot, by_file, by_links, found_word, state_word}
+use Rattle.states.specs.IsEnabled.{by_place, has_other, asks_for_none, by_lists, by_file, by_links, found_word, state_word}
 use Rattle.states.specs.Laws.{IsFound, IsLinkedIn, IsFree, LiesInside, Tells, WordsAreTold}
 use Rattle.states.specs.Laws.Tells.{Missing, Dangling, MaskedInRun, MaskedElsewhere, AnotherName, LinkedInEtc, LinkedInRun, OutsideFoundInRun, OutsideFoundElsewhere, NothingListed, UnitsListedAlone, LinksListed}
 use Rattle.states.proofs.Others.{is_other}

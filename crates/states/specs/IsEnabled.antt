@@ -1,5 +1,5 @@
 -- Whether a unit is enabled: systemctl(1), "is-enabled".
-use Rattle.std.specs.Prelude.{ℕ, Bool, not, ◌&&◌, ◌==◌, true, false, if◌then◌else◌, List, Option, Some, None, length}
+use Rattle.std.specs.Prelude.{ℕ, Bool, not, ◌&&◌, ◌==◌, if◌then◌else◌, List, Option, Some, None, length}
 use Rattle.std.specs.List.{list_any}
 use Rattle.std.specs.Str.{bytes_eq}
 use Rattle.std.specs.FinMap as map
@@ -7,10 +7,8 @@ use Rattle.unit_paths.specs.declared.place.Place.{Place}
 use Rattle.unit_paths.specs.declared.place.Place.TheVariants as places
 use Rattle.unit_paths.specs.declared.place.Scope.{Scope}
 use Rattle.unit_paths.specs.declared.place.Scope.TheVariants.{Etc, Run}
-use Rattle.unit_paths.specs.declared.slot.Slot.{Slot}
-use Rattle.unit_paths.specs.declared.slot.Slot.TheVariants as slots
 use Rattle.unit_paths.specs.Places.{scope_place}
-use Rattle.unit_paths.specs.Slots.{slot_of, unit_slot}
+use Rattle.unit_paths.specs.Slots.{slot_of, unit_slot, is_unit_slot}
 use Rattle.link_tree.specs.Trees.{Entries}
 use Rattle.load_path.specs.declared.finding.Found.{Found}
 use Rattle.load_path.specs.declared.finding.Found.TheVariants as founds
@@ -47,11 +45,6 @@ asks_for_none section = length section.text.alias == 0 && length section.text.wa
 abbrev pub by_lists : Option Section → StateWord
 by_lists None = Static
 by_lists (Some section) = if is_empty section then Static else if asks_for_none section then Indirect else Disabled
-
--- whether a file that stands here is in one of the four directories of units
-abbrev pub is_unit_slot : Option Slot → Bool
-is_unit_slot (Some (slots.Unit place)) = true
-is_unit_slot other = false
 
 -- by where its file lies
 abbrev pub by_file : (file : List ℕ) → Place → Option Section → StateWord

@@ -6,7 +6,7 @@ use Rattle.unit_paths.specs.declared.place.Place.TheVariants as places
 use Rattle.unit_paths.specs.declared.place.Scope.{Scope}
 use Rattle.unit_paths.specs.declared.place.Scope.TheVariants.{Etc, Run}
 use Rattle.unit_paths.specs.Places.{scope_place}
-use Rattle.unit_paths.specs.Slots.{unit_slot, slot_of}
+use Rattle.unit_paths.specs.Slots.{unit_slot, slot_of, is_unit_slot}
 use Rattle.link_tree.specs.declared.entry.Entry.{Entry}
 use Rattle.link_tree.specs.Links.{belongs}
 use Rattle.link_tree.specs.Trees.{Entries}
@@ -18,7 +18,7 @@ use Rattle.install_section.specs.ClosureLaws.{IsUnit}
 use Rattle.install_section.specs.Sections.{section_of, is_empty}
 use Rattle.footprint.specs.declared.answer.StateWord.{StateWord}
 use Rattle.footprint.specs.declared.answer.StateWord.TheVariants as words
-use Rattle.states.specs.IsEnabled.{asks_for_none, is_unit_slot, state_word}
+use Rattle.states.specs.IsEnabled.{asks_for_none, state_word}
 
 -- What a name is looked up as.
 abbrev pub IsFound : Entries → (name : List ℕ) → Found → Type 0

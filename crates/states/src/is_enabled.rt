@@ -1,10 +1,9 @@
 //! is-enabled.
 ghost use Rattle.std.specs.Prelude.{◌≡◌, IfOk};
 ghost use Rattle.std.specs.Option.{option_copied};
-ghost use Rattle.unit_paths.specs.Slots.{slot_of};
 ghost use Rattle.footprint.specs.Inquiry.{Asks};
 ghost use Rattle.states.specs.IsEnabled as states;
-ghost use Rattle.states.specs.IsEnabled.{by_place, has_other, asks_for_none, by_lists, is_unit_slot, by_file, by_links, state_word};
+ghost use Rattle.states.specs.IsEnabled.{by_place, has_other, asks_for_none, by_lists, by_file, by_links, state_word};
 
 use crate::answering::answered;
 use footprint::{Answer, Key, Keys, Operation, Outcome, StateWord};
@@ -89,21 +88,11 @@ fn by_lists(section: Option<&Section>) -> StateWord
     }
 }
 
-/// Whether a file lies in one of the four directories of units.
-fn is_in_unit_directory(file: &TreePath) -> bool
-    ensures { result ≡ is_unit_slot (slot_of file.now) }
-{
-    match Slot::of(file) {
-        Some(Slot::Unit(_)) => true,
-        _ => false,
-    }
-}
-
 /// By where its file lies.
 fn by_file(file: &TreePath, place: Place, section: Option<&Section>) -> StateWord
     ensures { result ≡ by_file file.now place (option_copied section.entry) }
 {
-    if is_in_unit_directory(file) {
+    if Slot::is_of_unit(file) {
         return by_lists(section);
     }
     by_place(place, StateWord::LinkedRuntime, StateWord::Linked)

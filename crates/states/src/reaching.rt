@@ -4,7 +4,6 @@ ghost use Rattle.std.specs.Option.{option_copied};
 ghost use Rattle.std.specs.FinMap as map;
 ghost use Rattle.unit_name.specs.Parts.{kind_of};
 ghost use Rattle.unit_name.specs.Name.{instance_of};
-ghost use Rattle.load_path.specs.RealNames.{put_in};
 ghost use Rattle.states.specs.Dependencies.{end_for, ends_for, next_names, dependencies};
 ghost use Rattle.states.specs.Reaching.{ends_at, with_name, with_names, AreReached, names_but};
 
@@ -12,10 +11,11 @@ use crate::ends::Ends;
 use footprint::Units;
 use indexmap::IndexSet;
 use link_tree::Tree;
+use load_path::put_in;
 use std::alloc::{AllocError, Global};
 use std::collections::BTreeSet;
 use std::marker::Model;
-use unit_name::{InstanceError, Kind, UnitName};
+use unit_name::{Kind, UnitName};
 
 /// Names, each once, in the order in which they were found.
 #[derive(Drop)]
@@ -142,25 +142,6 @@ fn end_for(
         Ok(None)
     } else {
         Ok(Some(end.copy()?))
-    }
-}
-
-/// The template with an instance put in, where the name isn't too long.
-fn put_in(
-    alloc: Global,
-    template: &UnitName,
-    instance: Option<&[u8]>,
-) -> Result<Option<UnitName>, AllocError>
-    requires { kind_of (instance_of template.now) ≢ Kind.Plain }
-    ensures { IfOk result (λ name. name ≡ put_in template.now (option_copied instance.entry)) }
-{
-    let Some(instance) = instance else {
-        return Ok(None);
-    };
-    match template.with_instance(alloc, instance) {
-        Ok(name) => Ok(Some(name)),
-        Err(InstanceError::Bad(_)) => Ok(None),
-        Err(InstanceError::OutOfMemory) => Err(AllocError),
     }
 }
 

@@ -1,5 +1,5 @@
 -- Slots: the paths at which commands place entries.
-use Rattle.std.specs.Prelude.{ℕ, ◌-◌, Bool, not, ◌&&◌, nat_eq, if◌then◌else◌, List, ◌∷◌, ◌++◌, length, take, Option, Some, None, is_some, codes}
+use Rattle.std.specs.Prelude.{ℕ, ◌-◌, Bool, true, false, not, ◌&&◌, nat_eq, if◌then◌else◌, List, ◌∷◌, ◌++◌, length, take, Option, Some, None, is_some, codes}
 use Rattle.std.specs.List.{ends_with}
 use Rattle.std.specs.Str.{bytes_eq}
 use Rattle.unit_name.specs.Name.{is_unit_name}
@@ -76,6 +76,11 @@ named_slot (Some slot) name = if is_name_for slot name then Some slot else None
 -- or FILE.preset in a directory of presets.
 unfoldable pub slot_of : List ℕ → Option Slot
 slot_of path = named_slot (slots_in (parent path)) (name_at path)
+
+-- whether that is the slot of a unit, in one of the four directories of units
+abbrev pub is_unit_slot : Option Slot → Bool
+is_unit_slot (Some (slots.Unit place)) = true
+is_unit_slot other = false
 
 abbrev pub is_slot : List ℕ → Bool
 is_slot path = is_some (slot_of path)

@@ -2,7 +2,7 @@
 ghost use Rattle.std.specs.Prelude.{◌≡◌, Some, IfOk};
 ghost use Rattle.unit_paths.specs.Paths.{parent, name_at};
 ghost use Rattle.unit_paths.specs.Places.{place_of};
-ghost use Rattle.unit_paths.specs.Slots.{unit_slot, dependency_ending, dependency_slot, slot_of_dependency, is_dependency_directory, dependency_directory_slots, dependency_slots_in, slots_in, is_preset_name, is_name_for, named_slot, slot_of};
+ghost use Rattle.unit_paths.specs.Slots.{unit_slot, dependency_ending, dependency_slot, slot_of_dependency, is_dependency_directory, dependency_directory_slots, dependency_slots_in, slots_in, is_preset_name, is_name_for, named_slot, slot_of, is_unit_slot};
 
 use crate::path::TreePath;
 use crate::place::{Place, place_of, preset_place_of};
@@ -51,6 +51,16 @@ impl Slot {
         ensures { result ≡ slot_of path.now }
     {
         slot_of(path.text())
+    }
+
+    /// Whether the path is the slot of a unit: a unit's name in one of the four directories of units.
+    pub fn is_of_unit(path: &TreePath) -> bool
+        ensures { result ≡ is_unit_slot (slot_of path.now) }
+    {
+        match Slot::of(path) {
+            Some(Slot::Unit(_)) => true,
+            _ => false,
+        }
     }
 }
 

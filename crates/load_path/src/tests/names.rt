@@ -1,7 +1,10 @@
 //! Aliases, and the files that are no unit's.
-use super::trees::{Row, assert_dangling, assert_unit, found, tree};
+use super::trees::{Row, assert_dangling, assert_unit, found, named, tree};
+use crate::put_in;
 use link_tree::Place;
+use std::alloc::AllocError;
 use std::test::Fail;
+use unit_name::ample;
 
 const UNIT: &[u8] = b"[Unit]\n";
 
@@ -156,5 +159,25 @@ fn a_name_that_would_be_too_long_is_none(rt: HostRuntime) -> Result<(), Fail> {
     let look = found(alloc, &tree, &name)?;
     assert_dangling(&rt, &look, b"/etc/systemd/system/u@.service");
     assert_eq!(rt; look.cells.as_slice().len(), 6);
+    Ok(())
+}
+
+#[test]
+fn templates_take_instances(rt: HostRuntime) -> Result<(), Fail> {
+    let alloc = rt.alloc();
+    let long = [b'x'; 246];
+    let put: [(Option<&[u8]>, Option<&[u8]>); 6] = [
+        (Some(b"tty1"), Some(b"t@tty1.service")),
+        (Some(b"a@b"), Some(b"t@a@b.service")),
+        (Some(b""), Some(b"t@.service")),
+        (Some(b"a/b"), None),
+        (Some(&long), None),
+        (None, None),
+    ];
+    let template = named(alloc, b"t@.service")?;
+    for (instance, text) in put {
+        let name = ample!(put_in(alloc, &template, instance), AllocError)?;
+        assert_eq!(rt; name.as_ref().map(|name| name.text()), text);
+    }
     Ok(())
 }

@@ -13,7 +13,7 @@ pub(crate) enum Row<'a> {
     Link(Place, &'a [u8], &'a [u8]),
 }
 
-fn named(alloc: Global, text: &[u8]) -> Result<UnitName, NameError> {
+pub(crate) fn named(alloc: Global, text: &[u8]) -> Result<UnitName, NameError> {
     ample!(UnitName::parse(alloc, text), NameError::OutOfMemory)
 }
 

@@ -59,7 +59,12 @@ fn slots_have_four_forms(rt: HostRuntime) -> Result<(), Fail> {
         (b"/ssh.service", None),
     ];
     for (text, slot) in paths {
-        assert_eq!(rt; Slot::of(&path(alloc, text)?), slot);
+        let path = path(alloc, text)?;
+        assert_eq!(rt; Slot::of(&path), slot);
+        assert_eq!(rt;
+            Slot::is_of_unit(&path),
+            matches!(slot, Some(Slot::Unit(_)))
+        );
     }
     assert_eq!(rt; Scope::Etc.place().directory(), "/etc/systemd/system");
     assert_eq!(rt; Scope::Run.place().directory(), "/run/systemd/system");
