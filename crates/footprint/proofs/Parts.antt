@@ -22,12 +22,12 @@ use Rattle.footprint.specs.declared.key.Key.TheVariants.{Cell, Marked, Presets, 
 use Rattle.link_tree.specs.Links.{is_of_scope, is_named, belongs}
 use Rattle.footprint.specs.Keys.{is_preset, is_dependency, is_cell, selects, any_selects, those, shows, shown, part, StandAtSlots}
 use Rattle.footprint.specs.KeyLaws.{get-part, get-those, part_is}
-use Rattle.footprint.proofs.Those.{Standing, shown_there, shown_chosen, some_is, taken, taken_those}
+use Rattle.footprint.proofs.Those.{Standing, shown_there, shown_chosen, some_is, gathered, gathered_those}
 use Rattle.footprint.specs.Seeing.{AllSelected, AllStand}
 
--- all that a key looks at are taken from a list of what stands in the tree
-pub taken_part : (key : Key) (t : Entries) (xs : List Standing) → IsPermutation xs (map.entries t) → taken (selects key) t map.empty xs ≡ part key t
-taken_part key t xs same = taken_those (selects key) t xs same ∙ sym (part_is key t)
+-- all that a key looks at are gathered from a list of what stands in the tree
+pub gathered_part : (key : Key) (t : Entries) (xs : List Standing) → IsPermutation xs (map.entries t) → gathered (selects key) map.empty xs ≡ part key t
+gathered_part key t xs same = gathered_those (selects key) t xs same ∙ sym (part_is key t)
 
 -- what a key that is no cell looks at stands at a slot
 pub selected_slot : (key : Key) (path : List ℕ) (entry : Entry) → is_cell key ≡ false → selects key path entry ≡ true → is_slot path ≡ true

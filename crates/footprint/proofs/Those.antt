@@ -24,11 +24,6 @@ abbrev pub gathered : Chosen → Entries → List Standing → Entries
 gathered chosen found [] = found
 gathered chosen found (x ∷ xs) = gathered chosen (if chosen x.0 x.1 then set_entry found x.0 (Some x.1) else found) xs
 
--- the same, where each is placed as it stands in a tree
-abbrev pub taken : Chosen → Entries → Entries → List Standing → Entries
-taken chosen t found [] = found
-taken chosen t found (x ∷ xs) = taken chosen t (if chosen x.0 x.1 then set_entry found x.0 (map.get t x.0) else found) xs
-
 -- each stands in a tree
 abbrev pub Stand : Entries → List Standing → Type 0
 Stand t xs = All (λ x. map.get t x.0 ≡ Some x.1) xs
@@ -117,16 +112,3 @@ module _ (chosen : Chosen) (t : Entries) where
       by_shown path None off = gathered_off xs map.empty path stand off ∙ map.get-empty path_cmp path ∙ sym off
       by_shown path (Some entry) on =
           gathered_on xs map.empty path entry stand on (inr (path_among xs path entry (Contains-permutation (map.entries t) xs (path, entry) (IsPermutation-sym xs (map.entries t) same) (all_listed t path entry (shown_there chosen path (map.get t path) entry on).0)))) ∙ sym on
-
-module _ (chosen : Chosen) (t : Entries) where
-  taken_is : (xs : List Standing) (found : Entries) → Stand t xs → taken chosen t found xs ≡ gathered chosen found xs
-  taken_is [] found stand = refl
-  taken_is (x ∷ xs) found stand =
-      ap (λ there. taken chosen t (if chosen x.0 x.1 then set_entry found x.0 there else found) xs) (All-head (λ x. map.get t x.0 ≡ Some x.1) x xs stand)
-      ∙ taken_is xs (if chosen x.0 x.1 then set_entry found x.0 (Some x.1) else found) (All-tail (λ x. map.get t x.0 ≡ Some x.1) x xs stand)
-
-  -- all are taken from a list of what stands in the tree
-  pub taken_those : (xs : List Standing) → IsPermutation xs (map.entries t) → taken chosen t map.empty xs ≡ those chosen t
-  taken_those xs same =
-      taken_is xs map.empty (All-permutation (λ x. map.get t x.0 ≡ Some x.1) (map.entries t) xs (IsPermutation-sym xs (map.entries t) same) (all_standing t))
-      ∙ gathered_those chosen t xs same

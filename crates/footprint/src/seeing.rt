@@ -45,9 +45,10 @@ impl Key {
         ensures { IfOk result (λ found. found ≡ part self.now tree.now) }
     {
         let mut found = Tree::empty(alloc)?;
-        for (path, entry) in tree.iter() {
-            if self.selects(path, entry) {
-                found.set_as_in(path, tree)?;
+        let mut entries = tree.iter();
+        while let Some(placed) = entries.next_placed() {
+            if self.selects(placed.path(), placed.entry()) {
+                found.share_in(placed)?;
             }
         }
         Ok(found)
@@ -68,9 +69,10 @@ impl Keys {
         ensures { IfOk result (λ found. found ≡ those (any_selects self.now) tree.now) }
     {
         let mut found = Tree::empty(alloc)?;
-        for (path, entry) in tree.iter() {
-            if self.any_selects(path, entry) {
-                found.set_as_in(path, tree)?;
+        let mut entries = tree.iter();
+        while let Some(placed) = entries.next_placed() {
+            if self.any_selects(placed.path(), placed.entry()) {
+                found.share_in(placed)?;
             }
         }
         Ok(found)

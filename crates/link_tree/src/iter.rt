@@ -1,5 +1,6 @@
 //! The entries of a tree, one after another.
 ghost use Rattle.std.specs.Prelude.{◌≡◌};
+ghost use Rattle.std.specs.Map.Iter.{TakesFirst, deref};
 ghost use Rattle.link_tree.specs.Pieces.{joined, NoneIsEmpty};
 
 use crate::entry::Entry;
@@ -44,6 +45,18 @@ impl<'a> Iter<'a> {
             pieces: pieces.iter(),
         }
     }
+
+    /// The next entry, with its path, for another tree to share.
+    pub fn next_placed(&mut self) -> Option<&'a PlacedEntry>
+        ensures { TakesFirst deref self.old result self.new }
+    {
+        if let Some(item) = self.items.next() {
+            return Some(item);
+        }
+        let piece = self.pieces.next()?;
+        self.items = piece.items().iter();
+        self.items.next()
+    }
 }
 
 impl<'a> Iterator for Iter<'a> {
@@ -58,12 +71,7 @@ impl<'a> Iterator for Iter<'a> {
     ghost remaining = { λ iter. at_most (length iter) };
 
     fn next(&mut self) -> Option<(&'a TreePath, &'a Entry)> {
-        if let Some(item) = self.items.next() {
-            return Some((item.path(), item.entry()));
-        }
-        let piece = self.pieces.next()?;
-        self.items = piece.items().iter();
-        let item = self.items.next()?;
-        Some((item.path(), item.entry()))
+        let placed = self.next_placed()?;
+        Some((placed.path(), placed.entry()))
     }
 }

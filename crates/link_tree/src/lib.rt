@@ -32,6 +32,7 @@ pub use laws::{
     changes_are_taken_back, changes_lead_from_tree_to_tree, inventories_are_read_back,
     inventories_are_their_entries, lengths_have_one_spelling,
 };
+pub use placed_entry::PlacedEntry;
 pub use tree::{Tree, push_decimal};
 pub use unit_paths::{
     Dependency, MAX_PATH, PathError, Place, Scope, Slot, Target, TargetError, TreePath, canonical,

@@ -7,9 +7,9 @@ use std::marker::Model;
 use std::sync::Arc;
 use unit_paths::TreePath;
 
-/// A path, and what stands there. Contracts see the pair.
+/// A path, and what stands there, so that another tree can share both (`Tree::share_in`). Contracts see the pair.
 #[derive(Debug, Drop)]
-pub(crate) struct PlacedEntry {
+pub struct PlacedEntry {
     parts: Arc<(TreePath, Entry)>,
 }
 
@@ -50,13 +50,15 @@ impl PlacedEntry {
         })
     }
 
-    pub(crate) fn path(&self) -> &TreePath
+    /// The path.
+    pub fn path(&self) -> &TreePath
         ensures { result.now ≡ self.now.0 }
     {
         &self.parts.0
     }
 
-    pub(crate) fn entry(&self) -> &Entry
+    /// What stands there.
+    pub fn entry(&self) -> &Entry
         ensures { result.now ≡ self.now.1 }
     {
         &self.parts.1

@@ -1,5 +1,5 @@
 //! Trees of entries.
-ghost use Rattle.std.specs.Prelude.{◌≡◌, ◌++◌, All, IfOk, OnOk, OnErr, IsTrue, true, false, is_some, ◌↔◌, ℕ, List, IsPermutation};
+ghost use Rattle.std.specs.Prelude.{◌≡◌, ◌++◌, All, IfOk, OnOk, OnErr, IsTrue, true, false, is_some, Some, ◌↔◌, ℕ, List, IsPermutation};
 ghost use Rattle.std.specs.List.{list_any};
 ghost use Rattle.std.specs.Map.Iter.{ShowsInOrder, deref_pair};
 ghost use Rattle.std.specs.Option.{option_copied};
@@ -137,6 +137,15 @@ impl Tree {
         let Some(placed) = other.pieces.placed(slot) else {
             return self.remove(slot);
         };
+        self.share_in(placed)
+    }
+
+    /// Puts an entry of another tree at its slot, in place of what stands there, and shares it with that tree.
+    pub fn share_in(&mut self, placed: &PlacedEntry) -> Result<(), AllocError>
+        requires { is_slot placed.now.0 ≡ true }
+        ensures ok { OnOk result (self.new ≡ set_entry self.old placed.now.0 (Some placed.now.1)) }
+        ensures err { OnErr result (self.new ≡ self.old) }
+    {
         let _path = placed.path().text();
         let _valid = placed.entry().bytes();
         self.shape();

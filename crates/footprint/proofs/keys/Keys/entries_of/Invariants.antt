@@ -1,8 +1,11 @@
-use Rattle.std.proofs.Common.{◌≡◌}
+use Rattle.std.proofs.Common.{◌≡◌, length}
 use Rattle.std.specs.FinMap as map
 use Rattle.footprint.specs.Keys.{any_selects}
-use Rattle.footprint.proofs.Those.{taken}
+use Rattle.footprint.proofs.Those.{gathered}
 use Rattle.footprint.proofs.keys.Keys.entries_of.Given as goal
 
-abbrev pub invariant-loop-path : goal.invariant-loop-path
-invariant-loop-path l = taken (any_selects l.self) l.tree l.found l.path-iterator ≡ taken (any_selects l.self) l.tree map.empty l.initial.path-iterator
+abbrev pub invariant-loop-placed : goal.invariant-loop-placed
+invariant-loop-placed l = gathered (any_selects l.self) l.found l.entries ≡ gathered (any_selects l.self) map.empty l.initial.entries
+
+abbrev pub decreases-loop-placed : goal.decreases-loop-placed
+decreases-loop-placed l = length l.entries

@@ -1,0 +1,5 @@
+pub mod NotNull
+pub mod Files
+pub mod Masked
+pub mod Linked
+pub mod Disabled
