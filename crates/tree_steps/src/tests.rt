@@ -1,0 +1,2 @@
+mod between;
+mod large;
