@@ -59,10 +59,13 @@ one_more c cs = by_sides c.before c.after (turns c c.before c.after refl refl)
   where
     fp : List Change
     fp = those FilesPut cs
+
     lp : List Change
     lp = those LinksPut cs
+
     lt : List Change
     lt = those LinksTaken cs
+
     ft : List Change
     ft = those FilesTaken cs
 
