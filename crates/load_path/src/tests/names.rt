@@ -2,9 +2,9 @@
 use super::trees::{Row, assert_dangling, assert_unit, found, named, tree};
 use crate::put_in;
 use link_tree::Place;
-use std::alloc::AllocError;
+use std::alloc::{AllocError, Global};
 use std::test::Fail;
-use unit_name::ample;
+use unit_name::{Kind, UnitName, ample};
 
 const UNIT: &[u8] = b"[Unit]\n";
 
@@ -162,6 +162,18 @@ fn a_name_that_would_be_too_long_is_none(rt: HostRuntime) -> Result<(), Fail> {
     Ok(())
 }
 
+/// The instance of a template; of another name none.
+fn instance_of(
+    alloc: Global,
+    template: &UnitName,
+    instance: Option<&[u8]>,
+) -> Result<Option<UnitName>, AllocError> {
+    match template.kind() {
+        Kind::Template => put_in(alloc, template, instance),
+        Kind::Plain | Kind::Instance => Ok(None),
+    }
+}
+
 #[test]
 fn templates_take_instances(rt: HostRuntime) -> Result<(), Fail> {
     let alloc = rt.alloc();
@@ -176,7 +188,7 @@ fn templates_take_instances(rt: HostRuntime) -> Result<(), Fail> {
     ];
     let template = named(alloc, b"t@.service")?;
     for (instance, text) in put {
-        let name = ample!(put_in(alloc, &template, instance), AllocError)?;
+        let name = ample!(instance_of(alloc, &template, instance), AllocError)?;
         assert_eq!(rt; name.as_ref().map(|name| name.text()), text);
     }
     Ok(())
