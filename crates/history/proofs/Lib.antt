@@ -1,8 +1,9 @@
 pub mod Padded
 pub mod Replayed
 pub mod Marks
-pub mod Remain
 pub mod Kept
 pub mod AtOnce
+pub mod Agreed
+pub mod Remain
 pub mod Blockers
 pub mod Blocking

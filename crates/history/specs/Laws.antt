@@ -1,12 +1,36 @@
 -- What holds of all histories, each law the contract of a public function.
-use Rattle.std.specs.Prelude.{◌≡◌, ℕ, Bool, true, List, [], Some, None, is_some}
+use Rattle.std.specs.Prelude.{◌≡◌, ◌↔◌, ◌⊎◌, ℕ, Bool, true, List, [], ◌∷◌, ◌++◌, Some, None, is_some}
 use Rattle.link_tree.specs.Trees.{Entries, AreFrom, after_changes, inverse_of}
 use Rattle.footprint.specs.Inquiry.{Inquiry}
 use Rattle.footprint.specs.Operations.{Effect}
+use Rattle.footprint.specs.Readings.{HoldsIn}
 use Rattle.history.specs.declared.row.Row.{Row}
-use Rattle.history.specs.Rows.{Call, row_at, undone, AreMarked, survivor, blocker, replay, AnswersAlike, run}
+use Rattle.history.specs.Plans.{Planned, planned}
+use Rattle.history.specs.Rows.{Call, answered, row_at, undone, AreMarked, survivor, blocker, replay, calls_of, AnswersAlike, rows_after, run}
+
+-- What is asked of a history: a call, which is an operation or an undo; or that an operator's plan be committed, which was made of an
+-- operation on some tree, this history's at an earlier moment or any other.
+pub data Asked (O : Type 0) : Type 0 where
+  ACall : Call O → Asked O
+  ACommit : (operator : List ℕ) → O → (made_on : Entries) → Asked O
 
 module _ {O : Type 0} (asks : O → Bool) (meaning : O → Inquiry Effect) where
+  -- The rows after a plan was to be committed: with the plan as it is, run on whatever tree it was, where the tree agrees with all that
+  -- it looked at; else as before.
+  abbrev pub CommitLeaves : Entries → List (Row O) → List ℕ → Planned O → List (Row O) → Type 0
+  CommitLeaves first rows operator plan new =
+      (HoldsIn (replay asks meaning first rows) plan.outcome.reading × (new ≡ rows ++ answered operator plan.operation plan.outcome ∷ []))
+      ⊎ ((¬ HoldsIn (replay asks meaning first rows) plan.outcome.reading) × (new ≡ rows))
+
+  abbrev pub Leaves : Entries → List (Row O) → Asked O → List (Row O) → Type 0
+  Leaves first rows (ACall call) new = new ≡ rows_after asks meaning first rows call
+  Leaves first rows (ACommit operator c made_on) new = CommitLeaves first rows operator (planned meaning c made_on) new
+
+  -- the rows after a list of calls and commits
+  abbrev pub LeaveAll : Entries → List (Row O) → List (Asked O) → List (Row O) → Type 0
+  LeaveAll first rows [] new = new ≡ rows
+  LeaveAll first rows (asked ∷ later) new = (next : List (Row O)) × Leaves first rows asked next × LeaveAll first next later new
+
   -- A survivor that no row blocks can be removed: taking its changes back from the replay gives the replay without it, and
   -- every other survivor answers there as its row says.
   abbrev pub IsRemovable : Entries → List (Row O) → Type 0
@@ -15,13 +39,20 @@ module _ {O : Type 0} (asks : O → Bool) (meaning : O → Inquiry Effect) where
       × (replay asks meaning first (undone rows n by) ≡ after_changes (inverse_of row.changes) (replay asks meaning first rows))
       × AnswersAlike asks meaning first (undone rows n by)
 
-  -- What the machine's rows say is what the replay of the survivors does, the rows that are undone are those of which there
-  -- is an accepted undo, and an unblocked survivor can be removed.
+  -- The rows are those of the calls that they tell, whichever of them were made as plans; what they say is what the replay of the
+  -- survivors does; the rows that are undone are those of which there is an accepted undo; and an unblocked survivor can be removed.
   pub record Remain (first : Entries) (rows : List (Row O)) : Type 0 where
+    pub legal : rows ≡ run asks meaning first [] (calls_of rows)
     pub alike : AnswersAlike asks meaning first rows
     pub marks : AreMarked rows
     pub removal : IsRemovable first rows
 
-  -- That holds of the rows of all calls on any first tree.
+  -- That holds of the rows after all calls and commits on any first tree.
   abbrev pub SurvivorsAloneRemain : Type 0
-  SurvivorsAloneRemain = (first : Entries) (calls : List (Call O)) → Remain first (run asks meaning first [] calls)
+  SurvivorsAloneRemain = (first : Entries) (asked : List (Asked O)) (rows : List (Row O)) → LeaveAll first [] asked rows → Remain first rows
+
+module _ {O : Type 0} (meaning : O → Inquiry Effect) where
+  -- A tree agrees with all that a plan looked at exactly where the plan is the one that would be made on that tree: with the same answer,
+  -- the same changes and the same reading.
+  abbrev pub AgreedPlansAreNew : Type 0
+  AgreedPlansAreNew = (c : O) (made now : Entries) → HoldsIn now (planned meaning c made).outcome.reading ↔ (planned meaning c made ≡ planned meaning c now)

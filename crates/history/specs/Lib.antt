@@ -2,5 +2,6 @@ pub mod Operators
 pub mod Rows
 pub mod Blocks
 pub mod Logs
+pub mod Plans
 pub mod Laws
 pub mod Samples

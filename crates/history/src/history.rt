@@ -1,19 +1,22 @@
 //! The calls so far, and the tree that they leave.
-ghost use Rattle.std.specs.Prelude.{◌≡◌, ◌≤◌, ◌<◌, ◌+◌, ◌↔◌, [], None, Some, length, true, All, IfOk, IfErr, OnOk, OnErr, vec_len, vec_capacity};
+ghost use Rattle.std.specs.Prelude.{◌≡◌, ◌≤◌, ◌<◌, ◌+◌, ◌↔◌, [], None, Some, Ok, length, false, true, All, IfOk, IfErr, OnOk, OnErr, vec_len, vec_capacity};
 ghost use Rattle.std.specs.List.{list_any};
 ghost use Rattle.unit_paths.specs.Slots.{is_slot};
-ghost use Rattle.link_tree.specs.Trees.{after_changes};
+ghost use Rattle.link_tree.specs.Trees.{AreFrom, after_changes};
+ghost use Rattle.footprint.specs.declared.key.Key.{Key};
 ghost use Rattle.footprint.specs.Keys.{touches};
-ghost use Rattle.footprint.specs.Operations.{outcome_of};
 ghost use Rattle.history.specs.Logs.{Log};
+ghost use Rattle.history.specs.Plans.{planned, AgreesWith, IsCommit};
 ghost use Rattle.history.specs.Blocks.{IsFirstToBlock, TellsRefusal};
 ghost use Rattle.history.specs.Rows.{meets, first_met, blocker, undo_refusal, rows_undone, rows_after, survivors, after_commands, replay, run, calls_of, AnswersAlike, AreMarked, IdleStays, GivesBack};
 ghost use Rattle.history.specs.declared.row.Request.TheVariants.{Do, Undo};
 ghost use Rattle.history.specs.declared.history.CallError.TheVariants.{OutOfMemory};
+ghost use Rattle.history.specs.declared.plan.Commit.TheVariants.{Stale};
 
 use crate::operator::Operator;
+use crate::plan::{Commit, Plan, Uncommitted};
 use crate::row::{Row, RowReply, UndoRefusal};
-use footprint::{Key, Observation, Operation, Outcome, touches};
+use footprint::{Key, Observation, Operation, Outcome, agrees, touches};
 use link_tree::{Change, Tree};
 use std::alloc::{AllocError, AllocFailed, Global};
 use std::marker::Model;
@@ -127,6 +130,7 @@ impl<O: Operation> History<O> {
         ensures alike { AnswersAlike O.asks O.meaning self.now.first self.now.rows }
         ensures marks { AreMarked self.now.rows }
         ensures few { length self.now.rows ≤ self.now.limit }
+        ensures countable { length self.now.rows ≤ 1000000 }
     {
         &self.rows
     }
@@ -151,18 +155,99 @@ impl<O: Operation> History<O> {
         ensures full { IfErr result (λ unrun. (unrun.why ≡ CallError.Full) ↔ (length self.old.rows ≡ self.old.limit)) }
         ensures room { OnOk result (length self.old.rows < self.old.limit) }
     {
-        if self.rows.len() == self.limit {
+        if self.is_full() {
             return Err(Unrun {
                 operation,
                 why: CallError::Full,
             });
         }
-        match prepare(alloc, &mut self.rows, &mut self.tree, &operation) {
-            Err(AllocError) => Err(Unrun {
-                operation,
+        let plan = Plan::make(alloc, operation, self.tree())?;
+        match self.add(operator, plan) {
+            Ok(n) => Ok(n),
+            Err(plan) => Err(Unrun {
+                operation: plan.into_op(),
                 why: CallError::OutOfMemory,
             }),
-            Ok(outcome) => {
+        }
+    }
+
+    /// Commits a plan: where the tree agrees with all that the plan looked at, its row is added, as a call of its operation would add it, and
+    /// its number is given. Else the plan is stale, and the first key at which the tree differs is named. A plan that makes no row comes back.
+    ///
+    /// The error is `Full` where the tree agrees and the history has as many rows as it may have; else `OutOfMemory`.
+    pub fn commit(
+        &mut self,
+        operator: Operator,
+        plan: Plan<O>,
+    ) -> Result<Commit<Plan<O>>, Uncommitted<Plan<O>>>
+        ensures first { self.new.first ≡ self.old.first }
+        ensures limit { self.new.limit ≡ self.old.limit }
+        ensures done { IfOk result (λ done. IsCommit O.asks O.meaning self.old operator plan self.new done) }
+        ensures err { OnErr result (self.new ≡ self.old) }
+        ensures handed_back { IfErr result (λ left. left.plan ≡ plan) }
+        ensures full { IfErr result (λ left. (left.why ≡ CallError.Full) ↔ (AgreesWith O.asks O.meaning self.old plan × (length self.old.rows ≡ self.old.limit))) }
+    {
+        match agrees(self.tree(), plan.reading()) {
+            Ok(()) => self.commit_agreed(operator, plan),
+            Err(key) => {
+                let at = key.copy();
+                stale(plan, at)
+            }
+        }
+    }
+
+    /// Adds the row of a plan that the tree agrees with.
+    fn commit_agreed(
+        &mut self,
+        operator: Operator,
+        plan: Plan<O>,
+    ) -> Result<Commit<Plan<O>>, Uncommitted<Plan<O>>>
+        requires agrees { AgreesWith O.asks O.meaning self.old plan }
+        ensures first { self.new.first ≡ self.old.first }
+        ensures limit { self.new.limit ≡ self.old.limit }
+        ensures done { IfOk result (λ done. IsCommit O.asks O.meaning self.old operator plan self.new done) }
+        ensures err { OnErr result (self.new ≡ self.old) }
+        ensures handed_back { IfErr result (λ left. left.plan ≡ plan) }
+        ensures full { IfErr result (λ left. (left.why ≡ CallError.Full) ↔ (length self.old.rows ≡ self.old.limit)) }
+    {
+        if self.is_full() {
+            let why = CallError::Full;
+            return Err(Uncommitted { plan, why });
+        }
+        match self.add(operator, plan) {
+            Ok(n) => Ok(Commit::Committed(n)),
+            Err(plan) => Err(Uncommitted {
+                plan,
+                why: CallError::OutOfMemory,
+            }),
+        }
+    }
+
+    /// Whether there are as many rows as there may be.
+    fn is_full(&self) -> bool
+        ensures full { result ≡ true → length self.now.rows ≡ self.now.limit }
+        ensures room { result ≡ false → length self.now.rows < self.now.limit }
+    {
+        self.rows.len() == self.limit
+    }
+
+    /// Adds the row of a plan that the tree agrees with, and makes its changes. A plan for which memory is wanting comes back.
+    fn add(&mut self, operator: Operator, plan: Plan<O>) -> Result<u32, Plan<O>>
+        requires room { length self.old.rows < self.old.limit }
+        requires agrees { AgreesWith O.asks O.meaning self.old plan }
+        ensures first { self.new.first ≡ self.old.first }
+        ensures limit { self.new.limit ≡ self.old.limit }
+        ensures now { plan ≡ planned O.meaning plan.operation (replay O.asks O.meaning self.old.first self.old.rows) }
+        ensures rows { OnOk result (self.new.rows ≡ rows_after O.asks O.meaning self.old.first self.old.rows (operator, Do plan.operation)) }
+        ensures number { IfOk result (λ n. n ≡ length self.new.rows) }
+        ensures idle { OnOk result (IdleStays O.asks O.meaning self.old.first self.old.rows self.new.rows) }
+        ensures err { OnErr result (self.new ≡ self.old) }
+        ensures handed_back { IfErr result (λ back. back ≡ plan) }
+    {
+        match make_room(&mut self.rows, &mut self.tree, &plan.outcome) {
+            Err(AllocError) => Err(plan),
+            Ok(()) => {
+                let Plan { operation, outcome } = plan;
                 self.rows
                     .push_reserved(Row::answered(operator, operation, outcome));
                 Ok(self.rows.len() as u32)
@@ -183,7 +268,7 @@ impl<O: Operation> History<O> {
         ensures full { IfErr result (λ why. (why ≡ CallError.Full) ↔ (length self.old.rows ≡ self.old.limit)) }
         ensures room { OnOk result (length self.old.rows < self.old.limit) }
     {
-        if self.rows.len() == self.limit {
+        if self.is_full() {
             return Err(CallError::Full);
         }
         Ok(self.add_undo(alloc, operator, n)?)
@@ -245,24 +330,37 @@ impl<O: Operation> History<O> {
     }
 }
 
-/// Makes room for a row, and changes the tree as the operation comes to on it. The row isn't there yet.
-fn prepare<O: Operation>(
-    alloc: Global,
+/// A plan that is stale at a key, unless memory was wanting to copy the key.
+fn stale<P: Drop>(plan: P, at: Result<Key, AllocError>) -> Result<Commit<P>, Uncommitted<P>>
+    ensures stale { IfOk result (λ done. (key : Key) × (at ≡ Ok key) × (done ≡ Stale plan key)) }
+    ensures handed_back { IfErr result (λ left. left.plan ≡ plan) }
+    ensures why { IfErr result (λ left. left.why ≡ OutOfMemory) }
+{
+    match at {
+        Ok(at) => Ok(Commit::Stale { plan, at }),
+        Err(AllocError) => Err(Uncommitted {
+            plan,
+            why: CallError::OutOfMemory,
+        }),
+    }
+}
+
+/// Makes room for a row, and makes its changes of the tree. The row isn't there yet.
+fn make_room<O: Operation>(
     rows: &mut Vec<Row<O>>,
     tree: &mut Tree,
-    operation: &O,
-) -> Result<Outcome, AllocError>
+    outcome: &Outcome,
+) -> Result<(), AllocError>
+    requires slots { All (λ change. is_slot change.path ≡ true) outcome.now.changes }
+    requires from { AreFrom tree.old outcome.now.changes }
     ensures items { rows.new.items ≡ rows.old.items }
     ensures room { OnOk result (vec_len rows.new < vec_capacity rows.new) }
-    ensures outcome { IfOk result (λ outcome. outcome ≡ outcome_of O.meaning operation.now tree.old) }
-    ensures after { OnOk result (tree.new ≡ after_changes (outcome_of O.meaning operation.now tree.old).changes tree.old) }
-    ensures slots { IfOk result (λ outcome. All (λ change. is_slot change.path ≡ true) outcome.changes) }
+    ensures after { OnOk result (tree.new ≡ after_changes outcome.now.changes tree.old) }
     ensures err { OnErr result (tree.new ≡ tree.old) }
 {
     rows.reserve(1)?;
-    let outcome = operation.run(alloc, tree)?;
     tree.make_changes(outcome.changes.as_slice())?;
-    Ok(outcome)
+    Ok(())
 }
 
 /// Why an undo of row n is refused, if it is.

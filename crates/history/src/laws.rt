@@ -1,10 +1,15 @@
-//! What holds of all histories: the function does nothing, and its contract is the law.
-ghost use Rattle.history.specs.Laws.{SurvivorsAloneRemain};
+//! What holds of all histories: the functions do nothing, and their contracts are the laws.
+ghost use Rattle.history.specs.Laws.{SurvivorsAloneRemain, AgreedPlansAreNew};
 
 use footprint::Operation;
 
-/// Whatever calls are made on whatever tree, the rows tell what the surviving commands alone would do, and a survivor that
+/// Whatever calls and commits are made on whatever tree, the rows tell what the surviving commands alone would do, and a survivor that
 /// no row blocks can be removed.
 pub fn survivors_alone_remain<O: Operation>()
     ensures { SurvivorsAloneRemain O.asks O.meaning }
+{}
+
+/// A tree agrees with all that a plan looked at exactly where a plan of the same operation, made on that tree, is the same plan.
+pub fn agreed_plans_are_new<O: Operation>()
+    ensures { AgreedPlansAreNew O.meaning }
 {}

@@ -1,3 +1,4 @@
+mod committing;
 mod kinds;
 mod replies;
 mod steps;

@@ -9,16 +9,16 @@ use std::process::Abort;
 use std::test::Fail;
 use unit_name::ample;
 
-const A: &[u8] = b"/etc/systemd/system/a.service";
+pub(crate) const A: &[u8] = b"/etc/systemd/system/a.service";
 
-const B: &[u8] = b"/etc/systemd/system/b.service";
+pub(crate) const B: &[u8] = b"/etc/systemd/system/b.service";
 
 fn path(alloc: Global, text: &[u8]) -> Result<TreePath, PathError> {
     ample!(TreePath::parse(alloc, text), PathError::OutOfMemory)
 }
 
 /// The step of a word: `+a` puts a file at the slot of a, `-a` takes it away, `=a` looks there, and `?a` only asks.
-fn step(alloc: Global, word: &[u8]) -> Result<Step, PathError> {
+pub(crate) fn step(alloc: Global, word: &[u8]) -> Result<Step, PathError> {
     let slot = if word.last() == Some(&b'a') { A } else { B };
     Ok(Step {
         slot: path(alloc, slot)?,
@@ -66,7 +66,7 @@ fn undo(alloc: Global, history: &mut History<Step>, n: u32) -> Result<(), Fail> 
 }
 
 /// Makes the call of a word, of which `u1` undoes row 1.
-fn make(alloc: Global, history: &mut History<Step>, word: &[u8]) -> Result<(), Fail> {
+pub(crate) fn make(alloc: Global, history: &mut History<Step>, word: &[u8]) -> Result<(), Fail> {
     match word {
         [b'u', digit] => undo(alloc, history, u32::from(digit.wrapping_sub(b'0'))),
         _ => take(alloc, history, word),
@@ -100,7 +100,7 @@ fn named(reply: &RowReply) -> u8 {
 }
 
 /// Two bytes for each reply.
-fn text_of(alloc: Global, rows: &[Row<Step>]) -> Result<Vec<u8>, AllocError> {
+pub(crate) fn text_of(alloc: Global, rows: &[Row<Step>]) -> Result<Vec<u8>, AllocError> {
     let mut out = Vec::new(alloc);
     for row in rows {
         out.push(letter(&row.reply))?;
@@ -110,12 +110,12 @@ fn text_of(alloc: Global, rows: &[Row<Step>]) -> Result<Vec<u8>, AllocError> {
 }
 
 /// A history of an empty tree.
-fn begun(alloc: Global) -> Result<History<Step>, AllocError> {
+pub(crate) fn begun(alloc: Global) -> Result<History<Step>, AllocError> {
     History::new(alloc, Tree::empty(alloc)?)
 }
 
 /// As `begun`, with room for one row.
-fn begun_with_room(alloc: Global) -> Result<History<Step>, AllocError> {
+pub(crate) fn begun_with_room(alloc: Global) -> Result<History<Step>, AllocError> {
     History::with_limit(alloc, Tree::empty(alloc)?, 1)
 }
 

@@ -1,0 +1,36 @@
+//! What happens to a history that is shared, and what comes of it.
+
+use footprint::Key;
+use history::Operator;
+
+/// Something that happens to a shared history. There are sixteen slots, from 0 to 15, each of which keeps a snapshot and a plan, or none.
+#[derive(Debug, Drop)]
+pub enum Event<O> {
+    /// The slot keeps a snapshot of the history as it is. A plan in the slot stays.
+    Snap(u8),
+    /// The slot keeps a plan of the operation, made on its snapshot, in place of the plan that it had. Where it has no snapshot, nothing happens.
+    Plan(u8, O),
+    /// The operator commits the slot's plan, which is taken out of the slot, whatever comes of it.
+    Commit(u8, Operator),
+    /// The operator calls an operation on the tree as it is.
+    Call(Operator, O),
+    /// The operator undoes the row of this number, unless that is refused.
+    Undo(Operator, u32),
+}
+
+/// What came of an event.
+#[derive(Debug, Drop)]
+pub enum EventReply {
+    /// A snapshot was taken.
+    Taken,
+    /// A plan was made.
+    Planned,
+    /// The slot had no snapshot to plan on, or no plan to commit.
+    Nothing,
+    /// The row of this number was made. What was answered stands there; it may be a refusal.
+    Committed(u32),
+    /// The tree differs from what the plan looked at, at this key first. No row was made.
+    Stale(Key),
+    /// There are as many rows as there may be. No row was made.
+    Full,
+}

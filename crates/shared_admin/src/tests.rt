@@ -1,0 +1,5 @@
+mod events;
+mod full;
+mod large;
+mod steps;
+mod texts;
