@@ -1,14 +1,12 @@
 -- The first row that is met is the first that blocks.
-use Rattle.std.proofs.Common.{◌≡◌, ◌≢◌, ◌+◌, ◌<◌, ◌≤◌, ◌-◌, ◌&&◌, ℕ, zero, suc, Bool, true, false, cond, List, [], ◌∷◌, ◌++◌, Option, Some, None, is_some, slice_get, drop, length-append, length, refl, sym, ap, subst, ◌∙◌, arith, Any, ◌⊎◌, inl, inr}
+use Rattle.std.proofs.Common.{◌≡◌, ◌+◌, ◌<◌, ◌≤◌, ◌-◌, ◌&&◌, ℕ, zero, suc, Bool, true, false, List, [], ◌∷◌, ◌++◌, Option, Some, None, is_some, slice_get, drop, length-append, length, refl, sym, ap, subst, ◌∙◌, arith, Any, inl, inr}
 use Rattle.std.specs.List.{list_any}
-use Rattle.std.proofs.lemmas.Bool.{cases_Bool, and_parts, true≢false, false≢true}
-use Rattle.std.proofs.lemmas.Option.{slice_get_within}
+use Rattle.std.proofs.lemmas.Bool.{cases_Bool, and_parts, true≢false}
 use Rattle.std.proofs.lemmas.List.Folds.{Any-from_list_any, list_any-from_Any}
 use Rattle.link_tree.specs.declared.change.Change.{Change}
 use Rattle.footprint.specs.declared.reading.Observation.{Observation}
 use Rattle.footprint.specs.Keys.{touches}
 use Rattle.history.specs.declared.row.UndoRefusal.{UndoRefusal}
-use Rattle.history.specs.declared.row.UndoRefusal.TheVariants.{NoSuchRow, NotACommand, AlreadyUndone, Blocked}
 use Rattle.history.specs.declared.row.Row.{Row}
 use Rattle.history.specs.Rows.{row_at, meets, or_blocked, row_refusal, unless_undone, accepted, survivor, first_met, blocker_at, blocker, refusal_at, undo_refusal, row_of_undo, undone, rows_undone}
 use Rattle.history.specs.Blocks.{LookedAt, refusal_told, TellsRefusal, Survives, Blocks, IsFirstToBlock, IsRefusedBy}

@@ -20,5 +20,5 @@ pub use laws::{a_script_is_its_lines, any_text_is_a_word, numbers_are_digits};
 pub use reason::{Reason, ScriptFault};
 pub use reply::{push_changes, push_refusal, push_rows};
 pub use run_fault::{InputFault, RunFault};
-pub use running::run;
+pub use running::{history_of, run};
 pub use script::{MAX_LINE, MAX_LINES, read_script};

@@ -46,8 +46,12 @@ fn make(history: &mut History<Action>, alloc: Global, call: Call) -> Result<(), 
     }
 }
 
-/// The history of the calls, made one after another on the tree.
-fn history_of(alloc: Global, tree: Tree, calls: Vec<Call>) -> Result<History<Action>, AllocError>
+/// The history of a script's calls, at most 1,000,000, made one after another on a tree. Fails only where memory runs out.
+pub fn history_of(
+    alloc: Global,
+    tree: Tree,
+    calls: Vec<Call>,
+) -> Result<History<Action>, AllocError>
     requires few { length calls.items ≤ MAX_ROWS }
     ensures first { IfOk result (λ history. history.first ≡ tree) }
     ensures limit { IfOk result (λ history. history.limit ≡ MAX_ROWS) }

@@ -1,7 +1,6 @@
-use Rattle.std.proofs.Common.{◌≡◌, ◌<◌, [], ◌∷◌, ◌++◌, List, length, ap, subst, sym, ◌∙◌}
+use Rattle.std.proofs.Common.{◌<◌, [], ◌∷◌, ◌++◌, List, length, ap, subst, sym, ◌∙◌}
 use Rattle.history.specs.declared.row.Row.{Row}
 use Rattle.history.specs.Logs.{Log}
-use Rattle.history.specs.Rows.{answered}
 use Rattle.history.proofs.Agreed.{plan_from, plan_kept, plan_of_now, plan_rows, plan_stays}
 use Rattle.history.proofs.history.History.add.Goals as goal
 

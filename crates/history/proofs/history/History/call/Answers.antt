@@ -1,5 +1,4 @@
-use Rattle.std.proofs.Common.{◌≡◌, ap, subst, ◌∙◌}
-use Rattle.link_tree.specs.Trees.{Entries}
+use Rattle.std.proofs.Common.{ap, ◌∙◌}
 use Rattle.history.specs.Plans.{planned}
 use Rattle.history.specs.Rows.{replay}
 use Rattle.history.proofs.Agreed.{new_plan_agrees}

@@ -1,0 +1,5 @@
+pub mod Disks
+pub mod Steps
+pub mod Applied
+pub mod Captures
+pub mod Capturing

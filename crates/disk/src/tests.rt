@@ -1,0 +1,6 @@
+mod applying;
+mod capturing;
+mod fake;
+mod large;
+mod root;
+mod values;
