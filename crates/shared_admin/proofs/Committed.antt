@@ -1,18 +1,18 @@
 -- A plan is committed where the tree agrees with it.
-use Rattle.std.proofs.Common.{◌≡◌, ◌==◌, ◌↔◌, ℕ, Bool, true, false, MatchBool, List, Option, Some, None, length, set, slice_get, refl, sym, ap, subst, ◌∙◌, ◌⊎◌, inl, inr}
+use Rattle.std.proofs.Common.{◌≡◌, ◌==◌, ℕ, Bool, true, false, MatchBool, List, Option, Some, None, length, set, sym, ap, subst, ◌∙◌, inl, inr}
 use Rattle.link_tree.specs.Trees.{Entries}
 use Rattle.footprint.specs.declared.key.Key.{Key}
 use Rattle.footprint.specs.Inquiry.{Inquiry}
 use Rattle.footprint.specs.Operations.{Effect}
 use Rattle.history.specs.declared.row.Request.TheVariants.{Do}
 use Rattle.history.specs.Logs.{Log}
-use Rattle.history.specs.Plans.{Planned, planned, AgreesWith, IsStaleAt}
+use Rattle.history.specs.Plans.{Planned, planned, AgreesWith}
 use Rattle.history.specs.Rows.{Call, replay, rows_after}
 use Rattle.history.proofs.Agreed.{other_off, agrees_where_same}
 use Rattle.shared_admin.specs.declared.driving.Kept.{Kept}
 use Rattle.shared_admin.specs.declared.event.EventReply.{EventReply}
 use Rattle.shared_admin.specs.declared.event.EventReply.TheVariants as replies
-use Rattle.shared_admin.specs.Events.{Slots, Calls, Commits}
+use Rattle.shared_admin.specs.Events.{Commits}
 use Rattle.shared_admin.specs.Laws.{CommitsAsCall, PlansCommitAsCalls}
 
 module _ {O : Type 0} (asks : O → Bool) (meaning : O → Inquiry Effect) where

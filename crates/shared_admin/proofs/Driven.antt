@@ -1,5 +1,5 @@
 -- Events one after another: what is still to happen leaves what all of them leave, and the rows are the machine's.
-use Rattle.std.proofs.Common.{◌≡◌, ◌==◌, ℕ, Bool, true, false, MatchBool, List, [], ◌∷◌, ◌++◌, All, length, refl, sym, ap, subst, ◌∙◌, inl, inr, Option, Some, None}
+use Rattle.std.proofs.Common.{◌≡◌, ◌==◌, ℕ, Bool, true, false, MatchBool, List, [], ◌∷◌, ◌++◌, All, length, refl, sym, ap, subst, inl, inr, Option, Some, None}
 use Rattle.std.proofs.lemmas.List.{append-nil, append_assoc}
 use Rattle.std.proofs.lemmas.List.Elements.{All-head, All-tail}
 use Rattle.link_tree.specs.Trees.{Entries}
@@ -15,7 +15,7 @@ use Rattle.shared_admin.specs.declared.event.Event.{Event}
 use Rattle.shared_admin.specs.declared.event.Event.TheVariants as events
 use Rattle.shared_admin.specs.declared.event.EventReply.{EventReply}
 use Rattle.shared_admin.specs.declared.event.EventReply.TheVariants as replies
-use Rattle.shared_admin.specs.Events.{Slots, empty_slots, HasSlot, Calls, Commits, Happens, Plays}
+use Rattle.shared_admin.specs.Events.{Slots, empty_slots, HasSlot, Commits, Happens, Plays}
 
 module _ {O : Type 0} (asks : O → Bool) (meaning : O → Inquiry Effect) where
   -- the events that are done, and those that are left

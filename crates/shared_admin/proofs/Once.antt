@@ -1,5 +1,5 @@
 -- An event comes to one outcome.
-use Rattle.std.proofs.Common.{◌≡◌, ◌==◌, ℕ, Bool, true, false, MatchBool, List, [], ◌∷◌, ◌++◌, All, Option, Some, None, length, set, slice_get, refl, sym, ap, subst, ◌∙◌, inl, inr}
+use Rattle.std.proofs.Common.{◌≡◌, ◌==◌, ℕ, Bool, true, false, MatchBool, List, [], ◌∷◌, ◌++◌, Option, Some, None, length, set, slice_get, refl, sym, ap, subst, ◌∙◌, inl, inr}
 use Rattle.std.proofs.lemmas.List.Elements.{All-head, All-tail}
 use Rattle.link_tree.specs.Trees.{Entries}
 use Rattle.footprint.specs.declared.key.Key.{Key}
@@ -9,7 +9,7 @@ use Rattle.footprint.specs.Operations.{Effect}
 use Rattle.footprint.specs.Readings.{Holds, HoldsIn, IsFirstOther}
 use Rattle.history.specs.declared.row.Request.TheVariants.{Do, Undo}
 use Rattle.history.specs.Logs.{Log}
-use Rattle.history.specs.Plans.{Planned, planned}
+use Rattle.history.specs.Plans.{Planned}
 use Rattle.history.specs.Rows.{Call, replay, rows_after}
 use Rattle.history.proofs.Agreed.{other_off}
 use Rattle.shared_admin.specs.declared.snapshot.Snapshot.{Snapshot}
@@ -18,7 +18,7 @@ use Rattle.shared_admin.specs.declared.event.Event.{Event}
 use Rattle.shared_admin.specs.declared.event.Event.TheVariants as events
 use Rattle.shared_admin.specs.declared.event.EventReply.{EventReply}
 use Rattle.shared_admin.specs.declared.event.EventReply.TheVariants as replies
-use Rattle.shared_admin.specs.Events.{Slots, empty_slots, AtSlot, PlansOn, Plans, Snaps, Calls, Commits, TakesPlan, Happens, Plays}
+use Rattle.shared_admin.specs.Events.{Slots, empty_slots, AtSlot, PlansOn, Plans, Snaps, Commits, TakesPlan, Happens, Plays}
 use Rattle.shared_admin.specs.Laws.{EventsHaveOneOutcome}
 
 -- there is one first observation that doesn't hold

@@ -1,10 +1,10 @@
-use Rattle.std.proofs.Common.{◌≡◌, List, [], ◌∷◌, All, length, refl, sym, ap, subst, ◌∙◌}
+use Rattle.std.proofs.Common.{List, [], refl, sym, subst, ◌∙◌}
 use Rattle.std.specs.Vec.Iter.{into_iter_items}
 use Rattle.std.proofs.lemmas.List.{nil_from_length}
 use Rattle.history.specs.Logs.{Log}
 use Rattle.shared_admin.specs.declared.event.Event.{Event}
 use Rattle.shared_admin.specs.declared.event.EventReply.{EventReply}
-use Rattle.shared_admin.specs.Events.{Plays, empty_slots}
+use Rattle.shared_admin.specs.Events.{empty_slots}
 use Rattle.shared_admin.proofs.Driven.{Leads, IsLegal, begins, one_more, all_done, legal_events, next_allowed}
 use Rattle.shared_admin.proofs.driving.drive.Goals as goal
 
