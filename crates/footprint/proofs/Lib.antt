@@ -1,5 +1,6 @@
 pub mod Those
 pub mod Parts
+pub mod Alike
 pub mod KeySets
 pub mod Outcomes
 pub mod Merged

@@ -224,7 +224,7 @@ impl<O: Operation> History<O> {
     }
 
     /// Whether there are as many rows as there may be.
-    fn is_full(&self) -> bool
+    pub fn is_full(&self) -> bool
         ensures full { result ≡ true → length self.now.rows ≡ self.now.limit }
         ensures room { result ≡ false → length self.now.rows < self.now.limit }
     {

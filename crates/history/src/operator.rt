@@ -69,6 +69,21 @@ fn padded(text: &[u8]) -> [u8; MAX_OPERATOR]
     bytes
 }
 
+/// Fills a list's unused room; it is never read.
+impl Default for Operator {
+    ghost use Rattle.std.specs.Prelude.{◌≡◌, codes};
+
+    ghost is_default = { λ operator. operator ≡ codes "a" };
+
+    #[tactic(auto, unfolding(crate::specs::Operators::is_operator, crate::specs::Operators::is_operator_byte))]
+    fn default() -> Operator {
+        Operator {
+            bytes: padded(b"a"),
+            len: 1,
+        }
+    }
+}
+
 impl Operator {
     /// Reads a name.
     pub fn parse(text: &[u8]) -> Result<Operator, BadOperator>

@@ -1,5 +1,5 @@
 //! Calls with their replies.
-ghost use Rattle.std.specs.Prelude.{◌≡◌, IfOk, is_some};
+ghost use Rattle.std.specs.Prelude.{◌≡◌, ◌↔◌, IfOk, IsTrue, is_some};
 ghost use Rattle.footprint.specs.Operations.{is_refused};
 ghost use Rattle.history.specs.Rows.{accepted, survivor, row_refusal, row_of_undo, answered};
 
@@ -12,6 +12,29 @@ use std::alloc::{AllocError, Global};
 pub enum Request<O> {
     Do(O),
     Undo(u32),
+}
+
+impl<O: Operation> Request<O> {
+    /// An equal request. Fails only where memory runs out.
+    pub fn copy(&self) -> Result<Request<O>, AllocError>
+        ensures { IfOk result (λ request. request ≡ self.now) }
+    {
+        match self {
+            Request::Do(operation) => Ok(Request::Do(operation.copy()?)),
+            Request::Undo(n) => Ok(Request::Undo(*n)),
+        }
+    }
+
+    /// Whether the requests are equal.
+    pub fn same(&self, other: &Request<O>) -> bool
+        ensures { IsTrue result ↔ (self.now ≡ other.now) }
+    {
+        match (self, other) {
+            (Request::Do(one), Request::Do(other)) => one.same(other),
+            (Request::Undo(one), Request::Undo(other)) => one == other,
+            _ => false,
+        }
+    }
 }
 
 /// Why an undo was refused, in the order in which the reasons are tried.
@@ -45,6 +68,18 @@ impl RowReply {
             RowReply::Answered(answer) => Ok(RowReply::Answered(answer.copy()?)),
             RowReply::Undid(n) => Ok(RowReply::Undid(*n)),
             RowReply::UndoRefused(refusal) => Ok(RowReply::UndoRefused(*refusal)),
+        }
+    }
+
+    /// Whether the replies are equal.
+    pub fn same(&self, other: &RowReply) -> bool
+        ensures { IsTrue result ↔ (self.now ≡ other.now) }
+    {
+        match (self, other) {
+            (RowReply::Answered(one), RowReply::Answered(other)) => one.same(other),
+            (RowReply::Undid(one), RowReply::Undid(other)) => one == other,
+            (RowReply::UndoRefused(one), RowReply::UndoRefused(other)) => one == other,
+            _ => false,
         }
     }
 }

@@ -7,6 +7,8 @@ mod actions;
 #[cfg(test)]
 mod faults;
 #[cfg(test)]
+mod plans;
+#[cfg(test)]
 mod refusals;
 #[cfg(test)]
 mod replies;

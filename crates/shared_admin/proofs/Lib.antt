@@ -1,3 +1,9 @@
 mod Driven
 mod Once
 mod Committed
+mod Distinct
+mod Firsts
+mod Own
+mod Told
+mod Last
+mod Closed

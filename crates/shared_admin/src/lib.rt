@@ -1,14 +1,26 @@
-//! A history that several operators share: plans that are made on snapshots of it at leisure, and what comes of them.
+//! A history that several operators share: plans that are made on snapshots of it at leisure, what comes of them, and one lock round it.
 #![tactic(auto)]
 
+mod close;
 mod driving;
 mod event;
+mod holds;
 mod laws;
+mod log;
+mod operators;
+mod shared;
 mod snapshot;
+mod strangers;
+mod telling;
 
+pub use close::{CloseFault, Unclosed};
 pub use driving::drive;
 pub use event::{Event, EventReply};
+pub use holds::{NewRow, Settled};
 pub use laws::{events_have_one_outcome, plans_commit_as_calls};
+pub use log::{LogEntries, LogEntry, SessionLog, SessionLogs};
+pub use operators::{MAX_SESSIONS, Operators};
+pub use shared::{OpenError, SharedAdmin};
 pub use snapshot::{Snapshot, plan};
 
 #[cfg(test)]

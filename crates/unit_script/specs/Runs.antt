@@ -1,5 +1,5 @@
 -- What a run writes for an input, and what its faults say. The contract of `run` cites `outcome_of`, `WritesAll`, `FaultOf`, `Silent` and
--- `FaultCause`; what stands below them is for the proofs of its steps alone.
+-- `FaultCause`, that of `read_input` `input_of`, `GivesInput`, `InputCause` and `InputStops`.
 use Rattle.std.specs.Prelude.{◌≡◌, ℕ, nat_lt, if◌then◌else◌, List, length, Option, Some, Result, Ok, Err}
 use Rattle.std.specs.Io.KnownBytes.{Appends, Keeps}
 use Rattle.byte_streams.specs.Streams.{HasCause, StopsIn, Takes}
@@ -34,12 +34,18 @@ in_script (Err fault) = Err (Script fault)
 unfoldable pub text_of_calls : Entries → List Call → Result (List ℕ) InputFault
 text_of_calls tree calls = if nat_lt 1000000 (length calls) then Err Full else Ok (text_of tree (rows_of tree calls))
 
--- The output for an input, or the input's first fault: that of the inventory, then that of the script behind it, then too many calls.
-abbrev pub outcome_of : List ℕ → Result (List ℕ) InputFault
-outcome_of input = do
+-- The tree and the calls of an input, or its first fault: that of the inventory, then that of the script behind it.
+abbrev pub input_of : List ℕ → Result (Entries × List Call) InputFault
+input_of input = do
   found ← in_inventory (inventory_of input)
   calls ← in_script (script_of found.1)
-  text_of_calls found.0 calls
+  Ok (found.0, calls)
+
+-- The output for an input, or the input's first fault: too many calls are told last.
+abbrev pub outcome_of : List ℕ → Result (List ℕ) InputFault
+outcome_of input = do
+  given ← input_of input
+  text_of_calls given.0 given.1
 
 -- The whole output for the input was written.
 abbrev pub WritesAll : Option (List ℕ) → Option (List ℕ) → Result (List ℕ) InputFault → Type 0
@@ -68,33 +74,33 @@ FaultCause (runs.InventoryRead n) source_old source_new sink_old sink_new = HasC
 FaultCause runs.ReadFault source_old source_new sink_old sink_new = HasCause source_old source_new
 FaultCause e source_old source_new sink_old sink_new = Unit {0}
 
--- For the proofs: the error is the fault that the input has, unless the source failed or memory ran out.
+-- The error is the fault that the input has, unless the source failed or memory ran out.
 abbrev pub FaultsAs : {A : Type 0} → InputError → Result A InputFault → Type 0
 FaultsAs (inputs.Fault fault) read = read ≡ Err fault
 FaultsAs (inputs.InventoryRead n) read = Unit {0}
 FaultsAs inputs.ReadFault read = Unit {0}
 FaultsAs inputs.OutOfMemory read = Unit {0}
 
--- for the proofs: what was read is what the input gives, unless the source failed or memory ran out
+-- What was read is what the input gives, unless the source failed or memory ran out.
 abbrev pub GivesInput : {X A : Type 0} → (X → A) → Result X InputError → Result A InputFault → Type 0
 GivesInput view (Ok x) read = read ≡ Ok (view x)
 GivesInput view (Err e) read = FaultsAs e read
 
--- for the proofs: a read fault has its cause in the source
+-- A read fault has its cause in the source.
 abbrev pub InputCause : InputError → Counters → Counters → Type 0
 InputCause (inputs.InventoryRead n) old new = HasCause old new
 InputCause inputs.ReadFault old new = HasCause old new
 InputCause (inputs.Fault fault) old new = Unit {0}
 InputCause inputs.OutOfMemory old new = Unit {0}
 
--- for the proofs: how far the input was read at a read fault
+-- How far the input was read at a read fault.
 abbrev pub InputStops : InputError → (old new : Option (List ℕ)) → Type 0
 InputStops (inputs.InventoryRead n) old new = Takes old new (λ taken rest. IsUndecided n taken)
 InputStops inputs.ReadFault old new = Takes old new (λ taken rest. IsOpenInput taken)
 InputStops (inputs.Fault fault) old new = Unit {0}
 InputStops inputs.OutOfMemory old new = Unit {0}
 
--- for the proofs: the same of the script alone
+-- for the proofs: how far the script was read at a read fault
 abbrev pub ScriptStops : InputError → (old new : Option (List ℕ)) → Type 0
 ScriptStops (inputs.InventoryRead n) old new = ⊥
 ScriptStops inputs.ReadFault old new = Takes old new (λ taken rest. IsOpenScript taken)

@@ -19,6 +19,6 @@ pub use call::Call;
 pub use laws::{a_script_is_its_lines, any_text_is_a_word, numbers_are_digits};
 pub use reason::{Reason, ScriptFault};
 pub use reply::{push_changes, push_refusal, push_rows};
-pub use run_fault::{InputFault, RunFault};
-pub use running::{history_of, run};
+pub use run_fault::{InputError, InputFault, RunFault};
+pub use running::{Input, history_of, read_input, run, write_history};
 pub use script::{MAX_LINE, MAX_LINES, read_script};

@@ -20,13 +20,16 @@ pub enum InputFault {
     Full,
 }
 
-/// Why an input gave no output: its fault, or that it wasn't read whole.
+/// Why an input can't be run: its fault, or that it wasn't read whole.
 #[derive(Clone, Copy, Debug, PartialEq, Eq, Error)]
-pub(crate) enum InputError {
+pub enum InputError {
+    /// The first fault of the input.
     #[error("{0}")]
     Fault(InputFault),
+    /// The source failed in the inventory, at the entry of this number.
     #[error("inventory entry {0}: read fault")]
     InventoryRead(u32),
+    /// The source failed in the script.
     #[error("read fault")]
     ReadFault,
     #[error("out of memory")]

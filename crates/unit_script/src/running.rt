@@ -13,7 +13,7 @@ ghost use Rattle.unit_script.specs.Machine.{asked, replay, rows_of};
 ghost use Rattle.unit_script.specs.Script.{script_of};
 ghost use Rattle.unit_script.specs.OpenScripts.{RunStops};
 ghost use Rattle.unit_script.specs.Texts.{text_of};
-ghost use Rattle.unit_script.specs.Runs.{InputStops, ScriptStops, TreeOfInput, outcome_of, text_of_calls, in_inventory, in_script, GivesInput, InputCause, WritesAll, FaultOf, Silent, FaultCause};
+ghost use Rattle.unit_script.specs.Runs.{InputStops, ScriptStops, TreeOfInput, input_of, outcome_of, text_of_calls, in_inventory, in_script, GivesInput, InputCause, WritesAll, FaultOf, Silent, FaultCause};
 
 use crate::action::Action;
 use crate::call::Call;
@@ -72,7 +72,6 @@ fn history_of_calls(
     calls: Vec<Call>,
 ) -> Result<History<Action>, InputError>
     ensures text { GivesInput (λ history. text_of history.first history.rows) result (text_of_calls tree calls.items) }
-    ensures limit { IfOk result (λ history. history.limit ≤ MAX_ROWS) }
     ensures stops { IfErr result (λ e. (old new : Option (List ℕ)) → InputStops e old new) }
     ensures cause { IfErr result (λ e. (old new : Counters) → InputCause e old new) }
 {
@@ -114,21 +113,42 @@ fn read_calls<S: Source>(alloc: Global, source: &mut S) -> Result<Vec<Call>, Inp
     }
 }
 
-/// Reads the whole input, and makes its calls.
-fn history_of_input<S: Source>(alloc: Global, source: &mut S) -> Result<History<Action>, InputError>
-    ensures text { (input : List ℕ) → S.left source.old ≡ Some input → GivesInput (λ history. text_of history.first history.rows) result (outcome_of input) }
+/// What a run is given: the tree of an inventory, and the calls of the script behind it.
+#[derive(Debug, Drop)]
+pub struct Input {
+    pub tree: Tree,
+    pub calls: Vec<Call>,
+}
+
+/// Reads an inventory and the script behind it, up to the end of the source. No call is made, and there may be any number of calls.
+///
+/// # Errors
+///
+/// The first in the order of reading: `Fault` of the inventory or of the script, as `read_inventory` and `read_script` tell it; `InventoryRead`
+/// or `ReadFault` where the source failed in the one or the other, or was interrupted 1,000 times in a row. `OutOfMemory` may come
+/// before any of them.
+pub fn read_input<S: Source>(alloc: Global, source: &mut S) -> Result<Input, InputError>
+    ensures input { (input : List ℕ) → S.left source.old ≡ Some input → GivesInput (λ given. (given.tree, given.calls.items)) result (input_of input) }
     ensures stops { IfErr result (λ e. InputStops e (S.left source.old) (S.left source.new)) }
-    ensures limit { IfOk result (λ history. history.limit ≤ MAX_ROWS) }
     ensures cause { IfErr result (λ e. InputCause e (S.counters source.old) (S.counters source.new)) }
 {
     let tree = read_tree(alloc, source)?;
     let calls = read_calls(alloc, source)?;
+    Ok(Input { tree, calls })
+}
+
+/// Reads the whole input, and makes its calls.
+fn history_of_input<S: Source>(alloc: Global, source: &mut S) -> Result<History<Action>, InputError>
+    ensures text { (input : List ℕ) → S.left source.old ≡ Some input → GivesInput (λ history. text_of history.first history.rows) result (outcome_of input) }
+    ensures stops { IfErr result (λ e. InputStops e (S.left source.old) (S.left source.new)) }
+    ensures cause { IfErr result (λ e. InputCause e (S.counters source.old) (S.counters source.new)) }
+{
+    let Input { tree, calls } = read_input(alloc, source)?;
     history_of_calls(alloc, tree, calls)
 }
 
 /// The replies and the line `== tree`: the output up to the inventory.
 fn text_of_replies(alloc: Global, history: &History<Action>) -> Result<Vec<u8>, AllocError>
-    requires { history.now.limit ≤ MAX_ROWS }
     ensures { IfOk result (λ text. text.items ++ inventory_text (replay history.now.first history.now.rows) ≡ text_of history.now.first history.now.rows) }
 {
     let mut out = Vec::new(alloc);
@@ -137,13 +157,18 @@ fn text_of_replies(alloc: Global, history: &History<Action>) -> Result<Vec<u8>, 
     Ok(out)
 }
 
-/// Writes the replies and the inventory of the tree that the calls leave. Only the replies and a buffer take memory.
-fn write_history<K: Sink>(
+/// Writes the reply to each call of a history, the line `== tree`, and the inventory of the tree that the calls leave. All memory is
+/// taken before the first byte is written: the replies' text, and a buffer.
+///
+/// # Errors
+///
+/// `Fault` with the number of bytes that the sink took, where it failed, was interrupted 1,000 times in a row or wasn't flushed;
+/// `OutOfMemory`, and then nothing was written.
+pub fn write_history<K: Sink>(
     alloc: Global,
     history: &History<Action>,
     sink: &mut K,
 ) -> Result<(), WriteError>
-    requires { history.now.limit ≤ MAX_ROWS }
     ensures ok { OnOk result (Appends (K.written sink.old) (K.written sink.new) (text_of history.now.first history.now.rows)) }
     ensures flushed { OnOk result (K.flushed sink.new ≡ true) }
     ensures fault { IfErr result (λ e. SentBefore e (K.written sink.old) (K.written sink.new) (text_of history.now.first history.now.rows)) }

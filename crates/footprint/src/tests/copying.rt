@@ -1,4 +1,4 @@
-//! Copies.
+//! Copies, and what is the same as its copy.
 use super::values::{key, name, path, put_file, put_link, reading, tree};
 use crate::{Answer, Changes, Notice, NoticeKey, Notices, Reason, Refusal, StateWord, Units};
 use link_tree::Change;
@@ -62,6 +62,7 @@ fn changes_are_copied(rt: HostRuntime) -> Result<(), Fail> {
 
 fn assert_copied(rt: &impl Abort, alloc: Global, answer: &Answer) -> Result<(), Fail> {
     let copy = ample!(answer.copy(), AllocError)?;
+    assert!(rt; copy.same(answer));
     assert_same(rt, alloc, &copy, answer)
 }
 

@@ -1,5 +1,8 @@
-//! Copies of replies.
-use crate::{RowReply, UndoRefusal};
+//! Copies of replies and of requests.
+
+use crate::tests::steps::Step;
+use crate::tests::undoing::step;
+use crate::{Request, RowReply, UndoRefusal};
 use footprint::{Answer, StateWord};
 use std::alloc::{AllocError, Global};
 use std::process::Abort;
@@ -36,6 +39,7 @@ fn assert_same(
 
 fn assert_copied(rt: &impl Abort, alloc: Global, reply: &RowReply) -> Result<(), AllocError> {
     let copy = ample!(reply.copy(), AllocError)?;
+    assert!(rt; copy.same(reply));
     assert_same(rt, alloc, &copy, reply)
 }
 
@@ -49,5 +53,19 @@ fn replies_are_copied(rt: HostRuntime) -> Result<(), Fail> {
     for number in 0..6 {
         assert_kind_copied(&rt, rt.alloc(), number)?;
     }
+    Ok(())
+}
+
+fn assert_request_copied(rt: &impl Abort, request: &Request<Step>) -> Result<(), AllocError> {
+    let copy = ample!(request.copy(), AllocError)?;
+    assert!(rt; copy.same(request));
+    Ok(())
+}
+
+#[test]
+fn requests_are_copied(rt: HostRuntime) -> Result<(), Fail> {
+    let step = step(rt.alloc(), b"+a")?;
+    assert_request_copied(&rt, &Request::Do(step))?;
+    assert_request_copied(&rt, &Request::Undo(3))?;
     Ok(())
 }

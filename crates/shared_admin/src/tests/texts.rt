@@ -14,7 +14,7 @@ const UNITS: [(u8, &[u8]); 3] = [
     (b'c', b"/etc/systemd/system/c.service"),
 ];
 
-fn slot_of(unit: u8) -> &'static [u8] {
+pub(crate) fn slot_of(unit: u8) -> &'static [u8] {
     for (letter, slot) in UNITS {
         if letter == unit {
             return slot;
@@ -47,13 +47,22 @@ pub(crate) fn operator(text: &[u8]) -> Result<Operator, AllocError> {
     }
 }
 
+/// Alice, bob or carol, by a letter.
+pub(crate) fn named(letter: u8) -> Result<Operator, AllocError> {
+    match letter {
+        b'A' => operator(b"alice"),
+        b'B' => operator(b"bob"),
+        _ => operator(b"carol"),
+    }
+}
+
 /// A number as one byte: a digit below ten.
 pub(crate) fn digit(n: u32) -> u8 {
     u8::try_from(n).map_or(b'?', |n| b'0'.wrapping_add(n))
 }
 
 /// The letter of the unit at whose slot a key looks.
-fn unit_at(key: &Key) -> u8 {
+pub(crate) fn unit_at(key: &Key) -> u8 {
     let Key::Cell(path) = key else {
         return b'?';
     };
@@ -78,7 +87,7 @@ fn reply_text(reply: &EventReply) -> [u8; 2] {
 }
 
 /// Two bytes for what a row says: that it was done, refused or told, or why an undo was refused; and the row that it names.
-fn row_text(reply: &RowReply) -> [u8; 2] {
+pub(crate) fn row_text(reply: &RowReply) -> [u8; 2] {
     match reply {
         RowReply::Answered(Answer::Refused(_)) => *b"r-",
         RowReply::Answered(Answer::State(_)) => *b"s-",
@@ -91,7 +100,7 @@ fn row_text(reply: &RowReply) -> [u8; 2] {
     }
 }
 
-fn push_row(out: &mut Vec<u8>, row: &Row<Step>) -> Result<(), AllocError> {
+pub(crate) fn push_row(out: &mut Vec<u8>, row: &Row<Step>) -> Result<(), AllocError> {
     out.push(row.operator.text().first().copied().unwrap_or(b'?'))?;
     out.extend_from_slice(&row_text(&row.reply))?;
     Ok(())

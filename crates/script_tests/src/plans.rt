@@ -1,0 +1,231 @@
+//! Events on a history of real commands: what comes of each, and what the rows say then.
+ghost use Rattle.std.specs.Prelude.{◌<◌, All, IfOk, OnOk};
+ghost use Rattle.shared_admin.specs.Events.{HasSlot};
+
+use crate::streams::Faulty;
+use footprint::Key;
+use history::{History, MAX_ROWS, Operator, Request};
+use link_tree::{Tree, read_inventory};
+use shared_admin::{Event, EventReply, drive};
+use std::alloc::{AllocError, Global};
+use std::process::Abort;
+use std::test::Fail;
+use unit_name::ample;
+use unit_script::{Action, Call, push_rows, read_script};
+
+/// The inventory of one unit, which wants two links.
+const SSH: &[u8] = b"unitadm-inventory 1\n\
+    F\t56\t/usr/lib/systemd/system/ssh.service\n\
+    [Install]\nWantedBy=multi-user.target\nAlias=sshd.service\n\n\
+    end\n";
+
+/// More bytes than any of these texts has.
+const ALL: usize = 1000;
+
+/// What is to happen: `s` takes a snapshot in slot 0, `p` plans what the line asks for on it, alice commits that by `c`, and `k` is the line's
+/// own call.
+type Happening = (u8, &'static [u8]);
+
+fn tree(alloc: Global) -> Result<Tree, AllocError> {
+    match read_inventory(alloc, &mut Faulty::new(SSH, ALL, 0)) {
+        Ok(tree) => Ok(tree),
+        Err(_) => Err(AllocError),
+    }
+}
+
+/// The call of a line, none of an empty one.
+fn read(alloc: Global, line: &[u8]) -> Result<Option<Call>, AllocError> {
+    let mut script = Vec::new(alloc);
+    script.extend_from_slice(b"== calls\n")?;
+    script.extend_from_slice(line)?;
+    match read_script(alloc, &mut Faulty::new(&script, ALL, 0)) {
+        Ok(mut calls) => Ok(calls.pop()),
+        Err(_) => Err(AllocError),
+    }
+}
+
+fn called(call: Call) -> Event<Action>
+    ensures { HasSlot result }
+{
+    let Call { operator, request } = call;
+    match request {
+        Request::Do(action) => Event::Call(operator, action),
+        Request::Undo(n) => Event::Undo(operator, n),
+    }
+}
+
+fn planned(call: Call) -> Result<Event<Action>, AllocError>
+    ensures { IfOk result (HasSlot {O = Action}) }
+{
+    match call.request {
+        Request::Do(action) => Ok(Event::Plan(0, action)),
+        Request::Undo(_) => Err(AllocError),
+    }
+}
+
+fn event(how: u8, call: Option<Call>, alice: Operator) -> Result<Event<Action>, AllocError>
+    ensures { IfOk result (HasSlot {O = Action}) }
+{
+    match call {
+        None if how == b's' => Ok(Event::Snap(0)),
+        None => Ok(Event::Commit(0, alice)),
+        Some(call) if how == b'p' => planned(call),
+        Some(call) => Ok(called(call)),
+    }
+}
+
+/// One event more.
+fn add(events: &mut Vec<Event<Action>>, event: Event<Action>) -> Result<(), AllocError>
+    requires before { All (HasSlot {O = Action}) events.old.items }
+    requires slot { HasSlot event }
+    ensures ok { OnOk result (All (HasSlot {O = Action}) events.new.items) }
+{
+    Ok(events.push(event)?)
+}
+
+fn events(alloc: Global, given: &[Happening]) -> Result<Vec<Event<Action>>, AllocError>
+    ensures { IfOk result (λ events. All (HasSlot {O = Action}) events.items) }
+{
+    let Ok(alice) = Operator::parse(b"alice") else {
+        return Err(AllocError);
+    };
+    let mut events = Vec::new(alloc);
+    for (how, line) in given {
+        add(&mut events, event(*how, read(alloc, line)?, alice)?)?;
+    }
+    Ok(events)
+}
+
+fn push_line(out: &mut Vec<u8>, words: &[u8], last: &[u8]) -> Result<(), AllocError> {
+    out.extend_from_slice(words)?;
+    out.extend_from_slice(last)?;
+    out.extend_from_slice(b"\n")
+}
+
+fn push_reply(out: &mut Vec<u8>, reply: &EventReply) -> Result<(), AllocError> {
+    match reply {
+        EventReply::Taken => push_line(out, b"taken", b""),
+        EventReply::Planned => push_line(out, b"planned", b""),
+        EventReply::Nothing => push_line(out, b"nothing", b""),
+        EventReply::Committed(n) => {
+            let digit = u8::try_from(*n).map_or(b'?', |n| b'0'.wrapping_add(n));
+            push_line(out, b"row ", &[digit])
+        }
+        EventReply::Stale(Key::Cell(path)) => push_line(out, b"stale at ", path.text()),
+        EventReply::Stale(_) => push_line(out, b"stale", b""),
+        EventReply::Full => push_line(out, b"full", b""),
+    }
+}
+
+/// A line for each reply, then the lines of all rows.
+fn text_of(
+    alloc: Global,
+    history: &History<Action>,
+    replies: &[EventReply],
+) -> Result<Vec<u8>, AllocError> {
+    let mut out = Vec::new(alloc);
+    for reply in replies {
+        push_reply(&mut out, reply)?;
+    }
+    let rows = history.rows();
+    if rows.len() <= MAX_ROWS {
+        push_rows(&mut out, rows)?;
+    }
+    Ok(out)
+}
+
+/// What comes of events on the unit's inventory, and how many entries the tree has then.
+fn said(alloc: Global, given: &[Happening]) -> Result<(Vec<u8>, usize), AllocError> {
+    let events = events(alloc, given)?;
+    let (history, replies) = drive(alloc, tree(alloc)?, events)?;
+    let entries = history.tree().len();
+    Ok((text_of(alloc, &history, &replies)?, entries))
+}
+
+fn assert_said(
+    rt: &impl Abort,
+    alloc: Global,
+    given: &[Happening],
+    text: &[u8],
+    entries: usize,
+) -> Result<(), Fail> {
+    let said = ample!(said(alloc, given), AllocError)?;
+    assert_eq!(rt; said.0.as_slice(), text);
+    assert_eq!(rt; said.1, entries);
+    Ok(())
+}
+
+/// Bob masks the unit while alice plans to enable it. She plans anew, is refused, and bob takes his mask back.
+const AFTER_A_MASK: [Happening; 8] = [
+    (b's', b""),
+    (b'p', b"alice enable ssh.service"),
+    (b'k', b"bob mask ssh.service"),
+    (b'c', b""),
+    (b's', b""),
+    (b'p', b"alice enable ssh.service"),
+    (b'c', b""),
+    (b'k', b"bob undo 1"),
+];
+
+#[test]
+fn an_enable_is_stale_after_a_mask(rt: HostRuntime) -> Result<(), Fail> {
+    let text = b"taken\nplanned\nrow 1\nstale at /etc/systemd/system/ssh.service\n\
+        taken\nplanned\nrow 2\nrow 3\n\
+        1 bob ok\n  + /etc/systemd/system/ssh.service -> /dev/null\n\
+        2 alice refused: ssh.service is masked\n\
+        3 bob undid 1\n  - /etc/systemd/system/ssh.service -> /dev/null\n";
+    assert_said(&rt, rt.alloc(), &AFTER_A_MASK, text, 1)
+}
+
+const BESIDE_A_MASK: [Happening; 4] = [
+    (b's', b""),
+    (b'p', b"alice enable ssh.service"),
+    (b'k', b"bob mask x.service"),
+    (b'c', b""),
+];
+
+#[test]
+fn an_enable_is_committed_beside_a_mask(rt: HostRuntime) -> Result<(), Fail> {
+    let text = b"taken\nplanned\nrow 1\nrow 2\n\
+        1 bob ok\n  + /etc/systemd/system/x.service -> /dev/null\n\
+        2 alice ok\n  \
+          + /etc/systemd/system/multi-user.target.wants/ssh.service -> /usr/lib/systemd/system/ssh.service\n  \
+          + /etc/systemd/system/sshd.service -> /usr/lib/systemd/system/ssh.service\n";
+    assert_said(&rt, rt.alloc(), &BESIDE_A_MASK, text, 4)
+}
+
+/// The tree agrees again once the mask is undone.
+const AFTER_AN_UNDO: [Happening; 5] = [
+    (b's', b""),
+    (b'p', b"alice enable ssh.service"),
+    (b'k', b"bob mask ssh.service"),
+    (b'k', b"bob undo 1"),
+    (b'c', b""),
+];
+
+#[test]
+fn an_enable_is_committed_once_the_mask_is_undone(rt: HostRuntime) -> Result<(), Fail> {
+    let text = b"taken\nplanned\nrow 1\nrow 2\nrow 3\n\
+        1 bob ok\n  + /etc/systemd/system/ssh.service -> /dev/null\n\
+        2 bob undid 1\n  - /etc/systemd/system/ssh.service -> /dev/null\n\
+        3 alice ok\n  \
+          + /etc/systemd/system/multi-user.target.wants/ssh.service -> /usr/lib/systemd/system/ssh.service\n  \
+          + /etc/systemd/system/sshd.service -> /usr/lib/systemd/system/ssh.service\n";
+    assert_said(&rt, rt.alloc(), &AFTER_AN_UNDO, text, 3)
+}
+
+/// A plan that was stale is in its slot no longer.
+const COMMITTED_TWICE: [Happening; 5] = [
+    (b's', b""),
+    (b'p', b"alice enable ssh.service"),
+    (b'k', b"bob mask ssh.service"),
+    (b'c', b""),
+    (b'c', b""),
+];
+
+#[test]
+fn a_stale_enable_is_gone(rt: HostRuntime) -> Result<(), Fail> {
+    let text = b"taken\nplanned\nrow 1\nstale at /etc/systemd/system/ssh.service\nnothing\n\
+        1 bob ok\n  + /etc/systemd/system/ssh.service -> /dev/null\n";
+    assert_said(&rt, rt.alloc(), &COMMITTED_TWICE, text, 2)
+}

@@ -1,0 +1,163 @@
+//! One lock round a history.
+ghost use Rattle.std.specs.Prelude.{◌≡◌, [], IfOk, IfErr};
+ghost use Rattle.history.specs.Rows.{run, calls_of};
+ghost use Rattle.shared_admin.specs.Closing.{IsClosed, IsFault};
+ghost use Rattle.shared_admin.specs.Holds.{KeepsPlan};
+ghost use Rattle.shared_admin.specs.Sharing.{MayShare, IsUnshared};
+
+use crate::close::{Unclosed, fault};
+use crate::holds;
+use crate::holds::{NewRow, Settled};
+use crate::log::SessionLogs;
+use crate::operators::{MAX_SESSIONS, Operators, are_distinct};
+use crate::snapshot::{Snapshot, snapshot_of};
+use footprint::Operation;
+use history::{CallError, History, Operator, Plan, Uncommitted, Unrun};
+use link_tree::Tree;
+use std::alloc::{AllocError, Global};
+use std::marker::Model;
+use std::sync::{Mutex, Wait};
+
+/// Why a history isn't shared, in the order in which the reasons are tried.
+#[derive(Clone, Copy, Debug, PartialEq, Eq)]
+pub enum OpenError {
+    /// There are more than sixteen operators.
+    TooManySessions,
+    /// An operator is there twice.
+    SameOperator,
+    OutOfMemory,
+}
+
+/// A history that several operators share. Each call on it takes the lock once, and what happens while it is held is one step, of which
+/// [`History`] says all. Contracts see the tree that was given and the operators; of the history they see what its type says: whenever
+/// the lock is free, its rows are legal and its tree is their replay.
+#[derive(Drop)]
+pub struct SharedAdmin<O: Operation> {
+    first: Tree,
+    operators: Operators,
+    history: Mutex<History<O>>,
+}
+
+impl<O: Operation> Model for SharedAdmin<O> {
+    ghost use Rattle.std.specs.Prelude.{List, ℕ};
+    ghost use Rattle.std.specs.Coded.{codes, code_by};
+    ghost use Rattle.std.specs.FinMap as map;
+    ghost use Rattle.link_tree.specs.Trees.{Entries, path_cmp};
+    ghost use Rattle.link_tree.specs.Values.{coded_path, coded_entry};
+    ghost use Rattle.shared_admin.specs.Sharing.{Opening, opening_parts, of_opening_parts, of_own_opening_parts};
+
+    ghost Value = { Opening };
+
+    ghost coded = { code_by (Entries × List (List ℕ)) (Prim.hlevel (codes, map.code {R = path_cmp} coded_path coded_entry)) opening_parts of_opening_parts of_own_opening_parts };
+
+    ghost view = { λ admin. record { first = admin.first; operators = admin.operators } };
+}
+
+impl<O: Operation> SharedAdmin<O> {
+    /// A history without rows of a tree, which these operators share; it may have a million rows. The tree that was given is kept beside it.
+    ///
+    /// At most sixteen operators, each once; there may be none. That they are too many is told first, that one is there twice next, and want
+    /// of memory last.
+    pub fn new(alloc: Global, tree: Tree, operators: Operators) -> Result<SharedAdmin<O>, OpenError>
+        ensures shared { IfOk result (λ admin. (admin ≡ record { first = tree; operators = operators }) × MayShare operators) }
+        ensures unshared { IfErr result (λ why. IsUnshared operators why) }
+    {
+        if operators.as_slice().len() > MAX_SESSIONS {
+            return Err(OpenError::TooManySessions);
+        }
+        if !are_distinct(operators.as_slice()) {
+            return Err(OpenError::SameOperator);
+        }
+        let Ok(first) = tree.copy() else {
+            return Err(OpenError::OutOfMemory);
+        };
+        let Ok(history) = History::new(alloc, tree) else {
+            return Err(OpenError::OutOfMemory);
+        };
+        Ok(SharedAdmin {
+            first,
+            operators,
+            history: Mutex::new(history),
+        })
+    }
+
+    /// The history as it is now: its tree, which is shared and not copied, and how many rows there are. Fails only where memory runs out.
+    pub fn snapshot(&self, rt: &impl Wait) -> Result<Snapshot, AllocError> {
+        snapshot_of(&*self.history.lock(rt))
+    }
+
+    /// Commits a plan, as `History::commit` does. The new row's reply comes with its number; a plan that makes no row comes back.
+    ///
+    /// The error is `Full` where the tree agrees with all that the plan looked at and there are a million rows, else `OutOfMemory`.
+    pub fn commit(
+        &self,
+        rt: &impl Wait,
+        operator: Operator,
+        plan: Plan<O>,
+    ) -> Result<Settled<Plan<O>>, Uncommitted<Plan<O>>>
+        ensures kept { IfOk result (λ settled. KeepsPlan plan settled) }
+        ensures handed_back { IfErr result (λ left. left.plan ≡ plan) }
+    {
+        holds::commit(&mut *self.history.lock(rt), operator, plan)
+    }
+
+    /// Runs an operation on the tree as it is while the lock is held, as `History::call` does. The new row's reply comes with its number; an
+    /// operation that makes no row comes back.
+    ///
+    /// The error is `Full` where there are a million rows, else `OutOfMemory`.
+    pub fn call(
+        &self,
+        rt: &impl Wait,
+        alloc: Global,
+        operator: Operator,
+        operation: O,
+    ) -> Result<NewRow, Unrun<O>>
+        ensures { IfErr result (λ unrun. unrun.operation ≡ operation) }
+    {
+        holds::call(&mut *self.history.lock(rt), alloc, operator, operation)
+    }
+
+    /// Undoes the row of this number, unless that is refused, as `History::undo` does. The new row's reply comes with its number.
+    ///
+    /// The error is `Full` where there are a million rows, else `OutOfMemory`.
+    pub fn undo(
+        &self,
+        rt: &impl Wait,
+        alloc: Global,
+        operator: Operator,
+        n: u32,
+    ) -> Result<NewRow, CallError> {
+        holds::undo(&mut *self.history.lock(rt), alloc, operator, n)
+    }
+
+    /// Gives the history up, and says whether the run is closed: each operator has one log, which tells all of its rows in their order, each with
+    /// its request and its reply, and each made after all that the session had seen; no other log and no other row is there; and the history
+    /// begins with the tree that was given. History and logs come back in any case, as they were. Takes no memory.
+    pub fn close(
+        self,
+        logs: SessionLogs<O>,
+    ) -> Result<(History<O>, SessionLogs<O>), Unclosed<History<O>, SessionLogs<O>>>
+        ensures closed { IfOk result (λ r. IsClosed self.first self.operators logs r.0) }
+        ensures legal { IfOk result (λ r. r.0.rows ≡ run O.asks O.meaning r.0.first [] (calls_of r.0.rows)) }
+        ensures logs { IfOk result (λ r. r.1 ≡ logs) }
+        ensures fault { IfErr result (λ left. IsFault self.first self.operators logs left.history left.fault) }
+        ensures not_closed { IfErr result (λ left. ¬ IsClosed self.first self.operators logs left.history) }
+        ensures still_legal { IfErr result (λ left. left.history.rows ≡ run O.asks O.meaning left.history.first [] (calls_of left.history.rows)) }
+        ensures logs_back { IfErr result (λ left. left.logs ≡ logs) }
+    {
+        let SharedAdmin {
+            first,
+            operators,
+            history,
+        } = self;
+        let history = history.into_inner();
+        match fault(&first, operators.as_slice(), logs.as_slice(), &history) {
+            None => Ok((history, logs)),
+            Some(fault) => Err(Unclosed {
+                fault,
+                history,
+                logs,
+            }),
+        }
+    }
+}
