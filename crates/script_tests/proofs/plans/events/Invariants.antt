@@ -1,0 +1,7 @@
+use Rattle.std.proofs.Common.{All}
+use Rattle.shared_admin.specs.Events.{HasSlot}
+use Rattle.script_tests.proofs.plans.events.Given as goal
+
+-- the slots of the events so far
+abbrev pub invariant-loop-how : goal.invariant-loop-how
+invariant-loop-how l = All (λ event. HasSlot event) l.events.items
