@@ -2,20 +2,26 @@
 ghost use Rattle.std.specs.Prelude.{◌≡◌};
 ghost use Rattle.unitadm.specs.Statuses.{failure_status};
 
-use arguments::{ArgumentError, arguments_of};
+use arguments::{ArgumentError, Arguments, arguments_of};
 use byte_streams::{FromRead, ToWrite};
-use std::io::BufReader;
+use session_script::{SessionsFault, run_with_sessions};
+use std::env::Env;
+use std::io::{BufReader, Input, Print};
+use std::sync::Wait;
+use std::thread::Threads;
 use std::{env, io};
 use thiserror::Error;
 use unit_script::{RunFault, run};
 
 /// Why the program failed.
-#[derive(Clone, Copy, Debug, PartialEq, Eq, Error)]
+#[derive(Clone, Copy, Debug, Error)]
 pub(crate) enum Failure {
     #[error("{0}")]
     Arguments(ArgumentError),
     #[error("{0}")]
     Run(RunFault),
+    #[error("{0}")]
+    Sessions(SessionsFault),
 }
 
 impl Failure {
@@ -26,12 +32,12 @@ impl Failure {
         match self {
             Failure::Arguments(e) => e.status(),
             Failure::Run(_) => 1,
+            Failure::Sessions(_) => 1,
         }
     }
 }
 
-/// Reads the words, which so far ask for a run without workers alone.
-fn read_arguments(rt: &HostRuntime) -> Result<(), ArgumentError> {
+fn read_arguments<R: Env + AllocGlobal>(rt: &R) -> Result<Arguments, ArgumentError> {
     let given = match env::args(rt) {
         Ok(given) => given,
         Err(e) if e.kind() == io::ErrorKind::OutOfMemory => return Err(ArgumentError::OutOfMemory),
@@ -41,29 +47,36 @@ fn read_arguments(rt: &HostRuntime) -> Result<(), ArgumentError> {
     for word in given {
         words.push(word)?;
     }
-    if arguments_of(rt.alloc(), &words)?.sessions {
-        return Err(ArgumentError::BadArguments);
-    }
-    Ok(())
+    arguments_of(rt.alloc(), &words)
 }
 
 /// How many bytes of standard input are asked for at a time.
 const READ_ROOM: usize = 32768;
 
 /// Runs what standard input holds, and writes to standard output.
-fn run_standard(rt: &HostRuntime) -> Result<(), RunFault> {
+fn run_standard<R: Input + Print + AllocGlobal + Threads + Wait + Sync>(
+    rt: &R,
+    sessions: bool,
+) -> Result<(), Failure> {
     let Ok(reader) = BufReader::with_capacity(rt.alloc(), READ_ROOM, rt.reader()) else {
-        return Err(RunFault::OutOfMemory);
+        return Err(Failure::Run(RunFault::OutOfMemory));
     };
+    let mut source = FromRead::new(reader);
     // No buffer around the writer: the output comes whole, and a fault is to tell how much of it went out.
-    run(
-        rt.alloc(),
-        &mut FromRead::new(reader),
-        &mut ToWrite::new(io::writer(rt)),
-    )
+    let mut sink = ToWrite::new(io::writer(rt));
+    if sessions {
+        match run_with_sessions(rt, rt.alloc(), &mut source, &mut sink) {
+            Ok(()) => Ok(()),
+            Err(fault) => Err(Failure::Sessions(fault)),
+        }
+    } else {
+        run(rt.alloc(), &mut source, &mut sink).map_err(Failure::Run)
+    }
 }
 
-pub(crate) fn run_program(rt: &HostRuntime) -> Result<(), Failure> {
-    read_arguments(rt).map_err(Failure::Arguments)?;
-    run_standard(rt).map_err(Failure::Run)
+pub(crate) fn run_program<R: Env + Input + Print + AllocGlobal + Threads + Wait + Sync>(
+    rt: &R,
+) -> Result<(), Failure> {
+    let arguments = read_arguments(rt).map_err(Failure::Arguments)?;
+    run_standard(rt, arguments.sessions)
 }

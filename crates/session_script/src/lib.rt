@@ -1,0 +1,12 @@
+//! Scripts whose operators work side by side, each in a session with a thread of its own.
+#![tactic(auto)]
+
+mod fault;
+mod operators;
+mod serving;
+
+pub use fault::SessionsFault;
+pub use serving::run_with_sessions;
+
+#[cfg(test)]
+mod tests;

@@ -1,0 +1,2 @@
+mod either_order;
+mod large;

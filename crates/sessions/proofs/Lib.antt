@@ -1,0 +1,6 @@
+mod Workers
+mod Jobs
+mod Places
+mod Firsts
+mod Feeds
+mod Reasons

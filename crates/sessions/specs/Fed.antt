@@ -1,0 +1,50 @@
+-- Runs of sessions that are fed.
+use Rattle.std.specs.Prelude.{◌≡◌, ℕ, false, if◌then◌else◌, IsTrue, List, [], ◌∷◌, All, map}
+use Rattle.std.specs.Str.{bytes_eq}
+use Rattle.link_tree.specs.Trees.{Entries}
+use Rattle.history.specs.Logs.{Log}
+use Rattle.history.specs.declared.row.Row.{Row}
+use Rattle.history.specs.declared.row.Request.{Request}
+use Rattle.shared_admin.specs.declared.log.SessionLog.{SessionLog}
+use Rattle.shared_admin.specs.Closing.{IsClosed}
+use Rattle.shared_admin.specs.Sharing.{is_among}
+use Rattle.sessions.specs.Runs.{requests_in}
+use Rattle.sessions.specs.Sessions.{Opened, IsServed, requests_of}
+use Rattle.sessions.specs.declared.asks.Ask.{Ask}
+use Rattle.sessions.specs.declared.desk.Answered.{Answered}
+use Rattle.sessions.specs.declared.desk.Issued.{Issued}
+use Rattle.sessions.specs.declared.desk.Job.{Job}
+
+module _ {O : Type 0} where
+  -- Each request is of one of these operators.
+  abbrev pub AreOf : List (List ℕ) → List (Ask O) → Type 0
+  AreOf operators asks = All (λ ask. IsTrue (is_among operators ask.operator)) asks
+
+  -- what an operator asks for, in order
+  abbrev pub asked : List ℕ → List (Ask O) → List (Request O)
+  asked operator [] = []
+  asked operator (ask ∷ asks) = if bytes_eq operator ask.operator then ask.request ∷ asked operator asks else asked operator asks
+
+  -- A log is of what its operator asks for.
+  abbrev pub IsAsked : List (Ask O) → SessionLog O → Type 0
+  IsAsked asks log = requests_of log.entries ≡ asked log.operator asks
+
+  -- The rows of an operator hold what it asks for, in order, and nothing else.
+  abbrev pub HoldsAsked : List (Ask O) → List (Row O) → List ℕ → Type 0
+  HoldsAsked asks rows operator = requests_in rows operator ≡ asked operator asks
+
+  -- A run that is closed, in which each operator's rows hold what it asks for.
+  pub record HasFed (tree : Entries) (operators : List (List ℕ)) (asks : List (Ask O)) (history : Log O) (logs : List (SessionLog O)) : Type 0 where
+    pub closed : IsClosed tree operators logs history
+    pub asked : All (HoldsAsked asks history.rows) operators
+
+  -- the jobs of requests, none of them answered
+  abbrev pub jobs_of : List (Ask O) → List Issued
+  jobs_of = map (λ ask. record { operator = ask.operator; is_answered = false })
+
+  -- A job was served in a session, and the answer is that of its row.
+  pub record IsAnswerOf (old : Opened O) (job : Job O) (new : Opened O) (answer : Answered) : Type 0 where
+    pub served : IsServed old job.request new
+    pub number : answer.number ≡ job.number
+    pub operator : answer.operator ≡ job.operator
+    pub reply : answer.reply ≡ served.row.reply

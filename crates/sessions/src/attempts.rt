@@ -1,0 +1,122 @@
+//! Attempts at a request: plans, commits, and at last a call while the lock is held.
+ghost use Rattle.std.specs.Prelude.{◌≡◌, ◌≤◌, IfOk, IfErr};
+ghost use Rattle.history.specs.declared.row.Request.TheVariants.{Do};
+ghost use Rattle.sessions.specs.Sessions.{KeepsOperation};
+
+use crate::gate::Gate;
+use crate::session::Unserved;
+use footprint::Operation;
+use history::{CallError, Operator, Request};
+use shared_admin::{NewRow, Settled, SharedAdmin, plan};
+use std::alloc::Global;
+use std::sync::Wait;
+
+/// How often a plan is made before the operation is run while the lock is held.
+const ATTEMPTS: u8 = 4;
+
+/// Whose call it is, and which, from 1 on.
+#[derive(Clone, Copy)]
+pub(crate) struct Turn {
+    pub(crate) operator: Operator,
+    pub(crate) call: u64,
+}
+
+/// The row of a request. A request that isn't served comes back.
+pub(crate) fn serve<O: Operation, R: Wait, G: Gate>(
+    rt: &R,
+    alloc: Global,
+    admin: &SharedAdmin<O>,
+    gate: &G,
+    turn: &Turn,
+    request: Request<O>,
+) -> Result<NewRow, Unserved<O>>
+    requires { 1 ≤ turn.now.call }
+    ensures { IfErr result (λ left. left.request ≡ request) }
+{
+    match request {
+        Request::Do(operation) => serve_operation(rt, alloc, admin, gate, turn, operation),
+        Request::Undo(n) => {
+            gate.between(turn.operator, turn.call, 1);
+            match admin.undo(rt, alloc, turn.operator, n) {
+                Ok(row) => Ok(row),
+                Err(why) => Err(Unserved {
+                    request: Request::Undo(n),
+                    why,
+                }),
+            }
+        }
+    }
+}
+
+/// The row of an operation, planned outside the lock up to four times, and else run while it is held.
+fn serve_operation<O: Operation, R: Wait, G: Gate>(
+    rt: &R,
+    alloc: Global,
+    admin: &SharedAdmin<O>,
+    gate: &G,
+    turn: &Turn,
+    operation: O,
+) -> Result<NewRow, Unserved<O>>
+    requires { 1 ≤ turn.now.call }
+    ensures { IfErr result (λ left. left.request ≡ Do operation) }
+{
+    let mut operation = operation;
+    for made in 0..ATTEMPTS {
+        match try_once(rt, alloc, admin, gate, turn, made + 1, operation)? {
+            Attempt::Served(row) => return Ok(row),
+            Attempt::Stale(left) => operation = left,
+        }
+    }
+    match admin.call(rt, alloc, turn.operator, operation) {
+        Ok(row) => Ok(row),
+        Err(unrun) => Err(unserved(unrun.operation, unrun.why)),
+    }
+}
+
+/// What came of one attempt.
+#[derive(Drop)]
+pub(crate) enum Attempt<O> {
+    Served(NewRow),
+    /// The plan was stale, and this is its operation.
+    Stale(O),
+}
+
+/// Takes a snapshot, plans on it, and commits the plan.
+fn try_once<O: Operation, R: Wait, G: Gate>(
+    rt: &R,
+    alloc: Global,
+    admin: &SharedAdmin<O>,
+    gate: &G,
+    turn: &Turn,
+    number: u8,
+    operation: O,
+) -> Result<Attempt<O>, Unserved<O>>
+    requires call { 1 ≤ turn.now.call }
+    requires number { (1 ≤ number) × (number ≤ 4) }
+    ensures ok { IfOk result (λ attempt. KeepsOperation operation attempt) }
+    ensures handed_back { IfErr result (λ left. left.request ≡ Do operation) }
+{
+    let Ok(snapshot) = admin.snapshot(rt) else {
+        return Err(unserved(operation, CallError::OutOfMemory));
+    };
+    let plan = match plan(alloc, &snapshot, operation) {
+        Ok(plan) => plan,
+        Err(unrun) => return Err(unserved(unrun.operation, unrun.why)),
+    };
+    gate.between(turn.operator, turn.call, number);
+    match admin.commit(rt, turn.operator, plan) {
+        Ok(Settled::Committed(row)) => Ok(Attempt::Served(row)),
+        Ok(Settled::Stale { plan, at: _ }) => Ok(Attempt::Stale(plan.into_op())),
+        Err(left) => Err(unserved(left.plan.into_op(), left.why)),
+    }
+}
+
+/// An operation that comes back.
+fn unserved<O>(operation: O, why: CallError) -> Unserved<O>
+    ensures { result ≡ record { request = Do operation; why = why } }
+{
+    Unserved {
+        request: Request::Do(operation),
+        why,
+    }
+}

@@ -1,0 +1,122 @@
+//! Whether a run that was fed came to what was asked for.
+ghost use Rattle.std.specs.Prelude.{◌≡◌, [], true, false, Some, All, IfOk, IfErr, IfNone, IfSome, slice_get};
+ghost use Rattle.history.specs.Rows.{run, calls_of};
+ghost use Rattle.shared_admin.specs.declared.log.LogEntry.{LogEntry};
+ghost use Rattle.shared_admin.specs.declared.log.SessionLog.{SessionLog};
+ghost use Rattle.shared_admin.specs.Closing.{IsFirstNot};
+ghost use Rattle.sessions.specs.Desks.{first_amiss};
+ghost use Rattle.sessions.specs.Fed.{asked, IsAsked, HasFed};
+ghost use Rattle.sessions.specs.Faults.{IsUnfed};
+ghost use Rattle.sessions.specs.Sessions.{requests_of};
+
+use crate::asks::Ask;
+use crate::desk::{Answered, Desk};
+use crate::names::has_text;
+use footprint::Operation;
+use history::{History, Operator};
+use shared_admin::{CloseFault, LogEntry, SessionLog, SessionLogs, SharedAdmin, Unclosed};
+
+/// What is left of a run that was fed: the desk, the logs, and all answers.
+#[derive(Drop)]
+pub(crate) struct Fed<O> {
+    pub(crate) desk: Desk,
+    pub(crate) logs: SessionLogs<O>,
+    pub(crate) answers: Vec<Answered>,
+}
+
+/// Closes a run that was fed. Where the logs tell the rows, it is looked whether the desk takes each answer and has one for each job, and
+/// whether each log is of what its operator asked for.
+pub(crate) fn close_fed<O: Operation>(
+    admin: SharedAdmin<O>,
+    fed: Fed<O>,
+    asks: &[Ask<O>],
+) -> Result<(History<O>, SessionLogs<O>), Unclosed<History<O>, SessionLogs<O>>>
+    ensures fed { IfOk result (λ r. HasFed admin.first admin.operators asks.now r.0 r.1) }
+    ensures legal { IfOk result (λ r. r.0.rows ≡ run O.asks O.meaning r.0.first [] (calls_of r.0.rows)) }
+    ensures unfed { IfErr result (IsUnfed O.asks O.meaning admin.first admin.operators) }
+{
+    let Fed {
+        mut desk,
+        logs,
+        answers,
+    } = fed;
+    match admin.close(logs) {
+        Err(left) => Err(left),
+        Ok((history, logs)) => match amiss(&mut desk, &answers, logs.as_slice(), asks) {
+            None => Ok((history, logs)),
+            Some(operator) => Err(Unclosed {
+                fault: CloseFault::Mismatch(operator, 0),
+                history,
+                logs,
+            }),
+        },
+    }
+}
+
+/// The operator of whom the desk or the asks know otherwise than the answers and the logs.
+fn amiss<O: Operation>(
+    desk: &mut Desk,
+    answers: &[Answered],
+    logs: &[SessionLog<O>],
+    asks: &[Ask<O>],
+) -> Option<Operator>
+    ensures { IfNone result (All (IsAsked asks.now) logs.now) }
+{
+    match settle(desk, answers) {
+        None => first_unasked(logs, asks),
+        Some(operator) => Some(operator),
+    }
+}
+
+/// Takes the answers one after another: the operator of the first that the desk refuses, else of the first job that is left.
+fn settle(desk: &mut Desk, answers: &[Answered]) -> Option<Operator>
+    ensures { result ≡ first_amiss desk.old.issued answers.now }
+{
+    for answer in answers {
+        if desk.accept(answer).is_err() {
+            return Some(answer.operator);
+        }
+    }
+    desk.first_outstanding()
+}
+
+/// The operator of the first log that isn't of what the operator asks for.
+fn first_unasked<O: Operation>(logs: &[SessionLog<O>], asks: &[Ask<O>]) -> Option<Operator>
+    ensures none { IfNone result (All (IsAsked asks.now) logs.now) }
+    ensures some { IfSome result (λ operator. (log : SessionLog O) × IsFirstNot (IsAsked asks.now) logs.now log × (log.operator ≡ operator)) }
+{
+    for log in logs {
+        if !are_asked(&log.operator, log.entries.as_slice(), asks) {
+            return Some(log.operator);
+        }
+    }
+    None
+}
+
+/// Whether entries are of what an operator asks for.
+fn are_asked<O: Operation>(operator: &Operator, entries: &[LogEntry<O>], asks: &[Ask<O>]) -> bool
+    ensures yes { result ≡ true → requests_of entries.now ≡ asked operator.now asks.now }
+    ensures no { result ≡ false → ¬ (requests_of entries.now ≡ asked operator.now asks.now) }
+{
+    let mut place: usize = 0;
+    for ask in asks {
+        if has_text(&ask.operator, operator.text()) {
+            if !asks_at(entries, place, ask) {
+                return false;
+            }
+            place += 1;
+        }
+    }
+    place == entries.len()
+}
+
+/// Whether there is an entry at the place, and it is of this request.
+fn asks_at<O: Operation>(entries: &[LogEntry<O>], place: usize, ask: &Ask<O>) -> bool
+    ensures yes { result ≡ true → (entry : LogEntry O) × (slice_get entries.now place ≡ Some entry) × (entry.request ≡ ask.now.request) }
+    ensures no { result ≡ false → (entry : LogEntry O) → slice_get entries.now place ≡ Some entry → ¬ (entry.request ≡ ask.now.request) }
+{
+    match entries.get(place) {
+        Some(entry) => entry.request.same(&ask.request),
+        None => false,
+    }
+}

@@ -1,0 +1,6 @@
+mod desk;
+mod large;
+mod running;
+mod scripts;
+mod sessions;
+mod steps;
