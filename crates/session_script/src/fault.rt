@@ -46,9 +46,3 @@ impl Display for SessionsFault {
         }
     }
 }
-
-impl From<RunFault> for SessionsFault {
-    fn from(fault: RunFault) -> SessionsFault {
-        SessionsFault::Run(fault)
-    }
-}
