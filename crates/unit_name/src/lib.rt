@@ -16,7 +16,7 @@ pub use kind::{Kind, UnitType};
 pub use laws::{
     instances_keep_the_rest, names_have_no_fault, parts_are_read, words_are_expanded_by_pieces,
 };
-pub use name::{UnitName, is_unit_name};
+pub use name::{UnitName, is_unit_name, kind_in};
 pub use specifier::expand;
 
 #[cfg(test)]

@@ -59,14 +59,11 @@ impl UnitName {
         })
     }
 
+    /// Whether it is a template or an instance of one.
     pub fn kind(&self) -> Kind
         ensures { result ≡ kind_of (instance_of self.now) }
     {
-        match self.instance() {
-            None => Kind::Plain,
-            Some([]) => Kind::Template,
-            Some(_) => Kind::Instance,
-        }
+        kind_in(self.text())
     }
 
     /// What stands after the last dot.
@@ -104,6 +101,17 @@ impl UnitName {
                 text: text_with_instance(alloc, self.text(), instance)?,
             }),
         }
+    }
+}
+
+/// The kind of the unit name that has this text. Of a text that is none, whether it looks like an instance or a template; takes no memory.
+pub fn kind_in(text: &[u8]) -> Kind
+    ensures { result ≡ kind_of (instance_of text.now) }
+{
+    match instance_in(text) {
+        None => Kind::Plain,
+        Some([]) => Kind::Template,
+        Some(_) => Kind::Instance,
     }
 }
 
