@@ -25,3 +25,5 @@ pub mod Grammar
 pub mod Changed
 pub mod Differences
 pub mod Leads
+pub mod Belongings
+pub mod Listings

@@ -3,6 +3,7 @@ pub mod Values
 pub mod Links
 pub mod Trees
 pub mod Pieces
+pub mod Belonging
 pub mod Differences
 pub mod Shape
 pub mod EntryLines

@@ -3,11 +3,13 @@ ghost use Rattle.std.specs.Prelude.{◌≡◌};
 ghost use Rattle.std.specs.List.{after_last};
 ghost use Rattle.unit_paths.specs.Paths.{is_slash};
 ghost use Rattle.unit_paths.specs.Slots.{slot_of};
+ghost use Rattle.std.specs.Option.{option_copied};
 ghost use Rattle.link_tree.specs.Links.{is_of_scope, is_named, belongs};
+ghost use Rattle.link_tree.specs.Belonging.{may_belong};
 
 use crate::entry::{Entry, is_null_link};
-use unit_name::{Kind, UnitName};
-use unit_paths::{Place, Scope, Slot, Target, TreePath};
+use unit_name::{Kind, UnitName, kind_in};
+use unit_paths::{Place, Scope, Slot, Target, TreePath, is_null_target};
 
 /// Whether a path is the slot of a unit or of a dependency in the scope.
 fn is_of_scope(scope: Scope, path: &TreePath) -> bool
@@ -24,8 +26,8 @@ fn is_of_scope(scope: Scope, path: &TreePath) -> bool
     }
 }
 
-/// What stands after the last slash, or all where there is none.
-fn last_part(target: &[u8]) -> &[u8]
+/// What of a target stands after its last slash, or all where there is none.
+pub fn last_part(target: &[u8]) -> &[u8]
     ensures { result.now ≡ after_last is_slash target.now }
 {
     for i in (0..target.len()).rev() {
@@ -36,18 +38,35 @@ fn last_part(target: &[u8]) -> &[u8]
     target
 }
 
+/// Whether what stands at a path is a link of the scope, and none to `/dev/null`.
+pub(crate) fn may_belong(scope: Scope, path: &TreePath, entry: Option<&Entry>) -> bool
+    ensures { result ≡ may_belong scope path.now (option_copied entry.entry) }
+{
+    match entry {
+        Some(Entry::Link(target)) => is_of_scope(scope, path) && !is_null_target(path, target),
+        _ => false,
+    }
+}
+
 /// Whether a link has this name, or its target ends with it after its last slash, unless the name is an instance's.
-fn is_named(name: &UnitName, path: &TreePath, target: &Target) -> bool
+fn is_named(name: &[u8], path: &TreePath, target: &Target) -> bool
     ensures { result ≡ is_named name.now path.now target.now }
 {
-    path.file_name() == name.text()
-        || (name.kind() != Kind::Instance && last_part(target.text()) == name.text())
+    path.file_name() == name
+        || (kind_in(name) != Kind::Instance && last_part(target.text()) == name)
 }
 
 /// Whether what stands at a path is a link of the scope that belongs to a name, as `systemctl disable` removes it: its own file name is the name; or,
 /// where that is no instance's, its target ends with the name after its last slash. A link to `/dev/null` belongs to none, nor does a file.
-#[tactic(auto, unfolding(crate::specs::Links::belongs))]
 pub fn belongs(scope: Scope, name: &UnitName, path: &TreePath, entry: &Entry) -> bool
+    ensures { result ≡ belongs scope name.now path.now entry.now }
+{
+    text_belongs(scope, name.text(), path, entry)
+}
+
+/// The same of any text.
+#[tactic(auto, unfolding(crate::specs::Links::belongs))]
+pub(crate) fn text_belongs(scope: Scope, name: &[u8], path: &TreePath, entry: &Entry) -> bool
     ensures { result ≡ belongs scope name.now path.now entry.now }
 {
     match entry {

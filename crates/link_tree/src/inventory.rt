@@ -16,6 +16,7 @@ use crate::entry_line::{EntryLine, line_of};
 use crate::inventory_fault::{InventoryError, InventoryFault};
 use crate::pending::{PendingEntry, insert_all, most_pending};
 use crate::tree::Tree;
+use crate::tree_part::TreePart;
 use byte_streams::{Line, ReadError, Source, read_byte, read_bytes, read_line, skip_prefix};
 use std::alloc::{AllocError, Global};
 use std::mem;
@@ -45,15 +46,19 @@ pub fn read_inventory<S: Source>(alloc: Global, source: &mut S) -> Result<Tree, 
     if let Err(e) = read_header(source) {
         return Err(in_entry(0, e));
     }
-    read_entries(alloc, source)
+    match read_entries(alloc, source) {
+        Ok(part) => Ok(Tree::of(alloc, part)?),
+        Err(e) => Err(e),
+    }
 }
 
-fn read_entries<S: Source>(alloc: Global, source: &mut S) -> Result<Tree, InventoryError>
+/// The entries up to the line `end`. No links are listed by their names while they come.
+fn read_entries<S: Source>(alloc: Global, source: &mut S) -> Result<TreePart, InventoryError>
     ensures tree { ReadsTree (S.left source.old) (S.left source.new) result (entries_at MAX_ENTRIES 1 map.empty) }
     ensures stops { StopsInEntry (λ number taken. (1 ≤ number) × (entries_at MAX_ENTRIES 1 map.empty taken ≡ Err (InventoryFault.Truncated, number))) result (S.left source.old) (S.left source.new) }
     ensures counters { AccountsTree result (S.counters source.old) (S.counters source.new) }
 {
-    let mut tree = Tree::empty(alloc)?;
+    let mut tree = TreePart::empty(alloc)?;
     let mut pending = Vec::new(alloc);
     let mut number = 1;
     'entries: loop {
@@ -77,7 +82,7 @@ fn read_entries<S: Source>(alloc: Global, source: &mut S) -> Result<Tree, Invent
 /// Adds an entry to the pending ones if it stands at a slot, and else to the tree, after the pending ones.
 fn add_entry(
     alloc: Global,
-    tree: &mut Tree,
+    tree: &mut TreePart,
     pending: &mut Vec<PendingEntry>,
     path: TreePath,
     entry: Entry,
@@ -114,7 +119,7 @@ fn add_entry(
 /// Puts the pending entries into the tree.
 fn flush(
     alloc: Global,
-    tree: &mut Tree,
+    tree: &mut TreePart,
     pending: &mut Vec<PendingEntry>,
 ) -> Result<(), InventoryError>
     requires slots { All IsAtSlot pending.old.items }
@@ -131,7 +136,7 @@ fn flush(
 }
 
 #[tactic(auto, unfolding(crate::specs::Inventory::placed))]
-fn place(tree: &mut Tree, path: TreePath, entry: Entry) -> Result<(), ReadError<InventoryFault>>
+fn place(tree: &mut TreePart, path: TreePath, entry: Entry) -> Result<(), ReadError<InventoryFault>>
     ensures { Gives (λ _. tree.new) result (placed tree.old (path, entry)) }
 {
     if tree.get(&path).is_some() {

@@ -10,14 +10,16 @@ mod inventory;
 mod inventory_fault;
 mod iter;
 mod laws;
+mod names;
 mod pending;
 mod piece;
 mod pieces;
 mod placed_entry;
 mod tree;
+mod tree_part;
 mod writing;
 
-pub use belonging::belongs;
+pub use belonging::{belongs, last_part};
 pub use byte_streams::{
     Counters, FromRead, Line, MAX_INTERRUPTIONS, ReadError, ReadFault, Sink, Source, Stop, ToWrite,
     read_line,
@@ -34,6 +36,7 @@ pub use laws::{
 };
 pub use placed_entry::PlacedEntry;
 pub use tree::{Tree, push_decimal};
+pub use tree_part::TreePart;
 pub use unit_paths::{
     Dependency, MAX_PATH, PathError, Place, Scope, Slot, Target, TargetError, TreePath, canonical,
     links_lead_to_paths, paths_lie_beneath,

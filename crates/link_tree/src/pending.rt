@@ -5,7 +5,7 @@ ghost use Rattle.link_tree.specs.Pending.{AreRising, IsAtSlot, IsInserted, earli
 ghost use Rattle.link_tree.specs.declared.pending.TheConstants.{LEAST_PENDING, MOST_PENDING};
 
 use crate::entry::Entry;
-use crate::tree::Tree;
+use crate::tree_part::TreePart;
 use std::alloc::AllocError;
 use unit_paths::TreePath;
 
@@ -63,7 +63,7 @@ pub(crate) fn most_pending(entries: usize) -> usize
 
 /// Puts the pending entries into the tree, and answers the number of the first whose path was taken when its turn came.
 pub(crate) fn insert_all(
-    tree: &mut Tree,
+    tree: &mut TreePart,
     mut pending: Vec<PendingEntry>,
 ) -> Result<Option<u32>, AllocError>
     requires slots { All IsAtSlot pending.items }

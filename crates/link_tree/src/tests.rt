@@ -1,5 +1,6 @@
 mod entries;
 mod large;
+mod names;
 mod reading;
 mod sharing;
 mod writing;

@@ -1,12 +1,12 @@
 //! Trees of entries.
 ghost use Rattle.std.specs.Prelude.{◌≡◌, ◌++◌, All, IfOk, OnOk, OnErr, IsTrue, true, false, is_some, Some, ◌↔◌, ℕ, List, IsPermutation};
-ghost use Rattle.std.specs.List.{list_any};
 ghost use Rattle.std.specs.Map.Iter.{ShowsInOrder, deref_pair};
-ghost use Rattle.std.specs.Option.{option_copied};
+ghost use Rattle.std.specs.Option.{option_copied, option_map};
 ghost use Rattle.std.specs.Fmt.{decimal};
 ghost use Rattle.std.specs.FinMap as map;
 ghost use Rattle.unit_paths.specs.Slots.{is_slot};
-ghost use Rattle.unit_paths.specs.Shape.{is_beneath};
+ghost use Rattle.unit_paths.specs.declared.place.Scope.TheVariants as scopes;
+ghost use Rattle.link_tree.specs.Belonging.{belonging, IsListed};
 ghost use Rattle.link_tree.specs.Shape.{fits_at, is_crowded, IsTree};
 ghost use Rattle.link_tree.specs.Trees.{AreFrom, set_entry, after_changes};
 ghost use Rattle.link_tree.specs.Pieces.{joined, AreInOrder};
@@ -14,24 +14,27 @@ ghost use Rattle.link_tree.specs.Pieces.{joined, AreInOrder};
 use crate::change::{Change, copy_of};
 use crate::entry::Entry;
 use crate::iter::Iter;
+use crate::names::{names_after, names_of};
 use crate::piece::Piece;
-use crate::pieces::Pieces;
 use crate::placed_entry::PlacedEntry;
+use crate::tree_part::TreePart;
+use name_lists::NameLists;
 use std::alloc::{AllocError, Global};
 use std::marker::Model;
-use std::sync::Arc;
-use unit_paths::TreePath;
+use unit_name::UnitName;
+use unit_paths::{Scope, TreePath};
 
-/// Entries by their paths, none beneath another and none where slots don't allow it. They lie in pieces, in the byte order of the
-/// paths, and copies share these: a change copies the piece in which it is made, and no other. Contracts see a finite map.
+/// Entries by their paths, none beneath another and none where slots don't allow it, and of each scope the links that belong to
+/// each name. All of it lies in parts that copies share: a change copies few of them. Contracts see a finite map.
 #[derive(Debug, Drop)]
 pub struct Tree {
-    pieces: Arc<Pieces>,
+    part: TreePart,
+    etc: NameLists,
+    run: NameLists,
 }
 
 impl Model for Tree {
     ghost use Rattle.std.specs.FinMap as map;
-    ghost use Rattle.std.specs.Arc.{arc_value};
     ghost use Rattle.link_tree.specs.Trees.{path_cmp};
     ghost use Rattle.link_tree.specs.Values.{coded_path, coded_entry};
     ghost use Rattle.link_tree.specs.declared.entry.Entry.{Entry};
@@ -40,11 +43,12 @@ impl Model for Tree {
 
     ghost coded = { map.code coded_path coded_entry };
 
-    ghost view = { λ tree. arc_value tree.pieces };
+    ghost view = { λ tree. tree.part };
 
-    ghost use Rattle.link_tree.specs.Shape.{IsTree};
+    ghost use Rattle.unit_paths.specs.declared.place.Scope.TheVariants as scopes;
+    ghost use Rattle.link_tree.specs.Belonging.{IsListed};
 
-    ghost invariant = { λ tree. IsTree (arc_value tree.pieces) };
+    ghost invariant = { λ tree. IsListed scopes.Etc tree.part tree.etc × IsListed scopes.Run tree.part tree.run };
 }
 
 impl Tree {
@@ -52,23 +56,62 @@ impl Tree {
     pub fn empty(alloc: Global) -> Result<Tree, AllocError>
         ensures { IfOk result (λ tree. tree ≡ map.empty) }
     {
-        Ok(Tree {
-            pieces: Arc::new(alloc, Pieces::none(alloc))?,
-        })
+        Tree::of(alloc, TreePart::empty(alloc)?)
+    }
+
+    /// The tree of these entries: its links are listed by their names.
+    pub fn of(alloc: Global, part: TreePart) -> Result<Tree, AllocError>
+        ensures { IfOk result (λ tree. tree ≡ part) }
+    {
+        let etc = names_of(alloc, &part, Scope::Etc)?;
+        let run = names_of(alloc, &part, Scope::Run)?;
+        Ok(Tree { part, etc, run })
+    }
+
+    /// The entries.
+    pub fn entries(&self) -> &TreePart
+        ensures { result.now ≡ self.now }
+    {
+        &self.part
+    }
+
+    /// The paths of the links of the scope that belong to the name, as `systemctl disable` removes them, in byte order. Takes no memory,
+    /// and goes through no entries: they are looked up by the name.
+    pub fn belonging(&self, scope: Scope, name: &UnitName) -> &[TreePath]
+        ensures { result.now ≡ belonging scope name.now self.now }
+    {
+        self.names(scope).get(name.text())
+    }
+
+    /// The links of a scope by their names.
+    fn names(&self, scope: Scope) -> &NameLists
+        ensures { IsListed scope self.now result.now }
+    {
+        match scope {
+            Scope::Etc => &self.etc,
+            Scope::Run => &self.run,
+        }
     }
 
     /// What stands at the path.
     pub fn get(&self, path: &TreePath) -> Option<&Entry>
         ensures { option_copied result ≡ map.get self.now path.now }
     {
-        self.pieces.get(path)
+        self.part.get(path)
+    }
+
+    /// What stands at the path, with the path, for another tree to share.
+    pub fn placed(&self, path: &TreePath) -> Option<&PlacedEntry>
+        ensures { option_copied result ≡ option_map (λ entry. (path.now, entry)) (map.get self.now path.now) }
+    {
+        self.part.placed(path)
     }
 
     /// How many entries there are.
     pub fn len(&self) -> usize
         ensures { result ≡ map.len self.now }
     {
-        self.pieces.len()
+        self.part.len()
     }
 
     /// Whether there is none.
@@ -83,7 +126,7 @@ impl Tree {
         ensures entries { IsPermutation result (map.entries self.now) }
         ensures runs { ShowsInOrder (deref_pair {K = List ℕ} {X = Entry}) }
     {
-        Iter::new(self.pieces())
+        self.part.iter()
     }
 
     /// An equal tree, which shares its parts with this one and takes no memory.
@@ -91,7 +134,9 @@ impl Tree {
         ensures { IfOk result (λ tree. tree ≡ self.now) }
     {
         Ok(Tree {
-            pieces: self.pieces.clone()?,
+            part: self.part.share()?,
+            etc: self.etc.clone()?,
+            run: self.run.clone()?,
         })
     }
 
@@ -106,7 +151,7 @@ impl Tree {
     pub fn shape(&self)
         ensures { IsTree self.now }
     {
-        let _pieces = &self.pieces;
+        self.part.shape();
     }
 
     /// Puts an entry at a slot in place of what stands there, or with `None` takes that away.
@@ -134,7 +179,7 @@ impl Tree {
         ensures ok { OnOk result (self.new ≡ set_entry self.old slot.now (map.get other.now slot.now)) }
         ensures err { OnErr result (self.new ≡ self.old) }
     {
-        let Some(placed) = other.pieces.placed(slot) else {
+        let Some(placed) = other.placed(slot) else {
             return self.remove(slot);
         };
         self.share_in(placed)
@@ -184,7 +229,7 @@ impl Tree {
         ensures entries { joined result.now ≡ map.entries self.now }
         ensures order { AreInOrder result.now }
     {
-        self.pieces.pieces()
+        self.part.pieces()
     }
 
     /// Puts an entry at the path, and answers whether another stood there.
@@ -195,11 +240,11 @@ impl Tree {
         ensures stood { IfOk result (λ stood. stood ≡ is_some (map.get self.old path)) }
         ensures err { OnErr result (self.new ≡ self.old) }
     {
-        let placed = PlacedEntry::new(self.pieces.allocator(), path, entry)?;
+        let placed = PlacedEntry::new(self.part.allocator(), path, entry)?;
         self.put(placed)
     }
 
-    /// The same, where the entry has its path with it.
+    /// The same, where the entry has its path with it. The next lists of names are made first: after the entry is put, nothing fails.
     fn put(&mut self, placed: PlacedEntry) -> Result<bool, AllocError>
         requires fits { fits_at placed.0 placed.1 ≡ true }
         requires apart { is_crowded self.old placed.0 ≡ false }
@@ -207,53 +252,60 @@ impl Tree {
         ensures stood { IfOk result (λ stood. stood ≡ is_some (map.get self.old placed.0)) }
         ensures err { OnErr result (self.new ≡ self.old) }
     {
-        Arc::make_mut(&mut self.pieces)?.put(placed)
+        let (etc, run) = self.names_after(placed.path(), Some(placed.entry()))?;
+        let stood = self.part.put(placed)?;
+        self.etc = etc;
+        self.run = run;
+        Ok(stood)
     }
 
-    /// Takes the entry at the path away.
+    /// Takes the entry at the path away. As with `put`, nothing fails after that.
     fn remove(&mut self, path: &TreePath) -> Result<(), AllocError>
         ensures ok { OnOk result (self.new ≡ map.remove self.old path.now) }
         ensures err { OnErr result (self.new ≡ self.old) }
     {
-        Arc::make_mut(&mut self.pieces)?.remove(path)
+        let (etc, run) = self.names_after(path, None)?;
+        self.part.remove(path)?;
+        self.etc = etc;
+        self.run = run;
+        Ok(())
+    }
+
+    /// The links of the two scopes by their names, when what stands at a path has changed.
+    fn names_after(
+        &self,
+        path: &TreePath,
+        after: Option<&Entry>,
+    ) -> Result<(NameLists, NameLists), AllocError>
+        ensures etc { IfOk result (λ next. IsListed scopes.Etc (set_entry self.now path.now (option_copied after.entry)) next.0) }
+        ensures run { IfOk result (λ next. IsListed scopes.Run (set_entry self.now path.now (option_copied after.entry)) next.1) }
+    {
+        let alloc = self.part.allocator();
+        let before = self.get(path);
+        let etc = names_after(
+            alloc,
+            self.names(Scope::Etc),
+            Scope::Etc,
+            path,
+            before,
+            after,
+        )?;
+        let run = names_after(
+            alloc,
+            self.names(Scope::Run),
+            Scope::Run,
+            path,
+            before,
+            after,
+        )?;
+        Ok((etc, run))
     }
 
     /// Whether an entry lies beneath the path, or the path beneath an entry.
     pub(crate) fn is_crowded(&self, path: &TreePath) -> Result<bool, AllocError>
         ensures { IfOk result (λ crowded. crowded ≡ is_crowded self.now path.now) }
     {
-        self.shape();
-        Ok(self.has_above(path)? || self.has_beneath(path)?)
-    }
-
-    /// Whether the path lies beneath an entry: each directory above it is looked up.
-    fn has_above(&self, path: &TreePath) -> Result<bool, AllocError>
-        requires { IsTree self.now }
-        ensures { IfOk result (λ found. found ≡ list_any (is_beneath path.now) (map.keys self.now)) }
-    {
-        let path = path.copy()?;
-        let mut above = path.into_parent();
-        'above: while let Some(dir) = above {
-            if self.get(&dir).is_some() {
-                return Ok(true);
-            }
-            above = dir.into_parent();
-        }
-        Ok(false)
-    }
-
-    /// Whether an entry lies beneath the path: the first that could is looked up.
-    fn has_beneath(&self, path: &TreePath) -> Result<bool, AllocError>
-        requires { IsTree self.now }
-        ensures { IfOk result (λ found. found ≡ list_any (λ other. is_beneath other path.now) (map.keys self.now)) }
-    {
-        let Some(first) = path.first_beneath()? else {
-            return Ok(false);
-        };
-        match self.pieces.first_from(&first) {
-            Some(item) => Ok(item.path().is_beneath(path)),
-            None => Ok(false),
-        }
+        self.part.is_crowded(path)
     }
 }
 

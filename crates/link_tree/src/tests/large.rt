@@ -5,6 +5,7 @@ ghost use Rattle.std.specs.FinMap as map;
 ghost use Rattle.unit_paths.specs.Slots.{is_slot};
 ghost use Rattle.link_tree.specs.Trees.{AreFrom};
 
+use crate::tests::names::{are_all_of_each, relink};
 use crate::{
     Change, Contents, Entry, Slot, TargetError, ToWrite, Tree, TreePath, push_decimal,
     write_before_inventory, write_inventory,
@@ -536,5 +537,18 @@ fn a_text_of_over_a_gibibyte_is_written(rt: HostRuntime) -> Result<(), Fail> {
     assert_eq!(rt; len, 1_073_741_825 + 20 + 4);
     ample!(push_decimal(&mut text, 7), AllocError)?;
     assert_eq!(rt; text.len(), 1_073_741_826);
+    Ok(())
+}
+
+#[test]
+fn lists_follow_a_thousand_changes(rt: HostRuntime) -> Result<(), Fail> {
+    let alloc = rt.alloc();
+    let mut tree = ample!(Tree::empty(alloc), AllocError)?;
+    for number in 0..1000u32 {
+        ample!(relink(alloc, &mut tree, number), AllocError)?;
+        if number % 10 == 9 {
+            assert!(rt; ample!(are_all_of_each(alloc, &tree), AllocError)?);
+        }
+    }
     Ok(())
 }
