@@ -1,6 +1,5 @@
 -- What several keys look at, gathered from a tree.
 use Rattle.std.proofs.Common.{◌≡◌, ℕ, Bool, true, false, cond, List, [], ◌∷◌, ◌++◌, map as list_map, All, Contains, Option, Some, None, refl, sym, ap, ◌∙◌, inl, inr}
-use Rattle.std.specs.Prelude.{not}
 use Rattle.std.specs.FinMap as map
 use Rattle.std.specs.List.{filter}
 use Rattle.std.proofs.lemmas.Bool.{cases_Bool, true≢false, or_left, or_right}
@@ -15,7 +14,8 @@ use Rattle.footprint.specs.declared.reading.Seen.{Seen}
 use Rattle.footprint.specs.Keys.{Chosen, is_cell, selects, any_selects, chosen_at, those, part, shown, seen}
 use Rattle.footprint.specs.KeyLaws.{get-part, get-those}
 use Rattle.footprint.specs.Readings.{observed}
-use Rattle.footprint.specs.Seeing.{SeesTheSame}
+use Rattle.footprint.specs.declared.key.Key.TheVariants.{Cell, Marked, Presets, Links}
+use Rattle.footprint.specs.Seeing.{SeesTheSame, walks}
 
 -- what is chosen among more that is chosen is what is chosen of all
 chosen_again : (chosen more : Chosen) (path : List ℕ) (there : Option Entry) → ((entry : Entry) → chosen path entry ≡ true → more path entry ≡ true)
@@ -39,43 +39,45 @@ part_of_those key more t wider = same_tree _ _ (λ path.
     ∙ chosen_again (selects key) more path (map.get t path) (wider path)
     ∙ sym (get-part key t path))
 
--- those of the keys that are no cells
-abbrev pub sets_of : List Key → List Key
-sets_of keys = filter (λ key. not (is_cell key)) keys
+-- those of the keys for which all entries are gone through
+abbrev pub walkers_of : List Key → List Key
+walkers_of keys = filter walks keys
 
 module _ (path : List ℕ) (entry : Entry) where
-  -- what a key that is no cell looks at, one of them looks at
+  -- what such a key looks at, one of them looks at
   abbrev IsSelected : List Key → Key → Type 0
-  IsSelected keys key = is_cell key ≡ false → selects key path entry ≡ true → any_selects (sets_of keys) path entry ≡ true
+  IsSelected keys key = walks key ≡ true → selects key path entry ≡ true → any_selects (walkers_of keys) path entry ≡ true
 
-  one_more : (kept : Bool) (key : Key) (sets : List Key) → any_selects sets path entry ≡ true → any_selects (cond kept (key ∷ sets) sets) path entry ≡ true
-  one_more true key sets here = or_right (selects key path entry) (any_selects sets path entry) here
-  one_more false key sets here = here
+  one_more : (kept : Bool) (key : Key) (walkers : List Key) → any_selects walkers path entry ≡ true → any_selects (cond kept (key ∷ walkers) walkers) path entry ≡ true
+  one_more true key walkers here = or_right (selects key path entry) (any_selects walkers path entry) here
+  one_more false key walkers here = here
 
   all_selected : (keys : List Key) → All (IsSelected keys) keys
   all_selected [] = All-nil (IsSelected [])
   all_selected (key ∷ keys) =
       All-cons (IsSelected (key ∷ keys)) key keys
-      (λ other here. ap (λ b. any_selects (cond (not b) (key ∷ sets_of keys) (sets_of keys)) path entry) other ∙ or_left (selects key path entry) (any_selects (sets_of keys) path entry) here)
-      (All-weaker (IsSelected keys) (IsSelected (key ∷ keys)) (λ k selected other here. one_more (not (is_cell key)) key (sets_of keys) (selected other here)) keys (all_selected keys))
+      (λ walking here. ap (λ b. any_selects (cond b (key ∷ walkers_of keys) (walkers_of keys)) path entry) walking ∙ or_left (selects key path entry) (any_selects (walkers_of keys) path entry) here)
+      (All-weaker (IsSelected keys) (IsSelected (key ∷ keys)) (λ k selected walking here. one_more (walks key) key (walkers_of keys) (selected walking here)) keys (all_selected keys))
 
--- Keys see the same of what those among them look at that are no cells,
-pub gathered_shows : (keys : List Key) (t : Entries) → All (SeesTheSame (those (any_selects (sets_of keys)) t) t) keys
+-- Keys see the same of what those among them look at for which all entries are gone through,
+pub gathered_shows : (keys : List Key) (t : Entries) → All (SeesTheSame (those (any_selects (walkers_of keys)) t) t) keys
 gathered_shows keys t =
-    All-weaker (Contains keys) (SeesTheSame (those (any_selects (sets_of keys)) t) t)
-    (λ key among other. part_of_those key (any_selects (sets_of keys)) t (λ path entry here. All-contains (IsSelected path entry keys) keys key (all_selected path entry keys) among other here))
+    All-weaker (Contains keys) (SeesTheSame (those (any_selects (walkers_of keys)) t) t)
+    (λ key among walking. part_of_those key (any_selects (walkers_of keys)) t (λ path entry here. All-contains (IsSelected path entry keys) keys key (all_selected path entry keys) among walking here))
     keys (All-contains_itself keys)
 
 -- and of the tree itself.
 pub tree_shows : (keys : List Key) (t : Entries) → All (SeesTheSame t t) keys
-tree_shows keys t = All-weaker (Contains keys) (SeesTheSame t t) (λ key among other. refl) keys (All-contains_itself keys)
+tree_shows keys t = All-weaker (Contains keys) (SeesTheSame t t) (λ key among walking. refl) keys (All-contains_itself keys)
 
-pub no_cells : (keys : List Key) → All (λ key. is_cell key ≡ false) (sets_of keys)
-no_cells keys = All-weaker (λ key. not (is_cell key) ≡ true) (λ key. is_cell key ≡ false) (λ key kept. other (is_cell key) kept) (sets_of keys) (filter_passes (λ key. not (is_cell key)) keys)
+pub no_cells : (keys : List Key) → All (λ key. is_cell key ≡ false) (walkers_of keys)
+no_cells keys = All-weaker (λ key. walks key ≡ true) (λ key. is_cell key ≡ false) (λ key. walks_no_cell key) (walkers_of keys) (filter_passes walks keys)
   where
-    other : (b : Bool) → not b ≡ true → b ≡ false
-    other true kept = sym kept
-    other false kept = refl
+    walks_no_cell : (key : Key) → walks key ≡ true → is_cell key ≡ false
+    walks_no_cell (Cell path) h = sym h
+    walks_no_cell (Marked scope name) h = refl
+    walks_no_cell Presets h = refl
+    walks_no_cell Links h = refl
 
 -- one key more is read
 pub one_read : (t : Entries) (reading longer all : List Observation) (key : Key) (here : Seen) (left rest : List Key) → longer ≡ reading ++ record { key = key; seen = here } ∷ [] → here ≡ seen key t → left ≡ key ∷ rest

@@ -4,6 +4,7 @@ pub mod Alike
 pub mod KeySets
 pub mod Outcomes
 pub mod Merged
+pub mod LookedUp
 pub mod Gathered
 pub mod Carried
 pub mod Turns

@@ -3,6 +3,7 @@ ghost use Rattle.std.specs.Prelude.{◌≡◌, IfOk};
 ghost use Rattle.unit_paths.specs.Slots.{slot_of};
 ghost use Rattle.footprint.specs.Keys.{is_cell, is_preset, is_dependency, selects};
 ghost use Rattle.footprint.specs.Order.{rank};
+ghost use Rattle.footprint.specs.Seeing.{is_marked, walks};
 
 use link_tree::{Entry, Scope, Slot, TreePath, belongs};
 use std::alloc::AllocError;
@@ -52,6 +53,20 @@ impl Key {
         ensures { result ≡ is_cell self.now }
     {
         matches!(self, Key::Cell(_))
+    }
+
+    /// Whether it looks at the links that belong to a name, which are looked up.
+    pub(crate) fn is_marked(&self) -> bool
+        ensures { result ≡ is_marked self.now }
+    {
+        matches!(self, Key::Marked(..))
+    }
+
+    /// Whether all entries are gone through for it.
+    pub(crate) fn walks(&self) -> bool
+        ensures { result ≡ walks self.now }
+    {
+        matches!(self, Key::Presets | Key::Links)
     }
 
     /// Where keys of its kind come among others.

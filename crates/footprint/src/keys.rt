@@ -8,7 +8,7 @@ ghost use Rattle.footprint.specs.Seeing.{SeesTheSame};
 
 use crate::key::Key;
 use crate::reading::{Observation, Reading};
-use link_tree::Tree;
+use link_tree::{Tree, TreePart};
 use load_path::Cells;
 use smallvec::SmallVec;
 use std::alloc::{AllocError, Global};
@@ -124,7 +124,7 @@ impl KeySet {
     }
 
     /// What each key sees of a tree, where those that are no cells see the same of what was gathered from it.
-    fn read(self, alloc: Global, tree: &Tree, gathered: &Tree) -> Result<Reading, AllocError>
+    fn read(self, alloc: Global, tree: &Tree, gathered: &TreePart) -> Result<Reading, AllocError>
         requires { All (SeesTheSame gathered.now tree.now) (map.keys self) }
         ensures { IfOk result (λ reading. reading ≡ list_map (observed tree.now) (map.keys self)) }
     {

@@ -9,7 +9,7 @@ ghost use Rattle.footprint.specs.Units.{found_unit};
 use crate::key::Key;
 use crate::keys::Keys;
 use crate::refusal::{Refusal, Subject};
-use link_tree::{Tree, TreePath};
+use link_tree::{Tree, TreePart, TreePath};
 use load_path::{Cells, End, Found, find_into, follow_into};
 use std::alloc::{AllocError, Global};
 use unit_name::UnitName;
@@ -63,7 +63,7 @@ impl Keys {
         alloc: Global,
         tree: &Tree,
         looked: Keys,
-    ) -> Result<Tree, AllocError>
+    ) -> Result<TreePart, AllocError>
         requires { All (λ key. is_cell key ≡ false) looked }
         ensures found { IfOk result (Asks tree.now (entries_of_all looked) self.old self.new) }
         ensures slots { IfOk result StandAtSlots }
@@ -75,7 +75,7 @@ impl Keys {
 
     /// The entries at which a key looks that is no cell. They share their texts with the tree. Adds the key. Fails only where
     /// memory runs out, and then the key may have been added.
-    pub fn entries(&mut self, alloc: Global, tree: &Tree, key: Key) -> Result<Tree, AllocError>
+    pub fn entries(&mut self, alloc: Global, tree: &Tree, key: Key) -> Result<TreePart, AllocError>
         requires { is_cell key ≡ false }
         ensures { IfOk result (Asks tree.now (entries_seen key) self.old self.new) }
     {

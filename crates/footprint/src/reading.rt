@@ -3,7 +3,7 @@ ghost use Rattle.std.specs.Prelude.{◌≡◌, ◌++◌, ◌∷◌, [], IfOk, On
 ghost use Rattle.footprint.specs.Readings.{HoldsIn, IsFirstOther};
 
 use crate::key::Key;
-use link_tree::{Entry, Tree, copy_of};
+use link_tree::{Entry, Tree, TreePart, copy_of};
 use smallvec::{IntoIter, SmallVec};
 use std::alloc::{AllocError, Global};
 use std::marker::Model;
@@ -14,7 +14,7 @@ pub enum Seen {
     /// What stands at the cell.
     Entry(Option<Entry>),
     /// The entries that the key looks at, which all stand at slots.
-    Entries(Tree),
+    Entries(TreePart),
 }
 
 impl Seen {

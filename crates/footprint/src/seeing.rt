@@ -1,17 +1,17 @@
 //! What keys see of trees.
-ghost use Rattle.std.specs.Prelude.{◌≡◌, not, All, IfOk, Some, true, false};
-ghost use Rattle.std.specs.List.{filter};
+ghost use Rattle.std.specs.Prelude.{◌≡◌, not, All, IfOk, OnOk, Some, true, false};
+ghost use Rattle.std.specs.List.{filter, list_any};
 ghost use Rattle.std.specs.FinMap as map;
 ghost use Rattle.footprint.specs.Keys as keys;
 ghost use Rattle.footprint.specs.Keys.{part, is_cell, selects, those, any_selects};
-ghost use Rattle.footprint.specs.Seeing.{AllStand, AllSelected, SeesTheSame};
+ghost use Rattle.footprint.specs.Seeing.{AllStand, AllSelected, SeesTheSame, StandsIn, is_marked, walks, marked_by, taken, taken_all};
 ghost use Rattle.footprint.specs.Readings.{Holds};
 
 use crate::key::Key;
 use crate::keys::Keys;
 use crate::net::copied;
 use crate::reading::{Observation, Seen};
-use link_tree::{Entry, Tree, TreePath};
+use link_tree::{Entry, Tree, TreePart, TreePath};
 use std::alloc::{AllocError, Global};
 
 impl Key {
@@ -19,34 +19,48 @@ impl Key {
     pub(crate) fn seen(&self, alloc: Global, tree: &Tree) -> Result<Seen, AllocError>
         ensures { IfOk result (λ seen. seen ≡ keys.seen self.now tree.now) }
     {
-        self.seen_among(alloc, tree, tree)
+        self.seen_among(alloc, tree, tree.entries())
     }
 
-    /// The same: a cell looks into the tree, another key at what was gathered from it.
+    /// The same: a key that goes through all entries looks at what was gathered from the tree.
     pub(crate) fn seen_among(
         &self,
         alloc: Global,
         tree: &Tree,
-        gathered: &Tree,
+        gathered: &TreePart,
     ) -> Result<Seen, AllocError>
         requires { SeesTheSame gathered.now tree.now self.now }
         ensures { IfOk result (λ seen. seen ≡ keys.seen self.now tree.now) }
     {
         match self {
             Key::Cell(path) => Ok(Seen::Entry(copied(tree.get(path))?)),
-            key => Ok(Seen::Entries(key.entries(alloc, gathered)?)),
+            Key::Marked(..) => Ok(Seen::Entries(self.entries(alloc, tree)?)),
+            key => Ok(Seen::Entries(key.walked(alloc, gathered)?)),
         }
     }
 
     /// The entries of a tree at which a key looks that is no cell; they all stand at slots, and share their texts with the tree.
-    /// Fails only where memory runs out.
-    pub fn entries(&self, alloc: Global, tree: &Tree) -> Result<Tree, AllocError>
+    /// Links that belong to a name are looked up, for others all entries are gone through. Fails only where memory runs out.
+    pub fn entries(&self, alloc: Global, tree: &Tree) -> Result<TreePart, AllocError>
         requires { is_cell self.now ≡ false }
         ensures { IfOk result (λ found. found ≡ part self.now tree.now) }
     {
-        let mut found = Tree::empty(alloc)?;
-        let mut entries = tree.iter();
-        while let Some(placed) = entries.next_placed() {
+        if !self.is_marked() {
+            return self.walked(alloc, tree.entries());
+        }
+        let mut keys = Keys::none(alloc);
+        keys.push(self.copy()?)?;
+        keys.looked_up(alloc, tree)
+    }
+
+    /// The entries at which a key looks that is no cell: all of these are gone through.
+    fn walked(&self, alloc: Global, entries: &TreePart) -> Result<TreePart, AllocError>
+        requires { is_cell self.now ≡ false }
+        ensures { IfOk result (λ found. found ≡ part self.now entries.now) }
+    {
+        let mut found = TreePart::empty(alloc)?;
+        let mut left = entries.iter();
+        while let Some(placed) = left.next_placed() {
             if self.selects(placed.path(), placed.entry()) {
                 found.share_in(placed)?;
             }
@@ -63,14 +77,34 @@ impl Keys {
         self.as_slice().iter().any(|key| key.selects(path, entry))
     }
 
-    /// The entries of a tree at which one of the keys looks, none of which is a cell.
-    pub(crate) fn entries_of(&self, alloc: Global, tree: &Tree) -> Result<Tree, AllocError>
+    /// Whether one of the keys doesn't look at the links that belong to a name.
+    fn any_other(&self) -> bool
+        ensures { result ≡ list_any (λ key. not (is_marked key)) self.now }
+    {
+        self.as_slice().iter().any(|key| !key.is_marked())
+    }
+
+    /// The entries of a tree at which one of the keys looks, none of which is a cell. Where all of them look at the links that belong to
+    /// a name, these are looked up.
+    pub(crate) fn entries_of(&self, alloc: Global, tree: &Tree) -> Result<TreePart, AllocError>
         requires { All (λ key. is_cell key ≡ false) self.now }
         ensures { IfOk result (λ found. found ≡ those (any_selects self.now) tree.now) }
     {
-        let mut found = Tree::empty(alloc)?;
-        let mut entries = tree.iter();
-        while let Some(placed) = entries.next_placed() {
+        if self.any_other() {
+            self.walked(alloc, tree.entries())
+        } else {
+            self.looked_up(alloc, tree)
+        }
+    }
+
+    /// The same of these entries, all of which are gone through.
+    fn walked(&self, alloc: Global, entries: &TreePart) -> Result<TreePart, AllocError>
+        requires { All (λ key. is_cell key ≡ false) self.now }
+        ensures { IfOk result (λ found. found ≡ those (any_selects self.now) entries.now) }
+    {
+        let mut found = TreePart::empty(alloc)?;
+        let mut left = entries.iter();
+        while let Some(placed) = left.next_placed() {
             if self.any_selects(placed.path(), placed.entry()) {
                 found.share_in(placed)?;
             }
@@ -80,34 +114,89 @@ impl Keys {
 }
 
 impl Keys {
-    /// Those of the keys that are no cells.
-    fn sets(&self, alloc: Global) -> Result<Keys, AllocError>
-        ensures { IfOk result (λ sets. sets ≡ filter (λ key. not (is_cell key)) self.now) }
+    /// The links that belong to the names of the keys.
+    fn looked_up(&self, alloc: Global, tree: &Tree) -> Result<TreePart, AllocError>
+        requires { All (λ key. is_marked key ≡ true) self.now }
+        ensures { IfOk result (λ found. found ≡ those (any_selects self.now) tree.now) }
     {
-        let mut sets = Keys::none(alloc);
+        let mut found = TreePart::empty(alloc)?;
         for key in self.as_slice() {
-            if !key.is_cell() {
-                sets.push(key.copy()?)?;
-            }
+            self.take_marked(&mut found, tree, key)?;
         }
-        Ok(sets)
+        Ok(found)
     }
 
-    /// A tree in which the keys that are no cells see what they see in this one. Where there are several, it has but the entries at
-    /// which one of them looks, so that the whole tree is walked once for all of them.
-    pub(crate) fn gathered(&self, alloc: Global, tree: &Tree) -> Result<Tree, AllocError>
+    /// Adds the links that belong to the name of one of the keys.
+    fn take_marked(&self, found: &mut TreePart, tree: &Tree, key: &Key) -> Result<(), AllocError>
+        requires { All (λ key. is_marked key ≡ true) self.now }
+        ensures { OnOk result (found.new ≡ taken_all (any_selects self.now) tree.now (marked_by key.now tree.now) found.old) }
+    {
+        match key {
+            Key::Marked(scope, name) => self.take_all(found, tree, tree.belonging(*scope, name)),
+            _ => Ok(()),
+        }
+    }
+
+    /// Adds what stands at each of the paths.
+    fn take_all(
+        &self,
+        found: &mut TreePart,
+        tree: &Tree,
+        paths: &[TreePath],
+    ) -> Result<(), AllocError>
+        requires { All (λ key. is_marked key ≡ true) self.now }
+        ensures { OnOk result (found.new ≡ taken_all (any_selects self.now) tree.now paths.now found.old) }
+    {
+        for path in paths {
+            self.take(found, tree, path)?;
+        }
+        Ok(())
+    }
+
+    /// Adds what stands at a path, if one of the keys looks at it.
+    fn take(&self, found: &mut TreePart, tree: &Tree, path: &TreePath) -> Result<(), AllocError>
+        requires { All (λ key. is_marked key ≡ true) self.now }
+        ensures { OnOk result (found.new ≡ taken (any_selects self.now) tree.now path.now found.old) }
+    {
+        let Some(placed) = tree.placed(path) else {
+            return Ok(());
+        };
+        if self.any_selects(placed.path(), placed.entry()) {
+            found.share_in(placed)?;
+        }
+        Ok(())
+    }
+}
+
+impl Keys {
+    /// Those of the keys for which all entries are gone through.
+    fn walkers(&self, alloc: Global) -> Result<Keys, AllocError>
+        ensures { IfOk result (λ walkers. walkers ≡ filter walks self.now) }
+    {
+        let mut walkers = Keys::none(alloc);
+        for key in self.as_slice() {
+            if key.walks() {
+                walkers.push(key.copy()?)?;
+            }
+        }
+        Ok(walkers)
+    }
+
+    /// Entries among which the keys that go through all of them see what they see in the tree. Where there are several such keys, these
+    /// are but the entries at which one of them looks, so that the whole tree is walked once for all of them.
+    pub(crate) fn gathered(&self, alloc: Global, tree: &Tree) -> Result<TreePart, AllocError>
         ensures { IfOk result (λ gathered. All (SeesTheSame gathered tree.now) self.now) }
     {
-        let sets = self.sets(alloc)?;
-        if sets.as_slice().len() < 2 {
-            return tree.share();
+        let walkers = self.walkers(alloc)?;
+        if walkers.as_slice().len() < 2 {
+            return tree.entries().share();
         }
-        sets.entries_of(alloc, tree)
+        walkers.walked(alloc, tree.entries())
     }
 }
 
 /// Whether this entry stands at a path.
-fn stands(tree: &Tree, path: &TreePath, entry: &Entry) -> bool
+fn stands(tree: &TreePart, path: &TreePath, entry: &Entry) -> bool
     ensures yes { result ≡ true → (map.get tree.now path.now ≡ Some entry.now) }
     ensures no { (map.get tree.now path.now ≡ Some entry.now) → result ≡ true }
 {
@@ -130,7 +219,7 @@ fn is_there(tree: &Tree, path: &TreePath, entry: &Option<Entry>) -> bool
 }
 
 /// Whether this entry stands at a path, if a key looks at it.
-fn stands_if_selected(tree: &Tree, key: &Key, path: &TreePath, entry: &Entry) -> bool
+fn stands_if_selected(tree: &TreePart, key: &Key, path: &TreePath, entry: &Entry) -> bool
     ensures yes { result ≡ true → selects key.now path.now entry.now ≡ true → map.get tree.now path.now ≡ Some entry.now }
     ensures no { (selects key.now path.now entry.now ≡ true → map.get tree.now path.now ≡ Some entry.now) → result ≡ true }
 {
@@ -141,7 +230,7 @@ fn stands_if_selected(tree: &Tree, key: &Key, path: &TreePath, entry: &Entry) ->
 }
 
 /// Whether all entries of a tree that a key looks at stand in another.
-fn all_stand(tree: &Tree, key: &Key, other: &Tree) -> bool
+fn all_stand(tree: &TreePart, key: &Key, other: &TreePart) -> bool
     ensures yes { result ≡ true → AllStand key.now tree.now other.now }
     ensures no { AllStand key.now tree.now other.now → result ≡ true }
 {
@@ -154,7 +243,7 @@ fn all_stand(tree: &Tree, key: &Key, other: &Tree) -> bool
 }
 
 /// Whether all entries of a tree are such as a key looks at.
-fn all_selected(tree: &Tree, key: &Key) -> bool
+fn all_selected(tree: &TreePart, key: &Key) -> bool
     ensures yes { result ≡ true → AllSelected key.now tree.now }
     ensures no { AllSelected key.now tree.now → result ≡ true }
 {
@@ -166,18 +255,53 @@ fn all_selected(tree: &Tree, key: &Key) -> bool
     true
 }
 
+/// Whether what stands at each of the paths, if a key looks at it, stands in another tree.
+fn each_stands(tree: &Tree, key: &Key, paths: &[TreePath], other: &TreePart) -> bool
+    ensures yes { result ≡ true → All (StandsIn key.now tree.now other.now) paths.now }
+    ensures no { All (StandsIn key.now tree.now other.now) paths.now → result ≡ true }
+{
+    for path in paths {
+        if !stands_as_in(tree, key, path, other) {
+            return false;
+        }
+    }
+    true
+}
+
+/// Whether what stands at a path, if a key looks at it, stands in another tree.
+fn stands_as_in(tree: &Tree, key: &Key, path: &TreePath, other: &TreePart) -> bool
+    ensures yes { result ≡ true → StandsIn key.now tree.now other.now path.now }
+    ensures no { StandsIn key.now tree.now other.now path.now → result ≡ true }
+{
+    match tree.get(path) {
+        Some(entry) => stands_if_selected(other, key, path, entry),
+        None => true,
+    }
+}
+
+/// Whether all entries of a tree that a key looks at stand in another: those that belong to its name are looked up.
+fn all_looked_at_stand(tree: &Tree, key: &Key, other: &TreePart) -> bool
+    ensures yes { result ≡ true → AllStand key.now tree.now other.now }
+    ensures no { AllStand key.now tree.now other.now → result ≡ true }
+{
+    match key {
+        Key::Marked(scope, name) => each_stands(tree, key, tree.belonging(*scope, name), other),
+        _ => all_stand(tree.entries(), key, other),
+    }
+}
+
 /// Whether these are the entries of a tree that a key looks at.
-fn is_part(entries: &Tree, tree: &Tree, key: &Key) -> bool
+fn is_part(entries: &TreePart, tree: &Tree, key: &Key) -> bool
     ensures yes { result ≡ true → (part key.now tree.now ≡ entries.now) }
     ensures no { (part key.now tree.now ≡ entries.now) → result ≡ true }
 {
     if !all_selected(entries, key) {
         return false;
     }
-    if !all_stand(entries, key, tree) {
+    if !all_stand(entries, key, tree.entries()) {
         return false;
     }
-    all_stand(tree, key, entries)
+    all_looked_at_stand(tree, key, entries)
 }
 
 impl Observation {

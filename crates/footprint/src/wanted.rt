@@ -13,7 +13,7 @@ use crate::key::Key;
 use crate::keys::Keys;
 use crate::refusal::Refusal;
 use crate::rules::wanted_at;
-use link_tree::{Tree, TreePath};
+use link_tree::{TreePart, TreePath};
 use std::alloc::{AllocError, Global};
 use std::collections::BTreeMap;
 use std::marker::Model;
@@ -53,7 +53,7 @@ impl WantedLinks {
     }
 
     /// Nothing is to stand where a tree has entries, all of which stand at slots. Fails only where memory runs out.
-    pub fn cleared(alloc: Global, entries: &Tree) -> Result<WantedLinks, AllocError>
+    pub fn cleared(alloc: Global, entries: &TreePart) -> Result<WantedLinks, AllocError>
         requires { StandAtSlots entries.now }
         ensures { IfOk result (λ wanted. wanted ≡ cleared entries.now) }
     {

@@ -3,7 +3,8 @@ ghost use Rattle.std.specs.Prelude.{◌≡◌, ◌++◌, [], map as list_map, If
 ghost use Rattle.footprint.specs.declared.key.Key.TheVariants.{Marked};
 ghost use Rattle.load_path.specs.Search.{with_cell, each_once};
 ghost use Rattle.footprint.specs.Edits.{Carries, CarriesOn};
-ghost use Rattle.footprint.specs.Inquiry.{Asks};
+ghost use Rattle.footprint.specs.Inquiry.{Asks, entries_of_all, giving};
+ghost use Rattle.footprint.specs.Placing.{cleared};
 ghost use Rattle.install_commands.specs.Disable.{with_real, reals_behind, is_itself, with_self, selves_behind, selves_named, reals_named, but_at, disable_command};
 ghost use Rattle.footprint.specs.Commands.{unless_refused};
 ghost use Rattle.install_commands.specs.Disable as disabling;
@@ -200,6 +201,21 @@ fn leave_all(wanted: &mut WantedLinks, kept: &[TreePath])
     }
 }
 
+/// Of the links of the scope that belong to one of the names none is wanted. Adds the keys by which they are looked up.
+fn links_unwanted(
+    alloc: Global,
+    tree: &Tree,
+    scope: Scope,
+    names: &[UnitName],
+    keys: &mut Keys,
+) -> Result<WantedLinks, AllocError>
+    ensures { IfOk result (Asks tree.now (giving (entries_of_all (list_map (Marked scope) names.now)) cleared) keys.old keys.new) }
+{
+    let marks = marks(alloc, scope, names)?;
+    let links = keys.entries_of_all(alloc, tree, marks)?;
+    WantedLinks::cleared(alloc, &links)
+}
+
 /// The links of the scope that belong to one of the names go, but those that are kept stay.
 pub(crate) fn links_removed_but<'a>(
     alloc: Global,
@@ -211,9 +227,7 @@ pub(crate) fn links_removed_but<'a>(
 ) -> Result<(Notices, Result<Edit<'a>, Refusal>), AllocError>
     ensures { IfOk result (λ done. CarriesOn (disabling.links_removed_but scope kept.now named) edit.entry keys.old keys.new done.0 done.1) }
 {
-    let marks = marks(alloc, scope, named.names.as_slice())?;
-    let links = keys.entries_of_all(alloc, edit.tree(), marks)?;
-    let mut wanted = WantedLinks::cleared(alloc, &links)?;
+    let mut wanted = links_unwanted(alloc, edit.tree(), scope, named.names.as_slice(), keys)?;
     leave_all(&mut wanted, kept);
     let done = edit.all_at_once(alloc, &wanted, keys)?;
     Ok((named.notices, done))

@@ -8,7 +8,7 @@ ghost use Rattle.preset_rules.specs.Gathering.{Gathers};
 
 use crate::line::push_rules;
 use crate::rule::Rule;
-use link_tree::{Entry, Slot, Tree, TreePath};
+use link_tree::{Entry, Slot, Tree, TreePart, TreePath};
 use load_path::{Cells, End, follow_entry_into};
 use std::alloc::{AllocError, Global};
 
@@ -22,7 +22,7 @@ pub(crate) fn is_preset(path: &TreePath) -> bool
 }
 
 /// What stands at a preset slot.
-fn preset_at<'a>(presets: &'a Tree, path: &TreePath) -> Option<&'a Entry>
+fn preset_at<'a>(presets: &'a TreePart, path: &TreePath) -> Option<&'a Entry>
     ensures { option_copied result ≡ map.get (presets_of presets.now) path.now }
 {
     if is_preset(path) {
@@ -35,7 +35,7 @@ fn preset_at<'a>(presets: &'a Tree, path: &TreePath) -> Option<&'a Entry>
 /// Adds the rules of the file at a slot, and the cells to which a link there leads.
 pub(crate) fn read_slot(
     alloc: Global,
-    presets: &Tree,
+    presets: &TreePart,
     tree: &Tree,
     path: &TreePath,
     rules: &mut Vec<Rule>,

@@ -7,7 +7,7 @@ ghost use Rattle.preset_rules.specs.Verdicts.{verdict};
 use crate::deciding::verdict;
 use crate::rule::{Rule, Verdict};
 use crate::winners::Winners;
-use link_tree::Tree;
+use link_tree::{Tree, TreePart};
 use load_path::Cells;
 use std::alloc::{AllocError, Global};
 use std::marker::Model;
@@ -35,7 +35,7 @@ impl Rules {
     #[tactic(auto, unfolding(crate::specs::Files::policy_of))]
     pub fn of_into(
         alloc: Global,
-        presets: &Tree,
+        presets: &TreePart,
         tree: &Tree,
         cells: &mut Cells,
     ) -> Result<Rules, AllocError>
@@ -83,7 +83,7 @@ impl Policy {
         ensures cells { IfOk result (λ policy. policy.cells ≡ each_once ((policy_of tree.now).cells tree.now)) }
     {
         let mut cells = Cells::new(alloc);
-        let rules = Rules::of_into(alloc, tree, tree, &mut cells)?;
+        let rules = Rules::of_into(alloc, tree.entries(), tree, &mut cells)?;
         let cells = cells.each_once()?;
         Ok(Policy { rules, cells })
     }

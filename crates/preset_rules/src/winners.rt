@@ -13,7 +13,7 @@ ghost use Rattle.preset_rules.specs.Gathering.{Gathers};
 use crate::file::{is_preset, read_slot};
 use crate::file_name::FileName;
 use crate::rule::Rule;
-use link_tree::{Place, Tree, TreePath};
+use link_tree::{Place, Tree, TreePart, TreePath};
 use load_path::Cells;
 use std::alloc::{AllocError, Global};
 use std::collections::BTreeMap;
@@ -48,7 +48,7 @@ impl Winners {
     }
 
     /// Of each file name the slot in `/etc`, or else in `/run`, or else in `/usr/lib`.
-    pub(crate) fn of(alloc: Global, presets: &Tree) -> Result<Winners, AllocError>
+    pub(crate) fn of(alloc: Global, presets: &TreePart) -> Result<Winners, AllocError>
         ensures { IfOk result (λ found. found ≡ winners (presets_of presets.now)) }
     {
         let mut winners = Winners::none(alloc);
@@ -59,7 +59,7 @@ impl Winners {
     }
 
     /// Adds the slots of a directory whose file names are not there.
-    fn add_all(&mut self, alloc: Global, place: Place, presets: &Tree) -> Result<(), AllocError>
+    fn add_all(&mut self, alloc: Global, place: Place, presets: &TreePart) -> Result<(), AllocError>
         ensures { OnOk result ((name : List ℕ) → map.get self.new name ≡ option_or (map.get self.old name) (map.find path_cmp name (named_in place (map.keys (presets_of presets.now))))) }
     {
         for (path, _entry) in presets.iter() {
@@ -100,7 +100,7 @@ impl Winners {
     pub(crate) fn read(
         self,
         alloc: Global,
-        presets: &Tree,
+        presets: &TreePart,
         tree: &Tree,
         rules: &mut Vec<Rule>,
         cells: &mut Cells,

@@ -6,7 +6,7 @@ ghost use Rattle.states.specs.Reaching.{ends_at, with_step, AreEnds};
 
 use crate::step::Step;
 use footprint::Units;
-use link_tree::Tree;
+use link_tree::TreePart;
 use std::alloc::{AllocError, Global};
 use std::collections::BTreeMap;
 use std::marker::Model;
@@ -68,7 +68,7 @@ impl Ends {
     }
 
     /// Those of the steps of links. Fails only where memory runs out.
-    pub(crate) fn of(alloc: Global, reverse: bool, links: &Tree) -> Result<Ends, AllocError>
+    pub(crate) fn of(alloc: Global, reverse: bool, links: &TreePart) -> Result<Ends, AllocError>
         ensures { IfOk result (λ ends. AreEnds ends (steps_of reverse (map.entries links.now))) }
     {
         let mut ends = Ends::none(alloc);

@@ -8,7 +8,7 @@ ghost use Rattle.states.specs.IsEnabled.{by_place, has_other, asks_for_none, by_
 use crate::answering::answered;
 use footprint::{Answer, Key, Keys, Operation, Outcome, StateWord};
 use install_section::{Section, section_into};
-use link_tree::{Place, Scope, Slot, Tree, TreePath};
+use link_tree::{Place, Scope, Slot, Tree, TreePart, TreePath};
 use load_path::{Cells, Found};
 use std::alloc::{AllocError, Global};
 use unit_name::UnitName;
@@ -38,7 +38,7 @@ fn by_place(place: Place, in_run: StateWord, elsewhere: StateWord) -> StateWord
 }
 
 /// Whether one of the links stands at another path than this.
-fn has_other(own: &TreePath, links: &Tree) -> bool
+fn has_other(own: &TreePath, links: &TreePart) -> bool
     ensures { result ≡ has_other own.now links.now }
 {
     for (path, _link) in links.iter() {
@@ -54,7 +54,7 @@ fn is_enabled_in(
     alloc: Global,
     scope: Scope,
     unit: &UnitName,
-    links: &Tree,
+    links: &TreePart,
 ) -> Result<bool, AllocError>
     ensures { IfOk result (λ enabled. enabled ≡ states.is_enabled_in scope unit.now links.now) }
 {
@@ -105,8 +105,8 @@ fn by_links(
     file: &TreePath,
     place: Place,
     section: Option<&Section>,
-    etc: &Tree,
-    run: &Tree,
+    etc: &TreePart,
+    run: &TreePart,
 ) -> Result<StateWord, AllocError>
     ensures { IfOk result (λ word. word ≡ by_links unit.now file.now place (option_copied section.entry) etc.now run.now) }
 {

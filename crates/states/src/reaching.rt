@@ -10,7 +10,7 @@ ghost use Rattle.states.specs.Reaching.{ends_at, with_name, with_names, AreReach
 use crate::ends::Ends;
 use footprint::Units;
 use indexmap::IndexSet;
-use link_tree::Tree;
+use link_tree::TreePart;
 use load_path::put_in;
 use std::alloc::{AllocError, Global};
 use std::collections::BTreeSet;
@@ -167,7 +167,7 @@ pub(crate) fn dependencies(
     alloc: Global,
     reverse: bool,
     unit: &UnitName,
-    links: &Tree,
+    links: &TreePart,
 ) -> Result<Units, AllocError>
     ensures { IfOk result (λ names. names ≡ map.keys (dependencies reverse unit.now links.now)) }
 {

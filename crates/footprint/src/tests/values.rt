@@ -128,7 +128,8 @@ fn push_seen(alloc: Global, text: &mut Vec<u8>, seen: &Seen) -> Result<(), Alloc
         }
         Seen::Entries(entries) => {
             text.push(b'\n')?;
-            match write_inventory(alloc, entries, &mut ToWrite::new(text)) {
+            let tree = Tree::of(alloc, entries.share()?)?;
+            match write_inventory(alloc, &tree, &mut ToWrite::new(text)) {
                 Ok(()) => Ok(()),
                 Err(_) => Err(AllocError),
             }

@@ -61,7 +61,7 @@ pub(crate) fn policy(alloc: Global, rows: &[Row]) -> Result<Policy, Fail> {
 
 fn both(alloc: Global, presets: &Tree, tree: &Tree) -> Result<(Rules, Cells), AllocError> {
     let mut cells = Cells::new(alloc);
-    let rules = Rules::of_into(alloc, presets, tree, &mut cells)?;
+    let rules = Rules::of_into(alloc, presets.entries(), tree, &mut cells)?;
     Ok((rules, cells))
 }
 

@@ -1,17 +1,16 @@
-use Rattle.std.proofs.Common.{sym, ◌∙◌, ap}
-use Rattle.footprint.specs.Keys.{selects}
-use Rattle.footprint.proofs.Those.{gathered}
-use Rattle.footprint.proofs.Parts.{gathered_part, selected_slot}
+use Rattle.std.proofs.Common.{◌≡◌, List, [], ◌∷◌, ◌++◌, ap, ◌∙◌}
+use Rattle.std.proofs.lemmas.Result.{IfOk-weaker}
+use Rattle.link_tree.specs.Trees.{Entries}
+use Rattle.footprint.specs.declared.key.Key.{Key}
+use Rattle.footprint.specs.Keys.{any_selects, those, part}
+use Rattle.footprint.proofs.LookedUp.{those_of_one}
 use Rattle.footprint.proofs.key.Key.entries.Goals as goal
-
-pub share_in-requires : goal.share_in-requires
-share_in-requires c =
-    let key = c.args.self.now in
-    let placed = c.in-Some.placed.now in
-    selected_slot key placed.0 placed.1 c.requires
-    (ap (selects key placed.0) (sym c.entry.ensures) ∙ ap (λ path. selects key path c.entry.result.now) (sym c.path.ensures) ∙ sym c.selects.ensures ∙ c.if-selects.true)
 
 pub returns : goal.returns
 returns c =
-    ap (gathered (selects c.args.self.now) c.loop-placed.found) (sym c.in_default.ensures.0) ∙ c.loop-placed.invariant
-    ∙ gathered_part c.args.self.now c.args.tree.now c.iter-entries.result c.iter-entries.ensures.entries
+    let key = c.args.self.now in
+    let t = c.args.tree.now in
+    let one : c.push.new.self ≡ key ∷ [] = c.in_ok-push.ensures.ok ∙ ap (λ (keys : List Key). keys ++ c.in_ok-copy.field-0 ∷ []) c.none-keys.ensures ∙ ap (λ (k : Key). k ∷ []) c.in_ok-copy.ensures in
+    IfOk-weaker c.looked_up.result (λ (found : Entries). found ≡ those (any_selects c.push.new.self) t) (λ (found : Entries). found ≡ part key t)
+    (λ found is. is ∙ ap (λ (keys : List Key). those (any_selects keys) t) one ∙ those_of_one key t)
+    c.looked_up.ensures

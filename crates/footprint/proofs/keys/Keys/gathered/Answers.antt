@@ -7,13 +7,15 @@ use Rattle.footprint.specs.Seeing.{SeesTheSame}
 use Rattle.footprint.proofs.Gathered.{no_cells, gathered_shows}
 use Rattle.footprint.proofs.keys.Keys.gathered.Goals as goal
 
-pub entries_of-requires : goal.entries_of-requires
-entries_of-requires c = subst (All (λ key. is_cell key ≡ false)) (sym c.in_ok-sets.ensures) (no_cells c.args.self.now)
+pub walked-requires : goal.walked-requires
+walked-requires c = subst (All (λ key. is_cell key ≡ false)) (sym c.in_ok-walkers.ensures) (no_cells c.args.self.now)
 
 pub returns : goal.returns
 returns c =
-    IfOk-weaker c.entries_of.result _ _
+    IfOk-weaker c.walked.result
+    (λ (found : Entries). found ≡ those (any_selects c.in_ok-walkers.walkers) c.entries-2.result.now)
+    (λ (found : Entries). All (SeesTheSame found c.args.tree.now) c.args.self.now)
     (λ gathered is. subst (λ (t : Entries). All (SeesTheSame t c.args.tree.now) c.args.self.now)
-    (sym (is ∙ ap (λ (sets : List Key). those (any_selects sets) c.args.tree.now) c.in_ok-sets.ensures))
+    (sym (is ∙ ap (λ (t : Entries). those (any_selects c.in_ok-walkers.walkers) t) c.entries-2.ensures ∙ ap (λ (walkers : List Key). those (any_selects walkers) c.args.tree.now) c.in_ok-walkers.ensures))
     (gathered_shows c.args.self.now c.args.tree.now))
-    c.entries_of.ensures
+    c.walked.ensures

@@ -2,10 +2,10 @@ use Rattle.std.proofs.Common.{◌≡◌, length}
 use Rattle.std.specs.FinMap as map
 use Rattle.footprint.specs.Keys.{any_selects}
 use Rattle.footprint.proofs.Those.{gathered}
-use Rattle.footprint.proofs.keys.Keys.entries_of.Given as goal
+use Rattle.footprint.proofs.keys.Keys.walked.Given as goal
 
 abbrev pub invariant-loop-placed : goal.invariant-loop-placed
-invariant-loop-placed l = gathered (any_selects l.self) l.found l.entries ≡ gathered (any_selects l.self) map.empty l.initial.entries
+invariant-loop-placed l = gathered (any_selects l.self) l.found l.left ≡ gathered (any_selects l.self) map.empty l.initial.left
 
 abbrev pub decreases-loop-placed : goal.decreases-loop-placed
-decreases-loop-placed l = length l.entries
+decreases-loop-placed l = length l.left

@@ -2,7 +2,7 @@ use Rattle.std.proofs.Common.{◌≡◌, false, All, sym, subst}
 use Rattle.footprint.specs.declared.key.Key.{Key}
 use Rattle.footprint.specs.Keys.{is_cell}
 use Rattle.install_commands.proofs.Marks.{none_is_cell}
-use Rattle.install_commands.proofs.disable.links_removed_but.Goals as goal
+use Rattle.install_commands.proofs.disable.links_unwanted.Goals as goal
 
 pub entries_of_all-requires : goal.entries_of_all-requires
 entries_of_all-requires c =
