@@ -1,6 +1,5 @@
 -- What is read of rows to see whether one may be undone.
-use Rattle.std.proofs.Common.{◌≡◌, ◌+◌, ◌-◌, ℕ, Bool, true, false, cond, List, Option, Some, None, is_some, take, drop, length, sym, ap, ◌∙◌}
-use Rattle.std.proofs.lemmas.List.{take_rest}
+use Rattle.std.proofs.Common.{◌≡◌, ◌+◌, ℕ, Bool, true, false, cond, List, Option, Some, None, is_some, drop, sym, ap, ◌∙◌}
 use Rattle.link_tree.specs.declared.change.Change.{Change}
 use Rattle.history.specs.declared.row.UndoRefusal.{UndoRefusal}
 use Rattle.history.specs.declared.row.Row.{Row}
@@ -9,9 +8,9 @@ use Rattle.history.specs.Rows.{row_at, or_blocked, row_refusal, accepted, surviv
 module _ {O : Type 0} (asks : O → Bool) (rows : List (Row O)) (n : ℕ) (row : Row O) (here : row_at rows n ≡ Some row) where
   -- a survivor is blocked by the first that is met after it
   pub met_read : (changes : List Change) (found : Option ℕ) → true ≡ is_some (survivor asks row) → changes ≡ row.changes
-      → found ≡ first_met asks changes (take (length rows - n) (drop n rows)) (n + 1) → found ≡ blocker asks rows n
+      → found ≡ first_met asks changes (drop n rows) (n + 1) → found ≡ blocker asks rows n
   met_read changes found stands is met =
-      met ∙ ap (λ (rs : List (Row O)). first_met asks changes rs (n + 1)) (take_rest rows n)
+      met
       ∙ ap (λ (cs : List Change). first_met asks cs (drop n rows) (n + 1)) is
       ∙ ap (λ (b : Bool). cond b (first_met asks row.changes (drop n rows) (n + 1)) None) stands
       ∙ sym (ap (blocker_at asks rows n) here)

@@ -7,3 +7,4 @@ pub mod Agreed
 pub mod Remain
 pub mod Blockers
 pub mod Blocking
+pub mod Indexed

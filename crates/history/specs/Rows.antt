@@ -126,6 +126,16 @@ module _ {O : Type 0} (asks : O → Bool) where
   first_met changes [] at = None
   first_met changes (row ∷ rows) at = if is_some (survivor row) && meets changes row.reading then Some at else first_met changes rows (at + 1)
 
+  -- the numbers, from `at` on, of the survivors of whose reading this change touches a key
+  abbrev pub readers_from : Change → List (Row O) → ℕ → List ℕ
+  readers_from change [] at = []
+  readers_from change (row ∷ rows) at =
+      if is_some (survivor row) && meets (change ∷ []) row.reading then at ∷ readers_from change rows (at + 1) else readers_from change rows (at + 1)
+
+  -- the survivors that looked at what a change touches, by their numbers
+  abbrev pub readers_of : List (Row O) → Change → List ℕ
+  readers_of rows change = readers_from change rows 1
+
   -- the first later survivor of whose reading a change of row n touches a key; none where row n is no survivor
   abbrev pub blocker_at : List (Row O) → ℕ → Option (Row O) → Option ℕ
   blocker_at rows n None = None

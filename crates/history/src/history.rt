@@ -1,23 +1,24 @@
 //! The calls so far, and the tree that they leave.
 ghost use Rattle.std.specs.Prelude.{◌≡◌, ◌≤◌, ◌<◌, ◌+◌, ◌↔◌, [], None, Some, Ok, length, false, true, All, IfOk, IfErr, OnOk, OnErr, vec_len, vec_capacity};
-ghost use Rattle.std.specs.List.{list_any};
 ghost use Rattle.unit_paths.specs.Slots.{is_slot};
 ghost use Rattle.link_tree.specs.Trees.{AreFrom, after_changes};
 ghost use Rattle.footprint.specs.declared.key.Key.{Key};
-ghost use Rattle.footprint.specs.Keys.{touches};
+ghost use Rattle.readers.specs.Readers.{reads, AreAlike};
 ghost use Rattle.history.specs.Logs.{Log};
 ghost use Rattle.history.specs.Plans.{planned, AgreesWith, IsCommit};
 ghost use Rattle.history.specs.Blocks.{IsFirstToBlock, TellsRefusal};
-ghost use Rattle.history.specs.Rows.{meets, first_met, blocker, undo_refusal, rows_undone, rows_after, survivors, after_commands, replay, run, calls_of, AnswersAlike, AreMarked, IdleStays, GivesBack};
+ghost use Rattle.history.specs.Indexes.{Agrees, IsListedIfAccepted};
+ghost use Rattle.history.specs.Rows.{blocker, readers_of, undo_refusal, rows_undone, rows_after, survivors, after_commands, replay, run, calls_of, AnswersAlike, AreMarked, IdleStays, GivesBack};
 ghost use Rattle.history.specs.declared.row.Request.TheVariants.{Do, Undo};
 ghost use Rattle.history.specs.declared.history.CallError.TheVariants.{OutOfMemory};
 ghost use Rattle.history.specs.declared.plan.Commit.TheVariants.{Stale};
 
 use crate::operator::Operator;
 use crate::plan::{Commit, Plan, Uncommitted};
-use crate::row::{Row, RowReply, UndoRefusal};
-use footprint::{Key, Observation, Operation, Outcome, agrees, touches};
+use crate::row::{Row, RowReply, UndoRefusal, is_refused};
+use footprint::{Key, Operation, Outcome, agrees};
 use link_tree::{Change, Tree};
+use readers::Readers;
 use std::alloc::{AllocError, AllocFailed, Global};
 use std::marker::Model;
 
@@ -61,6 +62,7 @@ pub struct History<O: Operation> {
     first: Tree,
     tree: Tree,
     rows: Vec<Row<O>>,
+    readers: Readers,
     limit: usize,
 }
 
@@ -75,6 +77,7 @@ impl<O: Operation> Model for History<O> {
     ghost use Rattle.history.specs.declared.row.Row.{Row};
     ghost use Rattle.history.specs.Logs.{Log, parts_of, of_parts, of_own_parts};
     ghost use Rattle.history.specs.Rows.{IsKept};
+    ghost use Rattle.history.specs.Indexes.{Agrees};
 
     ghost Value = { Log O };
 
@@ -82,7 +85,7 @@ impl<O: Operation> Model for History<O> {
 
     ghost view = { λ history. record { first = history.first; rows = history.rows.items; limit = history.limit } };
 
-    ghost invariant = { λ history. IsKept O.asks O.meaning history.first history.tree history.rows.items history.limit };
+    ghost invariant = { λ history. IsKept O.asks O.meaning history.first history.tree history.rows.items history.limit × Agrees O.asks history.readers history.rows.items };
 }
 
 impl<O: Operation> History<O> {
@@ -103,6 +106,7 @@ impl<O: Operation> History<O> {
             first: tree.copy()?,
             tree,
             rows: Vec::new(alloc),
+            readers: Readers::none(alloc),
             limit,
         })
     }
@@ -140,7 +144,14 @@ impl<O: Operation> History<O> {
         ensures found { result ≡ blocker O.asks self.now.rows n }
         ensures first { IsFirstToBlock O.asks self.now.rows n result }
     {
-        blocker(&self.rows, n)
+        blocker(&self.rows, &self.readers, n)
+    }
+
+    /// The survivors that looked at what a change touches, in ascending order. Fails only where memory runs out.
+    pub fn readers(&self, alloc: Global, change: &Change) -> Result<Vec<u32>, AllocError>
+        ensures { IfOk result (λ numbers. numbers.items ≡ readers_of O.asks self.now.rows change.now) }
+    {
+        Ok(self.readers.all(alloc, change)?)
     }
 
     /// Runs an operation on the tree, and gives the new row's number. An operation that is not run comes back.
@@ -244,7 +255,13 @@ impl<O: Operation> History<O> {
         ensures err { OnErr result (self.new ≡ self.old) }
         ensures handed_back { IfErr result (λ back. back ≡ plan) }
     {
-        match make_room(&mut self.rows, &mut self.tree, &plan.outcome) {
+        match make_room(
+            &mut self.rows,
+            &mut self.readers,
+            &mut self.tree,
+            &plan.operation,
+            &plan.outcome,
+        ) {
             Err(AllocError) => Err(plan),
             Ok(()) => {
                 let Plan { operation, outcome } = plan;
@@ -283,7 +300,7 @@ impl<O: Operation> History<O> {
         ensures number { IfOk result (λ m. m ≡ length self.new.rows) }
         ensures err { OnErr result (self.new ≡ self.old) }
     {
-        match refusal(&self.rows, n) {
+        match refusal(&self.rows, &self.readers, n) {
             Some(refusal) => self.refuse(alloc, operator, n, refusal),
             None => self.take_back(alloc, operator, n),
         }
@@ -323,6 +340,7 @@ impl<O: Operation> History<O> {
         let row = Row::of_undo(alloc, operator, n, RowReply::Undid(n));
         self.rows.reserve(1)?;
         self.tree.make_changes(back.as_slice())?;
+        self.readers.remove(&self.rows[place].reading, n);
         self.rows.push_reserved(row);
         let by = self.rows.len() as u32;
         self.rows[place].undone_by = Some(by);
@@ -345,27 +363,61 @@ fn stale<P: Drop>(plan: P, at: Result<Key, AllocError>) -> Result<Commit<P>, Unc
     }
 }
 
-/// Makes room for a row, and makes its changes of the tree. The row isn't there yet.
+/// Lists row n in the index under the keys that its operation looked at, where it is a command that was accepted.
+fn list<O: Operation>(
+    alloc: Global,
+    readers: &mut Readers,
+    operation: &O,
+    outcome: &Outcome,
+    n: u32,
+) -> Result<(), AllocError>
+    requires { (k : Key) → reads readers.old k n ≡ false }
+    ensures ok { OnOk result (IsListedIfAccepted O.asks operation.now outcome.now n readers.old readers.new) }
+    ensures err { OnErr result (AreAlike readers.old readers.new) }
+{
+    if operation.asks_only() || is_refused(&outcome.answer) {
+        Ok(())
+    } else {
+        readers.add(alloc, &outcome.reading, n)
+    }
+}
+
+/// Makes room for a row, lists it in the index, and makes its changes of the tree, the row itself not yet. Where memory runs out, all is as before.
 fn make_room<O: Operation>(
     rows: &mut Vec<Row<O>>,
+    readers: &mut Readers,
     tree: &mut Tree,
+    operation: &O,
     outcome: &Outcome,
 ) -> Result<(), AllocError>
     requires slots { All (λ change. is_slot change.path ≡ true) outcome.now.changes }
     requires from { AreFrom tree.old outcome.now.changes }
+    requires few { length rows.old.items < 1000000 }
+    requires fresh { (k : Key) → reads readers.old k (length rows.old.items + 1) ≡ false }
     ensures items { rows.new.items ≡ rows.old.items }
     ensures room { OnOk result (vec_len rows.new < vec_capacity rows.new) }
+    ensures listed { OnOk result (IsListedIfAccepted O.asks operation.now outcome.now (length rows.old.items + 1) readers.old readers.new) }
+    ensures unlisted { OnErr result (AreAlike readers.old readers.new) }
     ensures after { OnOk result (tree.new ≡ after_changes outcome.now.changes tree.old) }
     ensures err { OnErr result (tree.new ≡ tree.old) }
 {
     rows.reserve(1)?;
-    tree.make_changes(outcome.changes.as_slice())?;
-    Ok(())
+    let alloc = *rows.allocator();
+    let n = rows.len() as u32 + 1;
+    list(alloc, readers, operation, outcome, n)?;
+    match tree.make_changes(outcome.changes.as_slice()) {
+        Ok(()) => Ok(()),
+        Err(error) => {
+            readers.remove(&outcome.reading, n);
+            Err(error)
+        }
+    }
 }
 
 /// Why an undo of row n is refused, if it is.
-fn refusal<O: Operation>(rows: &[Row<O>], n: u32) -> Option<UndoRefusal>
-    requires { length rows.now ≤ 1000000 }
+fn refusal<O: Operation>(rows: &[Row<O>], readers: &Readers, n: u32) -> Option<UndoRefusal>
+    requires few { length rows.now ≤ 1000000 }
+    requires agrees { Agrees O.asks readers.now rows.now }
     ensures { result ≡ undo_refusal O.asks rows.now n }
 {
     let place = n as usize;
@@ -374,7 +426,7 @@ fn refusal<O: Operation>(rows: &[Row<O>], n: u32) -> Option<UndoRefusal>
     }
     match rows[place - 1].refusal() {
         Some(refusal) => Some(refusal),
-        None => match blocker(rows, n) {
+        None => match blocker(rows, readers, n) {
             Some(m) => Some(UndoRefusal::Blocked(m)),
             None => None,
         },
@@ -382,8 +434,9 @@ fn refusal<O: Operation>(rows: &[Row<O>], n: u32) -> Option<UndoRefusal>
 }
 
 /// The first later survivor that looked at what the surviving row n changed.
-fn blocker<O: Operation>(rows: &[Row<O>], n: u32) -> Option<u32>
-    requires { length rows.now ≤ 1000000 }
+fn blocker<O: Operation>(rows: &[Row<O>], readers: &Readers, n: u32) -> Option<u32>
+    requires few { length rows.now ≤ 1000000 }
+    requires agrees { Agrees O.asks readers.now rows.now }
     ensures { result ≡ blocker O.asks rows.now n }
 {
     let place = n as usize;
@@ -392,38 +445,8 @@ fn blocker<O: Operation>(rows: &[Row<O>], n: u32) -> Option<u32>
     }
     let row = &rows[place - 1];
     if row.survives() {
-        first_met(row.changes.as_slice(), &rows[place..], n + 1)
+        readers.first_after(row.changes.as_slice(), n)
     } else {
         None
     }
-}
-
-/// The number, from `at` on, of the first survivor that looked at what these changes touch.
-fn first_met<O: Operation>(changes: &[Change], rows: &[Row<O>], at: u32) -> Option<u32>
-    requires { at + length rows.now ≤ 1000001 }
-    ensures { result ≡ first_met O.asks changes.now rows.now at }
-{
-    let mut number = at;
-    for row in rows {
-        if row.survives() && meets(changes, row.reading.as_slice()) {
-            return Some(number);
-        }
-        number += 1;
-    }
-    None
-}
-
-/// Whether one of the changes touches a key of the reading.
-fn meets(changes: &[Change], reading: &[Observation]) -> bool
-    ensures { result ≡ meets changes.now reading.now }
-{
-    reading
-        .iter()
-        .any(|observation| is_touched(changes, &observation.key))
-}
-
-fn is_touched(changes: &[Change], key: &Key) -> bool
-    ensures { result ≡ list_any (λ change. touches change key.now) changes.now }
-{
-    changes.iter().any(|change| touches(change, key))
 }

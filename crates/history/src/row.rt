@@ -95,7 +95,8 @@ pub struct Row<O> {
     pub undone_by: Option<u32>,
 }
 
-fn is_refused(answer: &Answer) -> bool
+/// Whether it is a refusal.
+pub(crate) fn is_refused(answer: &Answer) -> bool
     ensures { result ≡ is_refused answer.now }
 {
     matches!(answer, Answer::Refused(_))

@@ -1,5 +1,7 @@
 mod committing;
+mod indexed;
 mod kinds;
+mod large;
 mod replies;
 mod steps;
 mod undoing;

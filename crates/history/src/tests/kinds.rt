@@ -4,7 +4,7 @@ use crate::tests::steps::Step;
 use crate::tests::watching::Watch;
 use crate::{CallError, History, Operator, RowReply, UndoRefusal};
 use footprint::{Answer, Key, Operation, Outcome, Then};
-use link_tree::{PathError, Scope, Tree, TreePath};
+use link_tree::{Change, PathError, Scope, Tree, TreePath};
 use std::alloc::{AllocError, Global};
 use std::process::Abort;
 use std::test::Fail;
@@ -117,22 +117,55 @@ fn is_refused_for_the_second(history: &History<Watch>) -> bool {
     }
 }
 
-/// Whether the undo of a link at a slot is blocked by a later command that looks by a key.
+/// The first row's change.
+fn change_of_the_first(history: &History<Watch>) -> Option<&Change> {
+    match history.rows().first() {
+        Some(row) => row.changes.as_slice().first(),
+        None => None,
+    }
+}
+
+/// Whether both rows looked at what the first one changed; none where anything but that or the first row alone is listed.
+fn are_both_readers(alloc: Global, history: &History<Watch>) -> Result<Option<bool>, AllocError> {
+    match change_of_the_first(history) {
+        Some(change) => {
+            let numbers = history.readers(alloc, change)?;
+            Ok(match numbers.as_slice() {
+                [1] => Some(false),
+                [1, 2] => Some(true),
+                _ => None,
+            })
+        }
+        None => Ok(None),
+    }
+}
+
+fn both_looked(alloc: Global, history: &History<Watch>) -> Result<Option<bool>, Fail> {
+    Ok(ample!(are_both_readers(alloc, history), AllocError)?)
+}
+
+/// Of a link at a slot, and a later command that looks by a key: whether that looked at the link, and whether it blocks the undo.
 fn blocks(
     alloc: Global,
     history: &mut History<Watch>,
     slot: &[u8],
     kind: Watched,
     of: &[u8],
-) -> Result<bool, Fail> {
+) -> Result<(Option<bool>, bool), Fail> {
     look(alloc, history, Watched::Cell, b"y.service", slot)?;
     look(alloc, history, kind, of, b"/run/systemd/system/z.service")?;
+    let looked = both_looked(alloc, history)?;
     undo(alloc, history)?;
-    Ok(is_refused_for_the_second(history))
+    Ok((looked, is_refused_for_the_second(history)))
 }
 
 /// As `blocks`, in a history of its own.
-fn is_blocked(alloc: Global, slot: &[u8], kind: Watched, of: &[u8]) -> Result<bool, Fail> {
+fn is_blocked(
+    alloc: Global,
+    slot: &[u8],
+    kind: Watched,
+    of: &[u8],
+) -> Result<(Option<bool>, bool), Fail> {
     let mut history = ample!(begun(alloc), AllocError)?;
     blocks(alloc, &mut history, slot, kind, of)
 }
@@ -144,7 +177,7 @@ fn assert_blocked(rt: &impl Abort, alloc: Global, slot: &[u8], rows: &[Row]) -> 
     for (kind, of, blocks) in rows {
         assert_eq!(rt;
             is_blocked(alloc, slot, *kind, of)?,
-            *blocks,
+            (Some(*blocks), *blocks),
             "{kind:?} {of:?}"
         );
     }

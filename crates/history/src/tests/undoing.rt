@@ -120,7 +120,7 @@ pub(crate) fn begun_with_room(alloc: Global) -> Result<History<Step>, AllocError
 }
 
 /// A history of the calls of a script.
-fn made(alloc: Global, script: &[u8]) -> Result<History<Step>, Fail> {
+pub(crate) fn made(alloc: Global, script: &[u8]) -> Result<History<Step>, Fail> {
     let mut history = ample!(begun(alloc), AllocError)?;
     for word in script.split(|b| *b == b' ') {
         make(alloc, &mut history, word)?;

@@ -9,4 +9,4 @@ returns-clause-survivors g c =
     let asks = g.O.Operation.asks in
     let meaning = g.O.Operation.meaning in
     subst (λ (v : Log g.row.O.Denot). c.self.inside.tree ≡ after_commands meaning (survivors asks v.rows) v.first) c.self.view_is
-    (c.self.invariant.tree_is ∙ replay_survivors asks meaning c.self.inside.first c.self.inside.rows.items)
+    (c.self.invariant.0.tree_is ∙ replay_survivors asks meaning c.self.inside.first c.self.inside.rows.items)

@@ -1,0 +1,3 @@
+mod listing;
+mod looking_up;
+mod values;
