@@ -1,9 +1,9 @@
 -- What was asked for, and what the logs tell of it.
-use Rattle.std.proofs.Common.{◌≡◌, ℕ, zero, suc, ◌+◌, ◌-◌, ◌<◌, ◌≤◌, true, false, ◌||◌, List, [], ◌∷◌, ◌++◌, All, Some, length, drop, slice_get, get_or, nat_eq, refl, sym, ap, subst, ◌∙◌, cond, inl, inr, arith, append_assoc, length-append}
-use Rattle.std.proofs.lemmas.Bool.Decides.{nat_tests}
+use Rattle.std.proofs.Common.{◌≡◌, ℕ, zero, suc, ◌+◌, ◌-◌, ◌<◌, ◌≤◌, true, false, ◌||◌, List, [], ◌∷◌, ◌++◌, All, Some, length, take, drop, get_or, refl, sym, ap, subst, ◌∙◌, cond, inl, inr, arith, append_assoc, append-nil, length-append}
+use Rattle.std.specs.Prelude.{◌≢◌, slice_get}
 use Rattle.std.specs.Str.{bytes_eq}
 use Rattle.std.proofs.lemmas.Bool.{cases_Bool, true≢false}
-use Rattle.std.proofs.lemmas.List.{drop_more}
+use Rattle.std.proofs.lemmas.List.{drop_more, take_all}
 use Rattle.std.proofs.lemmas.List.Elements.{All-head, All-tail, All-nil, All-cons}
 use Rattle.std.proofs.lemmas.Slice.Eq.{bytes_eq-Decides}
 use Rattle.link_tree.specs.Trees.{Entries}
@@ -18,7 +18,7 @@ use Rattle.sessions.specs.Sessions.{Opened, IsServed, entry_of, requests_of}
 use Rattle.sessions.specs.declared.asks.Ask.{Ask}
 use Rattle.sessions.specs.declared.desk.Issued.{Issued}
 use Rattle.sessions.specs.Desks.{Jobs}
-use Rattle.sessions.specs.Fed.{AreOf, asked, jobs_of, IsAsked, HoldsAsked, HasFed}
+use Rattle.sessions.specs.Fed.{AreOf, asked, jobs_of, IsAsked, DiffersFirstAt, HoldsAsked, HasFed}
 use Rattle.shared_admin.specs.Sharing.{is_among}
 use Rattle.sessions.proofs.Workers.{told_requests}
 
@@ -27,10 +27,6 @@ none_left [] zero h = refl
 none_left [] (suc k) h = refl
 none_left (x ∷ xs) zero h = absurd (omega arith)
 none_left (x ∷ xs) (suc k) h = none_left xs k (omega arith)
-
--- numbers that a test tells apart
-pub told_apart : (a b : ℕ) → nat_eq a b ≡ false → a ≡ b → ⊥
-told_apart a b off same = grind (arith, nat_tests)
 
 pub last_is : {A : Type 0} (xs all : List A) (x y : A) → all ≡ xs ++ x ∷ [] → y ≡ get_or all (length all - 1) y → y ≡ x
 last_is xs all x y is at = at ∙ ap (λ (ys : List _). get_or ys (length ys - 1) y) is ∙ ap (λ k. get_or (xs ++ x ∷ []) k y) (omega (arith, length-append xs (x ∷ []))) ∙ behind xs
@@ -43,7 +39,54 @@ last_is xs all x y is at = at ∙ ap (λ (ys : List _). get_or ys (length ys - 1
 pub is_open : (new : Jobs) (issued : List Issued) → new ≡ record { issued = issued; is_shut = false } → new.is_shut ≡ false
 is_open new issued is = ap (λ (jobs : Jobs). jobs.is_shut) is
 
+module _ {A : Type 0} where
+  one_taken : (xs : List A) (k : ℕ) (x : A) → slice_get xs k ≡ Some x → (k < length xs) × (take (k + 1) xs ≡ take k xs ++ x ∷ [])
+  one_taken xs k x there = let on : suc k ≡ k + 1 = omega arith in (within xs k there, ap (λ n. take n xs) (sym on) ∙ taken xs k there)
+    where
+      within : (xs : List A) (k : ℕ) → slice_get xs k ≡ Some x → k < length xs
+      within [] k there = cc
+      within (y ∷ ys) zero there = omega arith
+      within (y ∷ ys) (suc k) there = omega (arith, within ys k there)
+
+      taken : (xs : List A) (k : ℕ) → slice_get xs k ≡ Some x → take (suc k) xs ≡ take k xs ++ x ∷ []
+      taken [] k there = cc
+      taken (y ∷ ys) zero there = ap (λ z. z ∷ []) (let same : y ≡ x = cc in same)
+      taken (y ∷ ys) (suc k) there = ap (λ zs. y ∷ zs) (taken ys k there)
+
+  front_same : (xs rest : List A) (k : ℕ) → k ≤ length xs → take k (take k xs ++ rest) ≡ take k xs
+  front_same [] [] zero h = refl
+  front_same [] (r ∷ rest) zero h = refl
+  front_same [] rest (suc k) h = absurd (omega arith)
+  front_same (x ∷ xs) [] zero h = refl
+  front_same (x ∷ xs) (r ∷ rest) zero h = refl
+  front_same (x ∷ xs) rest (suc k) h = ap (λ zs. x ∷ zs) (front_same xs rest k (omega arith))
+
+  behind_front : (xs rest : List A) (k : ℕ) → k ≤ length xs → slice_get (take k xs ++ rest) k ≡ slice_get rest 0
+  behind_front [] rest zero h = refl
+  behind_front [] rest (suc k) h = absurd (omega arith)
+  behind_front (x ∷ xs) rest zero h = refl
+  behind_front (x ∷ xs) rest (suc k) h = behind_front xs rest k (omega arith)
+
+  one_there : (xs : List A) (k : ℕ) → k < length xs → slice_get xs k ≡ slice_get [] 0 → ⊥
+  one_there [] k h none = absurd (omega arith)
+  one_there (x ∷ xs) zero h none = cc
+  one_there (x ∷ xs) (suc k) h none = one_there xs k (omega arith) none
+
 module _ {O : Type 0} where
+  -- where two lists differ behind a front that is the same, they differ there first
+  differs : (requests wanted rest : List (Request O)) (place : ℕ) → place ≤ length requests → wanted ≡ take place requests ++ rest → (slice_get requests place ≢ slice_get rest 0) → DiffersFirstAt (place + 1) requests wanted
+  differs requests wanted rest place within is off =
+      let on : suc place ≡ place + 1 = omega arith in
+      subst (λ n. DiffersFirstAt n requests wanted) on (
+        sym (ap (take place) is ∙ front_same requests rest place within),
+        (λ same. off (same ∙ ap (λ all. slice_get all place) is ∙ behind_front requests rest place within)),
+      )
+
+  -- lists that differ at a place aren't the same
+  pub apart : (place : ℕ) (requests wanted : List (Request O)) → DiffersFirstAt place requests wanted → requests ≡ wanted → ⊥
+  apart zero requests wanted differ same = differ
+  apart (suc i) requests wanted differ same = differ.1 (ap (λ all. slice_get all i) same)
+
   -- those that are left, without the next
   pub left_of : (operators : List (List ℕ)) (items : List (Ask O)) (ask : Ask O) (rest : List (Ask O)) → items ≡ ask ∷ rest → AreOf operators items → AreOf operators rest
   left_of operators items ask rest step all =
@@ -65,19 +108,29 @@ module _ {O : Type 0} where
       copied
       ∙ ap (λ (entry : LogEntry O). entry.reply) (sym is ∙ last_is old.entries entries (entry_of request old.front served.row) entry (are ∙ ap (λ (session : Opened O). session.entries) served.added) is)
 
-  -- The first entries are of what was asked for before one: the others are of what is asked for from it on exactly where all are of all.
+  -- The requests before the place are what was asked for before the ask of this index.
   pub record HasAsked (operator : List ℕ) (entries : List (LogEntry O)) (asks : List (Ask O)) (place index : ℕ) : Type 0 where
     pub within : place ≤ length entries
-    pub on : requests_of (drop place entries) ≡ asked operator (drop index asks) → requests_of entries ≡ asked operator asks
-    pub back : requests_of entries ≡ asked operator asks → requests_of (drop place entries) ≡ asked operator (drop index asks)
+    pub so_far : asked operator asks ≡ take place (requests_of entries) ++ asked operator (drop index asks)
 
   pub begun : (operator : List ℕ) (entries : List (LogEntry O)) (asks : List (Ask O)) → HasAsked operator entries asks 0 0
-  begun operator entries asks = record { within = omega arith; on = λ same. same; back = λ same. same }
+  begun operator [] asks = record { within = omega arith; so_far = refl }
+  begun operator (entry ∷ entries) asks = record { within = omega arith; so_far = refl }
 
-  rest_is : (entries : List (LogEntry O)) (k : ℕ) (entry : LogEntry O) → slice_get entries k ≡ Some entry → (k < length entries) × (drop k entries ≡ entry ∷ drop (suc k) entries)
-  rest_is [] k entry there = cc
-  rest_is (e ∷ es) zero entry there = (omega arith, ap (λ x. x ∷ es) (let same : e ≡ entry = cc in same))
-  rest_is (e ∷ es) (suc k) entry there = (let rest = rest_is es k entry there in (omega (arith, rest.0), rest.1))
+  as_many : (entries : List (LogEntry O)) → length (requests_of entries) ≡ length entries
+  as_many [] = refl
+  as_many (entry ∷ entries) = ap suc (as_many entries)
+
+  -- an entry's request is among the requests
+  request_there : (entries : List (LogEntry O)) (k : ℕ) (entry : LogEntry O) → slice_get entries k ≡ Some entry → slice_get (requests_of entries) k ≡ Some entry.request
+  request_there [] k entry there = cc
+  request_there (e ∷ es) zero entry there = ap (λ (e : LogEntry O). Some e.request) (let same : e ≡ entry = cc in same)
+  request_there (e ∷ es) (suc k) entry there = request_there es k entry there
+
+  entry_there : (entries : List (LogEntry O)) (k : ℕ) (request : Request O) → slice_get (requests_of entries) k ≡ Some request → (entry : LogEntry O) × (slice_get entries k ≡ Some entry) × (entry.request ≡ request)
+  entry_there [] k request there = cc
+  entry_there (e ∷ es) zero request there = (e, refl, (let same : e.request ≡ request = cc in same))
+  entry_there (e ∷ es) (suc k) request there = entry_there es k request there
 
   module _ (operator : List ℕ) (entries : List (LogEntry O)) (asks : List (Ask O)) (place index : ℕ) (ask : Ask O) (is : ask ≡ get_or asks index ask) (in_asks : index < length asks) (before : HasAsked operator entries asks place index) where
     left : asked operator (drop index asks) ≡ cond (bytes_eq operator ask.operator) (ask.request ∷ asked operator (drop (index + 1) asks)) (asked operator (drop (index + 1) asks))
@@ -92,60 +145,38 @@ module _ {O : Type 0} where
     left_with here = left ∙ ap (λ b. cond b (ask.request ∷ asked operator (drop (index + 1) asks)) (asked operator (drop (index + 1) asks))) here
 
     pub passed : bytes_eq operator ask.operator ≡ false → HasAsked operator entries asks place (index + 1)
-    passed away = record {
-      within = before.within;
-      on = λ same. before.on (same ∙ sym (left_without away));
-      back = λ same. before.back same ∙ left_without away;
-    }
+    passed away = record { within = before.within; so_far = before.so_far ∙ ap (λ rest. take place (requests_of entries) ++ rest) (left_without away) }
 
-    split : (entry : LogEntry O) → slice_get entries place ≡ Some entry → drop place entries ≡ entry ∷ drop (place + 1) entries
-    split entry there =
-        let on : suc place ≡ place + 1 = omega arith in
-        (rest_is entries place entry there).1 ∙ ap (λ k. entry ∷ drop k entries) on
+    with_next : bytes_eq operator ask.operator ≡ true → asked operator asks ≡ take place (requests_of entries) ++ ask.request ∷ asked operator (drop (index + 1) asks)
+    with_next here = before.so_far ∙ ap (λ rest. take place (requests_of entries) ++ rest) (left_with here)
 
     pub asked_one : bytes_eq operator ask.operator ≡ true → (entry : LogEntry O) → slice_get entries place ≡ Some entry → entry.request ≡ ask.request → HasAsked operator entries asks (place + 1) (index + 1)
-    asked_one here entry there same = record {
-      within = omega (arith, (rest_is entries place entry there).0);
-      on = λ more. before.on (ap requests_of (split entry there) ∙ (λ i. same i ∷ more i) ∙ sym (left_with here));
-      back = λ all.
-          let both : entry.request ∷ requests_of (drop (place + 1) entries) ≡ ask.request ∷ asked operator (drop (index + 1) asks) = sym (ap requests_of (split entry there)) ∙ before.back all ∙ left_with here in
-          cc;
-    }
+    asked_one here entry there same =
+        let here_too : slice_get (requests_of entries) place ≡ Some ask.request = request_there entries place entry there ∙ ap (λ (r : Request O). Some r) same in
+        let more = one_taken (requests_of entries) place ask.request here_too in record {
+          within = omega (arith, more.0, as_many entries);
+          so_far =
+              with_next here
+              ∙ sym (append_assoc (take place (requests_of entries)) (ask.request ∷ []) (asked operator (drop (index + 1) asks)))
+              ∙ ap (λ front. front ++ asked operator (drop (index + 1) asks)) (sym more.1);
+        }
 
     -- there is no entry of the next, or it is of another request
-    pub asked_off : bytes_eq operator ask.operator ≡ true → ((entry : LogEntry O) → slice_get entries place ≡ Some entry → ¬ (entry.request ≡ ask.request)) → ¬ (requests_of entries ≡ asked operator asks)
-    asked_off here off all = begins (drop place entries) refl (before.back all ∙ left_with here)
-      where
-        at_place : (entries : List (LogEntry O)) (k : ℕ) (entry : LogEntry O) (rest : List (LogEntry O)) → drop k entries ≡ entry ∷ rest → slice_get entries k ≡ Some entry
-        at_place [] zero entry rest same = cc
-        at_place [] (suc k) entry rest same = cc
-        at_place (e ∷ es) zero entry rest same = cc
-        at_place (e ∷ es) (suc k) entry rest same = at_place es k entry rest same
-
-        begins : (rest : List (LogEntry O)) → drop place entries ≡ rest → requests_of rest ≡ ask.request ∷ asked operator (drop (index + 1) asks) → ⊥
-        begins [] is same = cc
-        begins (entry ∷ rest) is same = off entry (at_place entries place entry rest is) (let one : entry.request ≡ ask.request = cc in one)
+    pub asked_off : bytes_eq operator ask.operator ≡ true → ((entry : LogEntry O) → slice_get entries place ≡ Some entry → ¬ (entry.request ≡ ask.request)) → DiffersFirstAt (place + 1) (requests_of entries) (asked operator asks)
+    asked_off here off =
+        differs (requests_of entries) (asked operator asks) (ask.request ∷ asked operator (drop (index + 1) asks)) place (omega (arith, before.within, as_many entries)) (with_next here)
+        (λ same. let found = entry_there entries place ask.request same in off found.0 found.1 found.2)
 
   module _ (operator : List ℕ) (entries : List (LogEntry O)) (asks : List (Ask O)) (place index : ℕ) (through : length asks ≤ index) (before : HasAsked operator entries asks place index) where
-    none_asked : asked operator (drop index asks) ≡ []
-    none_asked = ap (asked operator) (none_left asks index through)
+    none_asked : asked operator asks ≡ take place (requests_of entries) ++ []
+    none_asked = before.so_far ∙ ap (λ rest. take place (requests_of entries) ++ asked operator rest) (none_left asks index through)
 
-    pub all_asked : place ≡ length entries → requests_of entries ≡ asked operator asks
-    all_asked none = before.on (ap requests_of (none_left entries place (omega arith)) ∙ sym none_asked)
+    pub all_asked : length entries ≤ place → requests_of entries ≡ asked operator asks
+    all_asked none = sym (none_asked ∙ append-nil (take place (requests_of entries)) ∙ take_all place (requests_of entries) (omega (arith, none, as_many entries)))
 
     -- entries are left
-    pub more_told : (place ≡ length entries → ⊥) → ¬ (requests_of entries ≡ asked operator asks)
-    more_told some all = rest (drop place entries) refl (before.back all ∙ none_asked)
-      where
-        rest : (left : List (LogEntry O)) → drop place entries ≡ left → requests_of left ≡ [] → ⊥
-        rest [] is none = some (through_all entries place before.within is)
-          where
-            through_all : (entries : List (LogEntry O)) (k : ℕ) → k ≤ length entries → drop k entries ≡ [] → k ≡ length entries
-            through_all [] zero within none = refl
-            through_all [] (suc k) within none = absurd (omega arith)
-            through_all (e ∷ es) zero within none = cc
-            through_all (e ∷ es) (suc k) within none = ap suc (through_all es k (omega arith) none)
-        rest (entry ∷ left) is none = cc
+    pub more_told : place < length entries → DiffersFirstAt (place + 1) (requests_of entries) (asked operator asks)
+    more_told some = differs (requests_of entries) (asked operator asks) [] place (omega (arith, before.within, as_many entries)) none_asked (one_there (requests_of entries) place (omega (arith, some, as_many entries)))
 
   -- the log of an operator is among the logs
   found : (asks : List (Ask O)) (logs : List (SessionLog O)) (operator : List ℕ) → has_log logs operator ≡ true → All (IsAsked asks) logs → requests_of (entries_of logs operator) ≡ asked operator asks

@@ -4,3 +4,4 @@ mod Places
 mod Firsts
 mod Feeds
 mod Reasons
+mod Countable

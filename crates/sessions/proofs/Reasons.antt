@@ -1,5 +1,6 @@
 -- Why a run doesn't come to a closed end.
-use Rattle.std.proofs.Common.{◌≡◌, ℕ, Bool, List, [], sym, subst}
+use Rattle.std.proofs.Common.{◌≡◌, ℕ, Bool, List, [], Result, Err, sym, subst}
+use Rattle.std.specs.Result.{IfErr}
 use Rattle.link_tree.specs.Trees.{Entries}
 use Rattle.footprint.specs.Inquiry.{Inquiry}
 use Rattle.footprint.specs.Operations.{Effect}
@@ -49,3 +50,7 @@ module _ {H L : Type 0} where
   unserved operators P faults.NoWorker may = (may, tt)
   unserved operators P faults.Full may = (may, tt)
   unserved operators P faults.OutOfMemory may = (may, tt)
+
+  -- an error that is made of the workers' fault
+  pub told_of_worker : {A : Type 0} → (operators : List (List ℕ)) (P : Unclosed H L → Type 0) (r : Result A (RunError H L)) (fault : WorkFault) → MayShare operators → r ≡ Err (of_worker fault) → IfErr r (λ why. IsRunError operators why) × IfErr r (λ why. IfUnclosed why P)
+  told_of_worker operators P r fault may is = subst (λ r. IfErr r (λ why. IsRunError operators why) × IfErr r (λ why. IfUnclosed why P)) (sym is) (unserved operators P fault may)

@@ -16,6 +16,8 @@ use Rattle.shared_admin.specs.declared.shared.OpenError.{OpenError}
 use Rattle.shared_admin.specs.declared.shared.OpenError.TheVariants as opens
 use Rattle.shared_admin.specs.Closing.{IsClosed, IsFault}
 use Rattle.shared_admin.specs.Sharing.{MayShare}
+use Rattle.sessions.specs.Fed.{IsUnserved}
+use Rattle.sessions.specs.declared.asks.Ask.{Ask}
 use Rattle.sessions.specs.declared.faults.RunError.{RunError}
 use Rattle.sessions.specs.declared.faults.RunError.TheVariants.{TooManySessions, SameOperator, NoWorker, Full, OutOfMemory, Close}
 use Rattle.sessions.specs.declared.faults.WorkFault.{WorkFault}
@@ -85,7 +87,7 @@ module _ {O : Type 0} (asks : O → Bool) (meaning : O → Inquiry Effect) (tree
     pub unclosed : ComesBackUnclosed left
     pub legal : ComesBackLegal left
 
-  -- What comes back where logs don't tell the rows; or they do, but the operator that is named wasn't served just what was fed to it.
-  pub record IsUnfed (left : Unclosed (Log O) (List (SessionLog O))) : Type 0 where
-    pub unfed : ComesBackUnclosed left ⊎ (IsClosed tree operators left.logs left.history × ((operator : List ℕ) × (left.fault ≡ Mismatch operator 0)))
+  -- What comes back where logs don't tell the rows; or they do, but an operator wasn't served just what was fed to it.
+  pub record IsUnfed (asked : List (Ask O)) (left : Unclosed (Log O) (List (SessionLog O))) : Type 0 where
+    pub unfed : ComesBackUnclosed left ⊎ (IsClosed tree operators left.logs left.history × ((operator : List ℕ) × (place : ℕ) × (left.fault ≡ Mismatch operator place) × IsUnserved asked left.logs operator place))
     pub legal : ComesBackLegal left

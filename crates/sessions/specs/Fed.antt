@@ -1,12 +1,12 @@
 -- Runs of sessions that are fed.
-use Rattle.std.specs.Prelude.{◌≡◌, ℕ, false, if◌then◌else◌, IsTrue, List, [], ◌∷◌, All, map}
+use Rattle.std.specs.Prelude.{◌≡◌, ◌≢◌, ◌≤◌, ◌⊎◌, ℕ, zero, suc, false, if◌then◌else◌, IsTrue, List, [], ◌∷◌, All, map, length, take, slice_get}
 use Rattle.std.specs.Str.{bytes_eq}
 use Rattle.link_tree.specs.Trees.{Entries}
 use Rattle.history.specs.Logs.{Log}
 use Rattle.history.specs.declared.row.Row.{Row}
 use Rattle.history.specs.declared.row.Request.{Request}
 use Rattle.shared_admin.specs.declared.log.SessionLog.{SessionLog}
-use Rattle.shared_admin.specs.Closing.{IsClosed}
+use Rattle.shared_admin.specs.Closing.{IsClosed, IsFirstNot}
 use Rattle.shared_admin.specs.Sharing.{is_among}
 use Rattle.sessions.specs.Runs.{requests_in}
 use Rattle.sessions.specs.Sessions.{Opened, IsServed, requests_of}
@@ -28,6 +28,24 @@ module _ {O : Type 0} where
   -- A log is of what its operator asks for.
   abbrev pub IsAsked : List (Ask O) → SessionLog O → Type 0
   IsAsked asks log = requests_of log.entries ≡ asked log.operator asks
+
+  -- A log has no more entries than a history may have rows.
+  abbrev pub HasCountable : SessionLog O → Type 0
+  HasCountable log = length log.entries ≤ 1000000
+
+  -- Requests differ from those that were asked for at this place first, from 1 on: before it they are the same, and there stands another, or in but one of the two lists any.
+  abbrev pub DiffersFirstAt : ℕ → List (Request O) → List (Request O) → Type 0
+  DiffersFirstAt zero requests wanted = ⊥
+  DiffersFirstAt (suc i) requests wanted = (take i requests ≡ take i wanted) × (slice_get requests i ≢ slice_get wanted i)
+
+  -- The operator of the first log that isn't of what the operator asks for, and the first place at which it isn't.
+  abbrev pub IsFirstUnasked : List (Ask O) → List (SessionLog O) → List ℕ → ℕ → Type 0
+  IsFirstUnasked asks logs operator place =
+      (log : SessionLog O) × IsFirstNot (IsAsked asks) logs log × (log.operator ≡ operator) × DiffersFirstAt place (requests_of log.entries) (asked operator asks)
+
+  -- The first place at which a log isn't of what was asked for is told; or all logs are of it, but the answers aren't those of the jobs, and then the place is 0.
+  abbrev pub IsUnserved : List (Ask O) → List (SessionLog O) → List ℕ → ℕ → Type 0
+  IsUnserved asks logs operator place = IsFirstUnasked asks logs operator place ⊎ (All (IsAsked asks) logs × (place ≡ 0))
 
   -- The rows of an operator hold what it asks for, in order, and nothing else.
   abbrev pub HoldsAsked : List (Ask O) → List (Row O) → List ℕ → Type 0

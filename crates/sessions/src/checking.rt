@@ -1,11 +1,9 @@
 //! Whether a run that was fed came to what was asked for.
-ghost use Rattle.std.specs.Prelude.{◌≡◌, [], true, false, Some, All, IfOk, IfErr, IfNone, IfSome, slice_get};
+ghost use Rattle.std.specs.Prelude.{◌≡◌, ◌≤◌, [], true, false, Some, All, IfOk, IfErr, IfNone, IfSome, length, slice_get};
 ghost use Rattle.history.specs.Rows.{run, calls_of};
 ghost use Rattle.shared_admin.specs.declared.log.LogEntry.{LogEntry};
-ghost use Rattle.shared_admin.specs.declared.log.SessionLog.{SessionLog};
-ghost use Rattle.shared_admin.specs.Closing.{IsFirstNot};
 ghost use Rattle.sessions.specs.Desks.{first_amiss};
-ghost use Rattle.sessions.specs.Fed.{asked, IsAsked, HasFed};
+ghost use Rattle.sessions.specs.Fed.{asked, IsAsked, HasCountable, DiffersFirstAt, IsFirstUnasked, IsUnserved, HasFed};
 ghost use Rattle.sessions.specs.Faults.{IsUnfed};
 ghost use Rattle.sessions.specs.Sessions.{requests_of};
 
@@ -24,8 +22,8 @@ pub(crate) struct Fed<O> {
     pub(crate) answers: Vec<Answered>,
 }
 
-/// Closes a run that was fed. Where the logs tell the rows, it is looked whether the desk takes each answer and has one for each job, and
-/// whether each log is of what its operator asked for.
+/// Closes a run that was fed. Where the logs tell the rows, it is looked whether each log is of what its operator asked for, and whether the desk
+/// takes each answer and has one for each job.
 pub(crate) fn close_fed<O: Operation>(
     admin: SharedAdmin<O>,
     fed: Fed<O>,
@@ -33,7 +31,7 @@ pub(crate) fn close_fed<O: Operation>(
 ) -> Result<(History<O>, SessionLogs<O>), Unclosed<History<O>, SessionLogs<O>>>
     ensures fed { IfOk result (λ r. HasFed admin.first admin.operators asks.now r.0 r.1) }
     ensures legal { IfOk result (λ r. r.0.rows ≡ run O.asks O.meaning r.0.first [] (calls_of r.0.rows)) }
-    ensures unfed { IfErr result (IsUnfed O.asks O.meaning admin.first admin.operators) }
+    ensures unfed { IfErr result (IsUnfed O.asks O.meaning admin.first admin.operators asks.now) }
 {
     let Fed {
         mut desk,
@@ -42,29 +40,39 @@ pub(crate) fn close_fed<O: Operation>(
     } = fed;
     match admin.close(logs) {
         Err(left) => Err(left),
-        Ok((history, logs)) => match amiss(&mut desk, &answers, logs.as_slice(), asks) {
-            None => Ok((history, logs)),
-            Some(operator) => Err(Unclosed {
-                fault: CloseFault::Mismatch(operator, 0),
-                history,
-                logs,
-            }),
-        },
+        Ok((history, logs)) => {
+            // (its rows can be counted, and so can the entries that tell them)
+            let _rows = history.rows();
+            match amiss(&mut desk, &answers, logs.as_slice(), asks) {
+                None => Ok((history, logs)),
+                Some(first) => Err(Unclosed {
+                    fault: CloseFault::Mismatch(first.0, first.1),
+                    history,
+                    logs,
+                }),
+            }
+        }
     }
 }
 
-/// The operator of whom the desk or the asks know otherwise than the answers and the logs.
+/// The operator of the first log that isn't of what the operator asks for, with the first place at which it isn't; or else the operator of whom
+/// the answers and the desk know otherwise, with the place 0.
 fn amiss<O: Operation>(
     desk: &mut Desk,
     answers: &[Answered],
     logs: &[SessionLog<O>],
     asks: &[Ask<O>],
-) -> Option<Operator>
-    ensures { IfNone result (All (IsAsked asks.now) logs.now) }
+) -> Option<(Operator, u32)>
+    requires { All HasCountable logs.now }
+    ensures none { IfNone result (All (IsAsked asks.now) logs.now) }
+    ensures some { IfSome result (λ first. IsUnserved asks.now logs.now first.0 first.1) }
 {
-    match settle(desk, answers) {
-        None => first_unasked(logs, asks),
-        Some(operator) => Some(operator),
+    match first_unasked(logs, asks) {
+        Some(first) => Some(first),
+        None => match settle(desk, answers) {
+            Some(operator) => Some((operator, 0)),
+            None => None,
+        },
     }
 }
 
@@ -80,34 +88,46 @@ fn settle(desk: &mut Desk, answers: &[Answered]) -> Option<Operator>
     desk.first_outstanding()
 }
 
-/// The operator of the first log that isn't of what the operator asks for.
-fn first_unasked<O: Operation>(logs: &[SessionLog<O>], asks: &[Ask<O>]) -> Option<Operator>
+/// The operator of the first log that isn't of what the operator asks for, and the first place at which it isn't.
+fn first_unasked<O: Operation>(logs: &[SessionLog<O>], asks: &[Ask<O>]) -> Option<(Operator, u32)>
+    requires { All HasCountable logs.now }
     ensures none { IfNone result (All (IsAsked asks.now) logs.now) }
-    ensures some { IfSome result (λ operator. (log : SessionLog O) × IsFirstNot (IsAsked asks.now) logs.now log × (log.operator ≡ operator)) }
+    ensures some { IfSome result (λ first. IsFirstUnasked asks.now logs.now first.0 first.1) }
 {
     for log in logs {
-        if !are_asked(&log.operator, log.entries.as_slice(), asks) {
-            return Some(log.operator);
+        match unasked_at(&log.operator, log.entries.as_slice(), asks) {
+            Some(place) => return Some((log.operator, place)),
+            None => {}
         }
     }
     None
 }
 
-/// Whether entries are of what an operator asks for.
-fn are_asked<O: Operation>(operator: &Operator, entries: &[LogEntry<O>], asks: &[Ask<O>]) -> bool
-    ensures yes { result ≡ true → requests_of entries.now ≡ asked operator.now asks.now }
-    ensures no { result ≡ false → ¬ (requests_of entries.now ≡ asked operator.now asks.now) }
+/// The first place, from 1 on, at which entries aren't of what an operator asks for: another request stands there, or there is an entry too
+/// many, or one too few.
+fn unasked_at<O: Operation>(
+    operator: &Operator,
+    entries: &[LogEntry<O>],
+    asks: &[Ask<O>],
+) -> Option<u32>
+    requires { length entries.now ≤ 1000000 }
+    ensures none { IfNone result (requests_of entries.now ≡ asked operator.now asks.now) }
+    ensures some { IfSome result (λ place. DiffersFirstAt place (requests_of entries.now) (asked operator.now asks.now)) }
 {
     let mut place: usize = 0;
     for ask in asks {
         if has_text(&ask.operator, operator.text()) {
             if !asks_at(entries, place, ask) {
-                return false;
+                return Some(place as u32 + 1);
             }
             place += 1;
         }
     }
-    place == entries.len()
+    if place < entries.len() {
+        Some(place as u32 + 1)
+    } else {
+        None
+    }
 }
 
 /// Whether there is an entry at the place, and it is of this request.

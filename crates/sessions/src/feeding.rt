@@ -29,8 +29,9 @@ const WAITING: usize = 16;
 /// of each operator are then the requests that it asked for, in order, and each log tells them. Each request is of one of the operators.
 ///
 /// The gate is called by all threads. The faults stand in [`RunError`] in the order in which they are told; of the workers' faults the first in
-/// that order is told. Where the logs tell the rows, `Mismatch(operator, 0)` is told of the first answer that the desk doesn't take, or of the
-/// first job without an answer, or of the first log that isn't of what was asked for. All workers have come to their ends when this returns.
+/// that order is told. Where the logs tell the rows, `Mismatch` is told of the first log that isn't of what its operator asked for, with the first
+/// place, from 1 on, at which it isn't; or else, with the place 0, of the first answer that the desk doesn't take, or of the first job without an
+/// answer. All workers have come to their ends when this returns.
 ///
 /// While a worker is held up sixteen requests may wait for it; then those behind them wait too, also those of other operators. So a gate
 /// shouldn't wait for a request that stands far behind.
@@ -50,7 +51,7 @@ where
     ensures fed { IfOk result (λ r. HasFed tree operators asks r.0 r.1) }
     ensures legal { IfOk result (λ r. r.0.rows ≡ run O.asks O.meaning r.0.first [] (calls_of r.0.rows)) }
     ensures why { IfErr result (λ why. IsRunError operators why) }
-    ensures unclosed { IfErr result (λ why. IfUnclosed why (IsUnfed O.asks O.meaning tree operators)) }
+    ensures unclosed { IfErr result (λ why. IfUnclosed why (IsUnfed O.asks O.meaning tree operators asks)) }
 {
     if operators.as_slice().len() > MAX_SESSIONS {
         return Err(RunError::TooManySessions);
@@ -78,7 +79,7 @@ where
     ensures fed { IfOk result (λ r. HasFed admin.first admin.operators asks r.0 r.1) }
     ensures legal { IfOk result (λ r. r.0.rows ≡ run O.asks O.meaning r.0.first [] (calls_of r.0.rows)) }
     ensures why { IfErr result (λ why. IsRunError admin.operators why) }
-    ensures unclosed { IfErr result (λ why. IfUnclosed why (IsUnfed O.asks O.meaning admin.first admin.operators)) }
+    ensures unclosed { IfErr result (λ why. IfUnclosed why (IsUnfed O.asks O.meaning admin.first admin.operators asks)) }
 {
     let copies = asks.copy()?;
     let fed = feed_in_threads(rt, alloc, &admin, gate, operators, asks)?;

@@ -13,7 +13,7 @@ use std::test::Fail;
 use unit_name::ample;
 
 /// An empty tree, which the operators of these letters share.
-fn shared(alloc: Global, letters: &[u8]) -> Result<SharedAdmin<Step>, AllocError> {
+pub(crate) fn shared(alloc: Global, letters: &[u8]) -> Result<SharedAdmin<Step>, AllocError> {
     match SharedAdmin::new(alloc, Tree::empty(alloc)?, operators(alloc, letters)?) {
         Ok(admin) => Ok(admin),
         Err(_) => Err(AllocError),
@@ -102,7 +102,7 @@ fn four_stale_then_locked(rt: HostRuntime) -> Result<(), Fail> {
 }
 
 /// A session that was told of so many rows, and made two calls, of which the second is an undo of the first.
-fn session_told(
+pub(crate) fn session_told(
     rt: &impl Wait,
     alloc: Global,
     admin: &SharedAdmin<Step>,
@@ -116,14 +116,19 @@ fn session_told(
     Ok(session)
 }
 
+/// The place that a fault tells.
+pub(crate) fn place_in(fault: &CloseFault) -> u32 {
+    match fault {
+        CloseFault::Mismatch(_, place) => *place,
+        _ => 99,
+    }
+}
+
 /// How closing goes: the place of the first entry that doesn't tell its row, if there is one.
 fn closed(admin: SharedAdmin<Step>, logs: SessionLogs<Step>) -> Option<u32> {
     match admin.close(logs) {
         Ok(_) => None,
-        Err(left) => match left.fault {
-            CloseFault::Mismatch(_, place) => Some(place),
-            _ => Some(99),
-        },
+        Err(left) => Some(place_in(&left.fault)),
     }
 }
 

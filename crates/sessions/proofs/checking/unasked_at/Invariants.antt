@@ -1,5 +1,5 @@
 use Rattle.sessions.proofs.Feeds.{HasAsked}
-use Rattle.sessions.proofs.checking.are_asked.Given as goal
+use Rattle.sessions.proofs.checking.unasked_at.Given as goal
 
 -- the entries before this place are of what was asked for so far
 abbrev pub invariant-loop-ask : goal.invariant-loop-ask

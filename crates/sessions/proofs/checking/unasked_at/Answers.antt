@@ -1,11 +1,11 @@
 use Rattle.std.proofs.Common.{◌+◌, true, false, sym, subst}
-use Rattle.sessions.proofs.Feeds.{HasAsked, passed, asked_one, asked_off, more_told, told_apart}
+use Rattle.sessions.proofs.Feeds.{HasAsked, passed, asked_one, asked_off, all_asked, more_told}
 use Rattle.sessions.proofs.Places.{by_text}
-use Rattle.sessions.proofs.checking.are_asked.Goals.{then-has_text+else-not-asks_at, else-has_text}
-use Rattle.sessions.proofs.checking.are_asked.Goals as goal
+use Rattle.sessions.proofs.checking.unasked_at.Goals.{then-has_text+else-not-asks_at, else-has_text}
+use Rattle.sessions.proofs.checking.unasked_at.Goals as goal
 
-pub returns-then-not-asks_at-clause-no : goal.returns-then-not-asks_at-clause-no
-returns-then-not-asks_at-clause-no g c is_false =
+pub returns-then-not-asks_at-clause-some : goal.returns-then-not-asks_at-clause-some
+returns-then-not-asks_at-clause-some g c =
     let here = by_text c.text.result.now c.args.operator.now c.ask-item.result.operator c.has_text.result true c.text.ensures c.has_text.ensures c.if-has_text.true in
     asked_off c.args.operator.now c.args.entries.now c.args.asks.now c.loop-ask.place c.loop-ask.ask-index c.ask-item.result c.ask-item.is c.loop-ask-test.true c.loop-ask.invariant here (c.asks_at.ensures.no c.if-not-asks_at.true)
 
@@ -22,6 +22,6 @@ loop-ask-preserved g c = elim c.if-has_text.branch [
       (passed c.args.operator.now c.args.entries.now c.args.asks.now c.loop-ask.place c.loop-ask.ask-index c.ask-item.result c.ask-item.is c.loop-ask-test.true c.loop-ask.invariant away))
 ]
 
-pub returns-clause-no : goal.returns-clause-no
-returns-clause-no g c off =
-    more_told c.args.operator.now c.args.entries.now c.args.asks.now c.loop-ask.place c.loop-ask.ask-index c.loop-ask-test.false c.loop-ask.invariant (told_apart c.loop-ask.place _ off)
+pub returns-then-place-entries-clause-some : goal.returns-then-place-entries-clause-some
+returns-then-place-entries-clause-some g c =
+    more_told c.args.operator.now c.args.entries.now c.args.asks.now c.loop-ask.place c.loop-ask.ask-index c.loop-ask-test.false c.loop-ask.invariant c.if-place-entries.true
