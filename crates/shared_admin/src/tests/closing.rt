@@ -154,12 +154,14 @@ fn assert_all_close(
     Ok(())
 }
 
-const CLOSED: [Closing; 4] = [
+const CLOSED: [Closing; 5] = [
     (b"A+a B+b", b"A +a01k-/B +b12k-", b"ok-2ak-bk-"),
     // in another order, the logs are the same
     (b"A+a B+b", b"B +b12k-/A +a01k-", b"ok-2ak-bk-"),
     // an operator who asks for nothing has a log without entries
     (b"B+b B+b", b"A/B +b01k- +b12rb", b"ok-2bk-br-"),
+    // a plan's row is of the operator who commits it
+    (b"s p+a Bc A+b", b"A +b12k-/B +a01k-", b"ok-2bk-ak-"),
     (
         b"A+a B?a Au1 Bu9",
         b"A +a01k- u123U1/B ?a02s- u934n-",
