@@ -22,6 +22,3 @@ pub use stream::{MAX_INTERRUPTIONS, Sink, Source, Stop};
 pub use to_write::ToWrite;
 pub use write_buffer::WriteBuffer;
 pub use writing::WriteFault;
-
-#[cfg(test)]
-mod tests;

@@ -18,6 +18,3 @@ pub use capture_error::CaptureError;
 pub use capturing::capture;
 pub use disk::{Disk, Found, Listing, Oddity};
 pub use error::{ApplyError, DiskError, StepError};
-
-#[cfg(test)]
-mod tests;

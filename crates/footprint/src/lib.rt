@@ -44,6 +44,3 @@ pub use touching::touches;
 pub use unit_file::{Notice, NoticeKey, Notices, Reason};
 pub use units::Units;
 pub use wanted::WantedLinks;
-
-#[cfg(test)]
-mod tests;

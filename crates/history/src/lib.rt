@@ -12,6 +12,3 @@ pub use laws::{agreed_plans_are_new, survivors_alone_remain};
 pub use operator::{BadOperator, Operator};
 pub use plan::{Commit, Plan, Uncommitted};
 pub use row::{Request, Row, RowReply, UndoRefusal};
-
-#[cfg(test)]
-mod tests;

@@ -23,6 +23,3 @@ pub use laws::{
 };
 pub use preset::Preset;
 pub use reenable::Reenable;
-
-#[cfg(test)]
-mod tests;

@@ -24,6 +24,3 @@ pub use members::{MAX_UNITS, Members};
 pub use section::{Section, section_into};
 pub use wanting::{wanted, wanted_into};
 pub use wants::{Wanted, WantedError, WantedFault};
-
-#[cfg(test)]
-mod tests;

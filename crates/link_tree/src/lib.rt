@@ -42,6 +42,3 @@ pub use unit_paths::{
     links_lead_to_paths, paths_lie_beneath,
 };
 pub use writing::{WriteError, write_before_inventory, write_inventory};
-
-#[cfg(test)]
-mod tests;

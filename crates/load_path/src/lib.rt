@@ -15,6 +15,3 @@ pub use laws::{
     slots_are_followed, the_first_entry_counts, units_have_files_and_names,
 };
 pub use real_name::put_in;
-
-#[cfg(test)]
-mod tests;

@@ -18,6 +18,3 @@ pub use laws::{
 pub use pattern::pattern_matches;
 pub use policy::{Policy, Rules};
 pub use rule::{Instances, Rule, Verdict};
-
-#[cfg(test)]
-mod tests;

@@ -5,6 +5,3 @@ mod numbers;
 mod readers;
 
 pub use readers::Readers;
-
-#[cfg(test)]
-mod tests;

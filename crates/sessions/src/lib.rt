@@ -23,6 +23,3 @@ pub use requests::Requests;
 pub use run::run_sessions;
 pub use session::{Session, Unserved};
 pub use works::{Work, Works};
-
-#[cfg(test)]
-mod tests;

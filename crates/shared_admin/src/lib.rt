@@ -22,6 +22,3 @@ pub use log::{LogEntries, LogEntry, SessionLog, SessionLogs};
 pub use operators::{MAX_SESSIONS, Operators};
 pub use shared::{OpenError, SharedAdmin};
 pub use snapshot::{Snapshot, plan};
-
-#[cfg(test)]
-mod tests;

@@ -20,6 +20,3 @@ pub use link_units::LinkUnits;
 pub use mask::{Mask, Unmask};
 pub use paths::Paths;
 pub use set_default::SetDefault;
-
-#[cfg(test)]
-mod tests;

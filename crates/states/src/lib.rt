@@ -14,6 +14,3 @@ pub use dependencies::Dependencies;
 pub use get_default::GetDefault;
 pub use is_enabled::IsEnabled;
 pub use laws::{dependencies_are_least, dependencies_turn_round, words_are_told_where_they_hold};
-
-#[cfg(test)]
-mod tests;

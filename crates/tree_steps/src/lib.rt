@@ -10,6 +10,3 @@ mod turn;
 pub use differing::changes_between;
 pub use same::are_same;
 pub use steps::steps_between;
-
-#[cfg(test)]
-mod tests;

@@ -23,6 +23,3 @@ pub use notice::{Notice, NoticeKey, Reason};
 pub use notices::{Notices, NoticesIter};
 pub use reading::install_of;
 pub use word::{Word, Words};
-
-#[cfg(test)]
-mod tests;

@@ -18,6 +18,3 @@ pub use laws::{
 };
 pub use name::{UnitName, is_unit_name, kind_in};
 pub use specifier::expand;
-
-#[cfg(test)]
-mod tests;

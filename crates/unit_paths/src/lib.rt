@@ -24,6 +24,3 @@ pub use path::TreePath;
 pub use place::{Place, Scope};
 pub use slot::{Dependency, Slot};
 pub use target::Target;
-
-#[cfg(test)]
-mod tests;

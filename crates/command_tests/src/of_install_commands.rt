@@ -1,0 +1,7 @@
+mod again;
+mod checking;
+mod composites;
+mod disabling;
+mod enabling;
+mod large;
+mod outcomes;

@@ -1,0 +1,7 @@
+mod adds;
+mod both;
+mod defaults;
+mod hands;
+mod links;
+mod masks;
+mod outcomes;

@@ -1,0 +1,200 @@
+//! mask and unmask.
+use super::outcomes::{assert_reads, assert_told};
+use crate::trees::{assert_other, name, path, tree, units};
+use footprint::{Key, Operation, Outcome, Reading, agrees, touches};
+use link_tree::{Change, Scope, Tree};
+use slot_commands::{Mask, Unmask};
+use std::alloc::{AllocError, Global};
+use std::process::Abort;
+use std::test::Fail;
+use unit_name::{NameError, ample};
+
+/// `a` and `d` are masked, the second in another spelling, `e` is an empty file, `f` is a file, `x` a link, and `r` is
+/// masked until the next start.
+const TREE: &[u8] = b"unitadm-inventory 1\n\
+    L\t/etc/systemd/system/a.service\t/dev/null\n\
+    L\t/etc/systemd/system/d.service\t../../../dev/./null\n\
+    F\t0\t/etc/systemd/system/e.service\n\n\
+    F\t1\t/etc/systemd/system/f.service\nf\n\
+    L\t/etc/systemd/system/x.service\t/a\n\
+    L\t/run/systemd/system/r.service\t/dev/null\n\
+    end\n";
+
+fn mask(alloc: Global, scope: Scope, names: &[u8]) -> Result<Mask, NameError> {
+    let units = units(alloc, names)?;
+    Ok(Mask { scope, units })
+}
+
+fn unmask(alloc: Global, scope: Scope, names: &[u8]) -> Result<Unmask, NameError> {
+    let units = units(alloc, names)?;
+    Ok(Unmask { scope, units })
+}
+
+/// What `mask` comes to without `--runtime`.
+fn assert_masked(rt: &impl Abort, alloc: Global, names: &[u8], text: &[u8]) -> Result<(), Fail> {
+    let mask = mask(alloc, Scope::Etc, names)?;
+    assert_told(rt, alloc, &mask, TREE, text)
+}
+
+#[test]
+fn mask_fills_empty_slots(rt: HostRuntime) -> Result<(), Fail> {
+    let names = b"z.service a.service b@.socket z.service d.service";
+    let text = b"done\n\
+        + /etc/systemd/system/b@.socket -> /dev/null\n\
+        + /etc/systemd/system/z.service -> /dev/null\n";
+    assert_masked(&rt, rt.alloc(), names, text)
+}
+
+#[test]
+fn mask_fills_a_slot_until_the_next_start(rt: HostRuntime) -> Result<(), Fail> {
+    let mask = mask(rt.alloc(), Scope::Run, b"x.service")?;
+    let text = b"done\n+ /run/systemd/system/x.service -> /dev/null\n";
+    assert_told(&rt, rt.alloc(), &mask, TREE, text)
+}
+
+#[test]
+fn other_entries_are_in_the_way_of_mask(rt: HostRuntime) -> Result<(), Fail> {
+    let alloc = rt.alloc();
+    let text = b"exists: /etc/systemd/system/x.service\n";
+    assert_masked(&rt, alloc, b"z.service x.service", text)?;
+    let text = b"exists: /etc/systemd/system/e.service\n";
+    assert_masked(&rt, alloc, b"z.service e.service", text)?;
+    let text = b"exists: /etc/systemd/system/f.service\n";
+    assert_masked(&rt, alloc, b"z.service f.service", text)
+}
+
+#[test]
+fn unmask_takes_masks_away(rt: HostRuntime) -> Result<(), Fail> {
+    let names = b"x.service d.service a.service e.service r.service f.service d.service";
+    let unmask = unmask(rt.alloc(), Scope::Etc, names)?;
+    let text = b"done\n\
+        - /etc/systemd/system/a.service -> /dev/null\n\
+        - /etc/systemd/system/d.service -> ../../../dev/./null\n\
+        - /etc/systemd/system/e.service file \n";
+    assert_told(&rt, rt.alloc(), &unmask, TREE, text)
+}
+
+#[test]
+fn mask_reads_up_to_the_refused_slot(rt: HostRuntime) -> Result<(), Fail> {
+    let mask = mask(rt.alloc(), Scope::Etc, b"z.service x.service b.service")?;
+    let text = b"/etc/systemd/system/x.service\n/etc/systemd/system/z.service\n";
+    assert_reads(&rt, rt.alloc(), &mask, TREE, text)
+}
+
+#[test]
+fn unmask_reads_each_slot_once(rt: HostRuntime) -> Result<(), Fail> {
+    let unmask = unmask(rt.alloc(), Scope::Run, b"r.service b.service r.service")?;
+    let text = b"/run/systemd/system/b.service\n/run/systemd/system/r.service\n";
+    assert_reads(&rt, rt.alloc(), &unmask, TREE, text)
+}
+
+fn assert_masks_apart(
+    rt: &impl Abort,
+    alloc: Global,
+    one: &Mask,
+    scope: Scope,
+    names: &[u8],
+) -> Result<(), NameError> {
+    let other = mask(alloc, scope, names)?;
+    assert_other(rt, one, &other);
+    Ok(())
+}
+
+#[test]
+fn masks_are_told_apart(rt: HostRuntime) -> Result<(), Fail> {
+    let one = mask(rt.alloc(), Scope::Etc, b"x.service")?;
+    assert_masks_apart(&rt, rt.alloc(), &one, Scope::Etc, b"y.service")?;
+    assert_masks_apart(&rt, rt.alloc(), &one, Scope::Run, b"x.service")?;
+    Ok(())
+}
+
+fn assert_unmasks_apart(
+    rt: &impl Abort,
+    alloc: Global,
+    one: &Unmask,
+    scope: Scope,
+    names: &[u8],
+) -> Result<(), NameError> {
+    let other = unmask(alloc, scope, names)?;
+    assert_other(rt, one, &other);
+    Ok(())
+}
+
+#[test]
+fn unmasks_are_told_apart(rt: HostRuntime) -> Result<(), Fail> {
+    let one = unmask(rt.alloc(), Scope::Etc, b"x.service")?;
+    let names = b"x.service y.service";
+    assert_unmasks_apart(&rt, rt.alloc(), &one, Scope::Etc, names)?;
+    assert_unmasks_apart(&rt, rt.alloc(), &one, Scope::Run, b"x.service")?;
+    Ok(())
+}
+
+fn run_on_empty(alloc: Global, mask: &Mask) -> Result<Outcome, AllocError> {
+    let tree = Tree::empty(alloc)?;
+    mask.run(alloc, &tree)
+}
+
+/// The mask of `x` on the empty tree.
+fn masked(alloc: Global) -> Result<Outcome, Fail> {
+    let mask = mask(alloc, Scope::Etc, b"x.service")?;
+    Ok(ample!(run_on_empty(alloc, &mask), AllocError)?)
+}
+
+/// The slot of `x` is read as other than it is in a tree.
+fn assert_other_slot(rt: &impl Abort, tree: &Tree, reading: &Reading) {
+    match agrees(tree, reading) {
+        Err(Key::Cell(path)) => {
+            assert_eq!(rt; path.text(), b"/etc/systemd/system/x.service".as_slice());
+        }
+        _ => assert!(rt; false),
+    }
+}
+
+fn assert_own(rt: &impl Abort, alloc: Global, reading: &Reading) -> Result<(), AllocError> {
+    let tree = ample!(Tree::empty(alloc), AllocError)?;
+    assert!(rt; agrees(&tree, reading).is_ok());
+    Ok(())
+}
+
+fn assert_other_than(
+    rt: &impl Abort,
+    alloc: Global,
+    inventory: &[u8],
+    reading: &Reading,
+) -> Result<(), Fail> {
+    let tree = tree(alloc, inventory)?;
+    assert_other_slot(rt, &tree, reading);
+    Ok(())
+}
+
+#[test]
+fn a_mask_reads_its_slot_which_is_other_then(rt: HostRuntime) -> Result<(), Fail> {
+    let outcome = masked(rt.alloc())?;
+    assert_own(&rt, rt.alloc(), &outcome.reading)?;
+    let after = b"unitadm-inventory 1\nL\t/etc/systemd/system/x.service\t/dev/null\nend\n";
+    assert_other_than(&rt, rt.alloc(), after, &outcome.reading)
+}
+
+fn assert_cell_alone(rt: &impl Abort, change: &Change, cell: &Key, marked: &Key) {
+    assert!(rt; touches(change, cell));
+    assert!(rt; !touches(change, marked));
+    assert!(rt; !touches(change, &Key::Presets));
+    assert!(rt; !touches(change, &Key::Links));
+}
+
+fn assert_touched(rt: &impl Abort, alloc: Global, change: &Change) -> Result<(), Fail> {
+    let cell = Key::Cell(path(alloc, b"/etc/systemd/system/x.service")?);
+    let marked = Key::Marked(Scope::Etc, name(alloc, b"x.service")?);
+    assert_cell_alone(rt, change, &cell, &marked);
+    Ok(())
+}
+
+#[test]
+fn a_mask_touches_its_slot_alone(rt: HostRuntime) -> Result<(), Fail> {
+    let outcome = masked(rt.alloc())?;
+    assert_eq!(rt; outcome.changes.as_slice().len(), 1);
+    for change in outcome.changes.as_slice() {
+        assert_touched(&rt, rt.alloc(), change)?;
+    }
+    Ok(())
+}

@@ -1,0 +1,166 @@
+//! Dependencies, either way.
+use super::answers::answer_of;
+use crate::trees::{assert_looks_at, tree};
+use footprint::{Answer, Operation};
+use link_tree::Tree;
+use states::Dependencies;
+use std::alloc::{AllocError, Global};
+use std::process::Abort;
+use std::test::Fail;
+use unit_name::{NameError, UnitName, ample};
+
+fn question(alloc: Global, reverse: bool, name: &[u8]) -> Result<Dependencies, NameError> {
+    let unit = ample!(UnitName::parse(alloc, name), NameError::OutOfMemory)?;
+    Ok(Dependencies { unit, reverse })
+}
+
+/// The names of an answer, a line each.
+fn lines(alloc: Global, answer: &Answer) -> Result<Vec<u8>, AllocError> {
+    let mut text = Vec::new(alloc);
+    if let Answer::Names(names) = answer {
+        for name in names.as_slice() {
+            text.extend_from_slice(name.text())?;
+            text.push(b'\n')?;
+        }
+    }
+    Ok(text)
+}
+
+fn assert_names(
+    rt: &impl Abort,
+    alloc: Global,
+    tree: &Tree,
+    question: &Dependencies,
+    expected: &[u8],
+) -> Result<(), Fail> {
+    let answer = answer_of(alloc, tree, question)?;
+    let text = ample!(lines(alloc, &answer), AllocError)?;
+    assert_eq!(rt; text.as_slice(), expected);
+    Ok(())
+}
+
+/// Whether the question is reverse, the name, and what is answered.
+type Row = (bool, &'static [u8], &'static [u8]);
+
+fn assert_rows(rt: &impl Abort, alloc: Global, inventory: &[u8], rows: &[Row]) -> Result<(), Fail> {
+    let tree = tree(alloc, inventory)?;
+    for (reverse, name, expected) in rows {
+        let question = question(alloc, *reverse, name)?;
+        assert_names(rt, alloc, &tree, &question, expected)?;
+    }
+    Ok(())
+}
+
+/// Links in all four directories, one to `/dev/null`, a file, a unit that depends on itself, and a circle.
+const PLAIN: &[u8] = b"unitadm-inventory 1\n\
+    L\t/etc/systemd/system/a.target.wants/b.service\t/usr/lib/systemd/system/b.service\n\
+    L\t/etc/systemd/system/a.target.wants/n.service\t/dev/null\n\
+    F\t0\t/etc/systemd/system/a.target.wants/o.service\n\n\
+    L\t/etc/systemd/system/d.service\t/usr/lib/systemd/system/e.service\n\
+    L\t/run/systemd/system/b.service.requires/c.service\t../nowhere\n\
+    L\t/usr/lib/systemd/system/d.service.requires/a.target\t/x\n\
+    L\t/usr/lib/systemd/system/d.service.wants/d.service\t/x\n\
+    L\t/usr/local/lib/systemd/system/c.service.wants/d.service\t/x\n\
+    end\n";
+
+const PLAIN_ROWS: [Row; 8] = [
+    (false, b"a.target", b"b.service\nc.service\nd.service\n"),
+    (false, b"b.service", b"a.target\nc.service\nd.service\n"),
+    (false, b"d.service", b"a.target\nb.service\nc.service\n"),
+    (false, b"e.service", b""),
+    (true, b"a.target", b"b.service\nc.service\nd.service\n"),
+    (true, b"d.service", b"a.target\nb.service\nc.service\n"),
+    (true, b"n.service", b""),
+    (true, b"o.service", b""),
+];
+
+#[test]
+fn units_depend_by_links(rt: HostRuntime) -> Result<(), Fail> {
+    assert_rows(&rt, rt.alloc(), PLAIN, &PLAIN_ROWS)
+}
+
+/// Templates that name templates, plain units and an instance.
+const TEMPLATES: &[u8] = b"unitadm-inventory 1\n\
+    L\t/etc/systemd/system/c@.target.wants/m@.service\t/x\n\
+    L\t/etc/systemd/system/c@.target.wants/p.service\t/x\n\
+    L\t/etc/systemd/system/c@.target.wants/q@z.service\t/x\n\
+    L\t/etc/systemd/system/c@a.target.wants/own.service\t/x\n\
+    L\t/etc/systemd/system/m@.service.wants/n@.service\t/x\n\
+    L\t/etc/systemd/system/u.target.wants/m@.service\t/x\n\
+    end\n";
+
+const TEMPLATE_ROWS: [Row; 8] = [
+    (
+        false,
+        b"c@.target",
+        b"m@.service\nn@.service\np.service\nq@z.service\n",
+    ),
+    (
+        false,
+        b"c@a.target",
+        b"m@a.service\nn@a.service\nown.service\np.service\nq@z.service\n",
+    ),
+    (
+        false,
+        b"c@b.target",
+        b"m@b.service\nn@b.service\np.service\nq@z.service\n",
+    ),
+    (false, b"u.target", b"m@.service\nn@.service\n"),
+    (true, b"m@a.service", b"c@a.target\n"),
+    (true, b"n@a.service", b"c@a.target\nm@a.service\n"),
+    (true, b"p.service", b"c@.target\n"),
+    (true, b"n@.service", b"c@.target\nm@.service\nu.target\n"),
+];
+
+#[test]
+fn instances_take_the_links_of_their_templates(rt: HostRuntime) -> Result<(), Fail> {
+    assert_rows(&rt, rt.alloc(), TEMPLATES, &TEMPLATE_ROWS)
+}
+
+/// The name of the other template has 209 bytes.
+const LONG: &[u8] = b"unitadm-inventory 1\n\
+    L\t/etc/systemd/system/c@.target.wants/\
+    llllllllllllllllllllllllllllllllllllllllllllllllllllllllllllllllllllllllllllllllllllllllllllllllllll\
+    llllllllllllllllllllllllllllllllllllllllllllllllllllllllllllllllllllllllllllllllllllllllllllllllllll@.service\t/x\n\
+    end\n";
+
+/// An instance of 46 bytes fits into it, and one of 47 doesn't.
+const LONG_ROWS: [Row; 2] = [
+    (
+        false,
+        b"c@iiiiiiiiiiiiiiiiiiiiiiiiiiiiiiiiiiiiiiiiiiiiii.target",
+        b"llllllllllllllllllllllllllllllllllllllllllllllllllllllllllllllllllllllllllllllllllllllllllllllllllll\
+        llllllllllllllllllllllllllllllllllllllllllllllllllllllllllllllllllllllllllllllllllllllllllllllllllll@iiiiiiiiiiiiiiiiiiiiiiiiiiiiiiiiiiiiiiiiiiiiii.service\n",
+    ),
+    (
+        false,
+        b"c@iiiiiiiiiiiiiiiiiiiiiiiiiiiiiiiiiiiiiiiiiiiiiii.target",
+        b"",
+    ),
+];
+
+#[test]
+fn a_name_that_is_too_long_is_none(rt: HostRuntime) -> Result<(), Fail> {
+    assert_rows(&rt, rt.alloc(), LONG, &LONG_ROWS)
+}
+
+#[test]
+fn dependency_links_are_looked_at(rt: HostRuntime) -> Result<(), Fail> {
+    let alloc = rt.alloc();
+    let tree = tree(alloc, PLAIN)?;
+    let question = question(alloc, false, b"a.target")?;
+    assert_looks_at(&rt, alloc, &question, &tree, b"links\n")?;
+    Ok(())
+}
+
+/// A copy is the same, and a question; another unit or the other way is not the same.
+#[test]
+fn dependencies_are_copied(rt: HostRuntime) -> Result<(), Fail> {
+    let one = question(rt.alloc(), true, b"a.service")?;
+    let other = question(rt.alloc(), true, b"b.service")?;
+    let forward = question(rt.alloc(), false, b"a.service")?;
+    let copy = ample!(one.copy(), AllocError)?;
+    assert!(rt; copy.same(&one) && !copy.same(&other) && !copy.same(&forward));
+    assert!(rt; copy.asks_only());
+    Ok(())
+}

@@ -1,0 +1,101 @@
+//! Trees and names from texts, and what operations look at.
+use footprint::{Key, Operation, Subject, Units};
+use link_tree::{FromRead, InventoryError, PathError, Scope, Tree, TreePath, read_inventory};
+use std::alloc::{AllocError, Global};
+use std::process::Abort;
+use unit_name::{NameError, UnitName, ample};
+
+pub(crate) fn tree(alloc: Global, text: &[u8]) -> Result<Tree, InventoryError> {
+    let mut bytes = text;
+    ample!(
+        {
+            bytes = text;
+            read_inventory(alloc, &mut FromRead::new(&mut bytes))
+        },
+        InventoryError::OutOfMemory
+    )
+}
+
+pub(crate) fn name(alloc: Global, text: &[u8]) -> Result<UnitName, NameError> {
+    ample!(UnitName::parse(alloc, text), NameError::OutOfMemory)
+}
+
+pub(crate) fn path(alloc: Global, text: &[u8]) -> Result<TreePath, PathError> {
+    ample!(TreePath::parse(alloc, text), PathError::OutOfMemory)
+}
+
+fn push_unit(alloc: Global, units: &mut Units, text: &[u8]) -> Result<(), NameError> {
+    let name = UnitName::parse(alloc, text)?;
+    Ok(units.push(name)?)
+}
+
+/// The names of units that have spaces between them.
+pub(crate) fn units(alloc: Global, names: &[u8]) -> Result<Units, NameError> {
+    let mut units = Units::none(alloc);
+    for name in names.split(|b| *b == b' ') {
+        ample!(push_unit(alloc, &mut units, name), NameError::OutOfMemory)?;
+    }
+    Ok(units)
+}
+
+pub(crate) fn text_of(subject: &Subject) -> &[u8] {
+    match subject {
+        Subject::Unit(name) => name.text(),
+        Subject::Path(path) => path.text(),
+    }
+}
+
+/// Copies are the same, and no questions.
+pub(crate) fn assert_copied<O: Operation>(
+    rt: &impl Abort,
+    operation: &O,
+) -> Result<(), AllocError> {
+    let copy = ample!(operation.copy(), AllocError)?;
+    assert!(rt; copy.same(operation));
+    assert!(rt; !copy.asks_only());
+    Ok(())
+}
+
+pub(crate) fn assert_other<O: Operation>(rt: &impl Abort, one: &O, other: &O) {
+    assert!(rt; !one.same(other));
+    assert!(rt; !other.same(one));
+}
+
+fn push_key(out: &mut Vec<u8>, key: &Key) -> Result<(), AllocError> {
+    match key {
+        Key::Cell(path) => out.extend_from_slice(path.text())?,
+        Key::Marked(Scope::Etc, name) => {
+            out.extend_from_slice(b"etc ")?;
+            out.extend_from_slice(name.text())?;
+        }
+        Key::Marked(Scope::Run, name) => {
+            out.extend_from_slice(b"run ")?;
+            out.extend_from_slice(name.text())?;
+        }
+        Key::Presets => out.extend_from_slice(b"presets")?,
+        Key::Links => out.extend_from_slice(b"links")?,
+    }
+    out.extend_from_slice(b"\n")
+}
+
+fn read_by<O: Operation>(alloc: Global, operation: &O, tree: &Tree) -> Result<Vec<u8>, AllocError> {
+    let outcome = operation.run(alloc, tree)?;
+    let mut out = Vec::new(alloc);
+    for observation in outcome.reading.as_slice() {
+        push_key(&mut out, &observation.key)?;
+    }
+    Ok(out)
+}
+
+/// An operation looks at these keys, each on a line.
+pub(crate) fn assert_looks_at<O: Operation>(
+    rt: &impl Abort,
+    alloc: Global,
+    operation: &O,
+    tree: &Tree,
+    text: &[u8],
+) -> Result<(), AllocError> {
+    let read = ample!(read_by(alloc, operation, tree), AllocError)?;
+    assert_eq!(rt; read.as_slice(), text);
+    Ok(())
+}

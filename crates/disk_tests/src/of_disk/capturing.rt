@@ -1,0 +1,248 @@
+//! What is captured of roots.
+use super::fake::Failing;
+use super::root::Root;
+use super::values::{path, tree};
+use disk::{CaptureError, Oddity, capture};
+use link_tree::{Tree, TreePath};
+use std::alloc::{AllocError, Global};
+use std::process::Abort;
+use std::test::Fail;
+use tree_steps::are_same;
+use unit_name::ample;
+
+/// Slots of each kind, chains of links out of them, and much that is none of these.
+const WHOLE: &[u8] = b"unitadm-inventory 1
+L\t/etc/systemd/system/a.service\t/opt/a.service
+F\t1\t/etc/systemd/system/a.service.d/drop-in.conf
+d
+L\t/etc/systemd/system/away.service\t/opt/nothing.service
+L\t/etc/systemd/system/loop.service\t/opt/loop/one
+L\t/etc/systemd/system/masked.service\t/dev/null
+L\t/etc/systemd/system/multi-user.target.wants/w.service\t../w.service
+L\t/etc/systemd/system/x.target.requires/r.service\t/srv/r.service
+F\t1\t/etc/systemd/system-preset/50-local.preset
+p
+F\t1\t/run/systemd/system-preset/60-run.preset
+p
+F\t1\t/run/systemd/system/run.service
+r
+F\t1\t/usr/lib/systemd/system-preset/90-systemd.preset
+p
+F\t1\t/usr/lib/systemd/system/w.service
+w
+F\t1\t/usr/local/lib/systemd/system-preset/10-unread.preset
+p
+F\t1\t/usr/local/lib/systemd/system/local.service
+l
+L\t/opt/a.service\t../srv/b.service
+L\t/opt/loop/one\ttwo
+L\t/opt/loop/two\tone
+F\t1\t/srv/b.service
+b
+F\t1\t/srv/asked.service
+k
+F\t1\t/srv/other.service
+o
+F\t1\t/srv/r.service
+r
+F\t1\t/dev/null
+n
+end
+";
+
+const CAPTURED: &[u8] = b"unitadm-inventory 1
+L\t/etc/systemd/system/a.service\t/opt/a.service
+L\t/etc/systemd/system/away.service\t/opt/nothing.service
+L\t/etc/systemd/system/loop.service\t/opt/loop/one
+L\t/etc/systemd/system/masked.service\t/dev/null
+L\t/etc/systemd/system/multi-user.target.wants/w.service\t../w.service
+L\t/etc/systemd/system/x.target.requires/r.service\t/srv/r.service
+F\t1\t/etc/systemd/system-preset/50-local.preset
+p
+F\t1\t/run/systemd/system-preset/60-run.preset
+p
+F\t1\t/run/systemd/system/run.service
+r
+F\t1\t/usr/lib/systemd/system-preset/90-systemd.preset
+p
+F\t1\t/usr/lib/systemd/system/w.service
+w
+F\t1\t/usr/local/lib/systemd/system/local.service
+l
+L\t/opt/a.service\t../srv/b.service
+L\t/opt/loop/one\ttwo
+L\t/opt/loop/two\tone
+F\t1\t/srv/b.service
+b
+F\t1\t/srv/r.service
+r
+end
+";
+
+/// A file that is asked for, beside these.
+const ASKED: &[u8] = b"/srv/asked.service";
+
+/// A link to a link, whose text leads beneath that.
+const THROUGH: &[u8] = b"unitadm-inventory 1
+L\t/etc/systemd/system/a.service\t/opt/app
+L\t/etc/systemd/system/b.service\t/opt/app/b.service
+L\t/opt/app\t/srv
+end
+";
+
+/// What came of a capture.
+#[derive(Clone, Copy, Debug, PartialEq, Eq)]
+enum Came {
+    Equal,
+    Other(usize),
+    Odd(Oddity),
+    NoDirectory,
+    TooMany,
+    BadShape,
+    Failed,
+}
+
+fn capture_on(
+    alloc: Global,
+    root: &mut Root,
+    also: &[TreePath],
+    wanted: &Tree,
+) -> Result<Came, AllocError> {
+    match capture(alloc, root, also) {
+        Ok(tree) if are_same(&tree, wanted) => Ok(Came::Equal),
+        Ok(tree) => Ok(Came::Other(tree.len())),
+        Err(CaptureError::Odd(_slot, oddity)) => Ok(Came::Odd(oddity)),
+        Err(CaptureError::NoDirectory(_directory)) => Ok(Came::NoDirectory),
+        Err(CaptureError::TooMany) => Ok(Came::TooMany),
+        Err(CaptureError::BadShape) => Ok(Came::BadShape),
+        Err(CaptureError::Failed) => Ok(Came::Failed),
+        Err(CaptureError::OutOfMemory) => Err(AllocError),
+    }
+}
+
+/// What stands oddly in a root, and where.
+#[derive(Clone, Copy, Debug)]
+enum Strange {
+    Nothing,
+    Odd(&'static [u8]),
+    NoDirectory(&'static [u8]),
+    Beneath(&'static [u8]),
+}
+
+fn root(alloc: Global, whole: &Tree, strange: Strange) -> Result<Root, Fail> {
+    let mut root = Root::new(ample!(whole.share(), AllocError)?, Failing::NEVER);
+    match strange {
+        Strange::Nothing => {}
+        Strange::Odd(at) => root.odd = Some(path(alloc, at)?),
+        Strange::NoDirectory(at) => root.no_directory = Some(path(alloc, at)?),
+        Strange::Beneath(at) => root.beneath = Some(path(alloc, at)?),
+    }
+    Ok(root)
+}
+
+fn assert_comes(
+    rt: &impl Abort,
+    alloc: Global,
+    whole: &[u8],
+    strange: Strange,
+    wanted: Came,
+) -> Result<(), Fail> {
+    let whole = tree(alloc, whole)?;
+    let captured = tree(alloc, CAPTURED)?;
+    let mut root = root(alloc, &whole, strange)?;
+    let got = ample!(capture_on(alloc, &mut root, &[], &captured), AllocError)?;
+    assert_eq!(rt; got, wanted);
+    assert_eq!(rt; root.failures, 0);
+    Ok(())
+}
+
+#[test]
+fn slots_and_what_links_lead_to(rt: HostRuntime) -> Result<(), Fail> {
+    assert_comes(&rt, rt.alloc(), WHOLE, Strange::Nothing, Came::Equal)
+}
+
+/// What is captured is captured again as it is.
+#[test]
+fn no_more_is_captured(rt: HostRuntime) -> Result<(), Fail> {
+    assert_comes(&rt, rt.alloc(), CAPTURED, Strange::Nothing, Came::Equal)
+}
+
+#[test]
+fn odd_things_at_slots_are_told(rt: HostRuntime) -> Result<(), Fail> {
+    let odd = Came::Odd(Oddity::Directory);
+    let unit = Strange::Odd(b"/usr/lib/systemd/system/w.service");
+    assert_comes(&rt, rt.alloc(), WHOLE, unit, odd)?;
+    let preset = Strange::Odd(b"/usr/lib/systemd/system-preset/90-systemd.preset");
+    assert_comes(&rt, rt.alloc(), WHOLE, preset, odd)
+}
+
+/// Elsewhere they are as good as nothing: here the last file of a chain is none.
+#[test]
+fn odd_things_elsewhere_are_left_out(rt: HostRuntime) -> Result<(), Fail> {
+    let file = Strange::Odd(b"/srv/b.service");
+    assert_comes(&rt, rt.alloc(), WHOLE, file, Came::Other(16))?;
+    let unseen = Strange::Odd(b"/srv/other.service");
+    assert_comes(&rt, rt.alloc(), WHOLE, unseen, Came::Equal)
+}
+
+#[test]
+fn files_in_place_of_directories_are_told(rt: HostRuntime) -> Result<(), Fail> {
+    let wants = Strange::NoDirectory(b"/etc/systemd/system/multi-user.target.wants");
+    assert_comes(&rt, rt.alloc(), WHOLE, wants, Came::NoDirectory)?;
+    let presets = Strange::NoDirectory(b"/etc/systemd/system-preset");
+    assert_comes(&rt, rt.alloc(), WHOLE, presets, Came::NoDirectory)?;
+    let drop_ins = Strange::NoDirectory(b"/etc/systemd/system/a.service.d");
+    assert_comes(&rt, rt.alloc(), WHOLE, drop_ins, Came::Equal)
+}
+
+#[test]
+fn entries_beneath_others_are_told(rt: HostRuntime) -> Result<(), Fail> {
+    let beneath = Strange::Beneath(b"/opt/app/b.service");
+    assert_comes(&rt, rt.alloc(), THROUGH, beneath, Came::BadShape)
+}
+
+#[test]
+fn what_is_asked_for_is_captured(rt: HostRuntime) -> Result<(), Fail> {
+    let alloc = rt.alloc();
+    let whole = tree(alloc, WHOLE)?;
+    let captured = tree(alloc, CAPTURED)?;
+    let mut root = root(alloc, &whole, Strange::Nothing)?;
+    let also = [path(alloc, ASKED)?, path(alloc, b"/srv/nothing")?];
+    let got = ample!(capture_on(alloc, &mut root, &also, &captured), AllocError)?;
+    assert_eq!(rt; got, Came::Other(18));
+    Ok(())
+}
+
+/// What comes of a capture of which one call fails, how often it failed, and whether there was such a call.
+fn capture_failing(
+    alloc: Global,
+    whole: &Tree,
+    captured: &Tree,
+    call: u32,
+) -> Result<(Came, u64, bool), AllocError> {
+    let mut root = Root::new(whole.share()?, Failing::once(call));
+    let came = capture_on(alloc, &mut root, &[], captured)?;
+    Ok((came, root.failures, call < root.calls))
+}
+
+/// Each call fails in turn, and that is told.
+#[test]
+fn failures_are_told(rt: HostRuntime) -> Result<(), Fail> {
+    let alloc = rt.alloc();
+    let whole = tree(alloc, WHOLE)?;
+    let captured = tree(alloc, CAPTURED)?;
+    for call in 0..40 {
+        let got = ample!(capture_failing(alloc, &whole, &captured, call), AllocError)?;
+        let (came, failures, has_failed) = got;
+        assert_eq!(rt; failures, u64::from(has_failed));
+        assert_eq!(rt;
+            came,
+            if has_failed {
+                Came::Failed
+            } else {
+                Came::Equal
+            }
+        );
+    }
+    Ok(())
+}

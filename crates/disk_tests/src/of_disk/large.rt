@@ -1,0 +1,57 @@
+//! Roots of 65,536 entries and one more.
+use super::fake::Failing;
+use super::root::Root;
+use disk::{CaptureError, capture};
+use link_tree::{Entry, Slot, Tree, TreePath};
+use std::alloc::{AllocError, Global};
+use std::test::Fail;
+use unit_name::ample;
+
+const FIRST: u32 = 100_000;
+
+/// As many entries as a tree may have.
+const ENTRIES: u32 = 65_536;
+
+fn set(alloc: Global, tree: &mut Tree, number: u32) -> Result<(), AllocError> {
+    let text = format!(in alloc; "/etc/systemd/system/{number}.service")?;
+    let (Ok(slot), Ok(link)) = (
+        TreePath::parse(alloc, text.as_bytes()),
+        Entry::link(alloc, b"/dev/null"),
+    ) else {
+        return Err(AllocError);
+    };
+    if Slot::of(&slot).is_none() {
+        return Err(AllocError);
+    }
+    tree.set(&slot, Some(link))
+}
+
+/// So many masked units.
+fn tree(alloc: Global, entries: u32) -> Result<Tree, AllocError> {
+    let mut tree = Tree::empty(alloc)?;
+    for number in 0..entries {
+        set(alloc, &mut tree, number.saturating_add(FIRST))?;
+    }
+    Ok(tree)
+}
+
+/// How many entries are captured, or none where there are too many.
+fn captured(alloc: Global, entries: u32) -> Result<Option<usize>, AllocError> {
+    let mut root = Root::new(tree(alloc, entries)?, Failing::NEVER);
+    match capture(alloc, &mut root, &[]) {
+        Ok(tree) => Ok(Some(tree.len())),
+        Err(CaptureError::TooMany) => Ok(None),
+        Err(_) => Err(AllocError),
+    }
+}
+
+#[test]
+fn as_many_as_a_tree_may_have_are_captured(rt: HostRuntime) -> Result<(), Fail> {
+    let alloc = rt.alloc();
+    assert_eq!(rt;
+        ample!(captured(alloc, ENTRIES), AllocError)?,
+        Some(ENTRIES as usize)
+    );
+    assert_eq!(rt; ample!(captured(alloc, ENTRIES + 1), AllocError)?, None);
+    Ok(())
+}

@@ -1,0 +1,64 @@
+//! Rows that are listed, and listed no longer.
+use super::values::{ROWS, assert_found, change, list, listed, reading};
+use link_tree::Change;
+use readers::Readers;
+use std::alloc::{AllocError, Global};
+use std::process::Abort;
+use std::test::Fail;
+
+/// The change that puts the link of a dependency.
+fn linked(alloc: Global) -> Result<Change, Fail> {
+    change(
+        alloc,
+        b"/etc/systemd/system/m.target.wants/a.service",
+        b"",
+        b"/opt/b.service",
+    )
+}
+
+/// Lists row n under the keys that row m looked at no longer.
+fn unlist(alloc: Global, readers: &mut Readers, n: u32, texts: &[u8]) -> Result<(), Fail> {
+    let reading = reading(alloc, texts)?;
+    readers.remove(&reading, n);
+    Ok(())
+}
+
+#[test]
+fn a_row_is_listed_under_its_own_keys_alone(rt: HostRuntime) -> Result<(), Fail> {
+    let mut readers = listed(rt.alloc(), &ROWS)?;
+    let change = linked(rt.alloc())?;
+    assert_found(&rt, rt.alloc(), &readers, &change, b"1236")?;
+    unlist(rt.alloc(), &mut readers, 6, b"etc:a.service")?;
+    assert_found(&rt, rt.alloc(), &readers, &change, b"1236")?;
+    unlist(rt.alloc(), &mut readers, 6, ROWS[5])?;
+    assert_found(&rt, rt.alloc(), &readers, &change, b"123")?;
+    unlist(rt.alloc(), &mut readers, 1, ROWS[5])?;
+    assert_found(&rt, rt.alloc(), &readers, &change, b"23")?;
+    list(rt.alloc(), &mut readers, 9, b"links")?;
+    assert_found(&rt, rt.alloc(), &readers, &change, b"239")
+}
+
+/// Tries to list a row, and where memory runs out finds what was found before, and then tries once more.
+fn assert_listed_or_as_before(
+    rt: &impl Abort,
+    alloc: Global,
+    readers: &mut Readers,
+    change: &Change,
+) -> Result<(), Fail> {
+    let reading = reading(
+        alloc,
+        b"/etc/systemd/system/x.service etc:a.service etc:x.service run:x.service presets links",
+    )?;
+    if let Err(AllocError) = readers.add(alloc, &reading, 8) {
+        assert_found(rt, alloc, readers, change, b"1236")?;
+        readers.add(alloc, &reading, 8)?;
+    }
+    assert_found(rt, alloc, readers, change, b"12368")
+}
+
+#[test]
+fn a_row_is_listed_or_nothing_changes(rt: HostRuntime) -> Result<(), Fail> {
+    let mut readers = listed(rt.alloc(), &ROWS)?;
+    let change = linked(rt.alloc())?;
+    assert_listed_or_as_before(&rt, rt.alloc(), &mut readers, &change)
+}

@@ -1,0 +1,7 @@
+mod committing;
+mod indexed;
+mod kinds;
+mod large;
+mod replies;
+mod undoing;
+mod watching;

@@ -1,0 +1,6 @@
+mod checking;
+mod desk;
+mod large;
+mod running;
+mod scripts;
+mod serving;

@@ -1,0 +1,6 @@
+mod closing;
+mod events;
+mod full;
+mod large;
+mod sharing;
+mod texts;

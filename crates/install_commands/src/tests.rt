@@ -1,7 +1,0 @@
-mod again;
-mod checking;
-mod composites;
-mod disabling;
-mod enabling;
-mod large;
-mod trees;

@@ -1,7 +1,0 @@
-mod adds;
-mod both;
-mod defaults;
-mod hands;
-mod links;
-mod masks;
-mod trees;

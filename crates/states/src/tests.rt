@@ -1,3 +1,0 @@
-mod asking;
-mod depending;
-mod trees;

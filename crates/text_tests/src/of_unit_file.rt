@@ -1,0 +1,317 @@
+mod files;
+mod notices;
+
+use files::FILES;
+use std::alloc::{AllocError, Global};
+use std::process::Abort;
+use std::test::Fail;
+use unit_file::{
+    InstallError, InstallFault, InstallText, MAX_LINE, Word, Words, identity, install_of,
+    is_template, listed_name,
+};
+use unit_name::{NameError, UnitName, ample};
+
+/// A file, and its `[Install]` section as lines `KEY=WORD WORD..`, one for each key that has a value.
+pub type Row<'a> = (&'a [u8], &'a [u8]);
+
+fn read(alloc: Global, bytes: &[u8]) -> Result<InstallText, InstallError> {
+    ample!(install_of(alloc, bytes), InstallError::OutOfMemory)
+}
+
+fn push_words(lines: &mut Vec<u8>, key: &[u8], words: &Words) -> Result<(), AllocError> {
+    let mut before = key;
+    for word in words.as_slice() {
+        lines.extend_from_slice(before)?;
+        lines.extend_from_slice(word.bytes())?;
+        before = b" ";
+    }
+    if !words.is_empty() {
+        lines.push(b'\n')?;
+    }
+    Ok(())
+}
+
+fn lines_of(alloc: Global, text: &InstallText) -> Result<Vec<u8>, AllocError> {
+    let mut lines = Vec::new(alloc);
+    push_words(&mut lines, b"WantedBy=", &text.wanted_by)?;
+    push_words(&mut lines, b"RequiredBy=", &text.required_by)?;
+    push_words(&mut lines, b"Alias=", &text.alias)?;
+    push_words(&mut lines, b"Also=", &text.also)?;
+    if let Some(instance) = &text.default_instance {
+        lines.extend_from_slice(b"DefaultInstance=")?;
+        lines.extend_from_slice(instance.bytes())?;
+        lines.push(b'\n')?;
+    }
+    Ok(lines)
+}
+
+fn assert_text(rt: &impl Abort, alloc: Global, text: &InstallText, row: Row) -> Result<(), Fail> {
+    let (file, expected) = row;
+    let lines = ample!(lines_of(alloc, text), AllocError)?;
+    assert_eq!(rt; lines.as_slice(), expected, "{file:?}");
+    Ok(())
+}
+
+#[test]
+fn files_are_read(rt: HostRuntime) -> Result<(), Fail> {
+    for row in FILES {
+        let text = read(rt.alloc(), row.0)?;
+        assert_text(&rt, rt.alloc(), &text, row)?;
+        let copy = ample!(text.copy(), AllocError)?;
+        assert_text(&rt, rt.alloc(), &copy, row)?;
+    }
+    Ok(())
+}
+
+#[test]
+fn lines_are_joined_and_dropped(rt: HostRuntime) -> Result<(), Fail> {
+    let rows: [Row; 20] = [
+        (b"", b""),
+        (b"\n\r\n\\", b""),
+        (
+            b"[Install]\nWantedBy=a.target \\\n# c\nb.target\nWantedBy=\nWantedBy=c.target\n[X]\nWantedBy=d.target",
+            b"WantedBy=c.target\n",
+        ),
+        (
+            b"[Install]\nWantedBy=a.target \\\n# c\nb.target\nWantedBy=c.target\n[X]\nWantedBy=d.target",
+            b"WantedBy=a.target b.target c.target\n",
+        ),
+        // A backslash at the end of the file.
+        (b"[Install]\nWantedBy=a\\", b"WantedBy=a\n"),
+        (b"[Install]\nWantedBy=a\\\n", b"WantedBy=a\n"),
+        (b"[Install]\nWantedBy=a\\\n#", b"WantedBy=a\n"),
+        // A CR belongs to a line's end before a LF alone.
+        (b"[Install]\nWantedBy=a\\\r\n", b"WantedBy=a\n"),
+        (b"[Install]\nWantedBy=a\\\r", b"WantedBy=a\\\n"),
+        (
+            b"[Install]\r\nWantedBy=a\r\r\n\rAlias=b\rc\r",
+            b"WantedBy=a\nAlias=b c\n",
+        ),
+        (
+            b"[Install]\nWantedBy=a\\\r\r\nAlias=b",
+            b"WantedBy=a\\\nAlias=b\n",
+        ),
+        // After another backslash, too.
+        (b"[Install]\nWantedBy=a\\\\\nb\n", b"WantedBy=a\\ b\n"),
+        (
+            b"[Install]\nWantedBy=a \\ \nAlias=b",
+            b"WantedBy=a \\\nAlias=b\n",
+        ),
+        // An empty line ends a continuation, a comment doesn't.
+        (
+            b"[Install]\nWantedBy=a \\\n\nAlias=b\n",
+            b"WantedBy=a\nAlias=b\n",
+        ),
+        (
+            b"[Install]\nWantedBy=a \\\n\t # c \\\n;d\nAlias=b\n",
+            b"WantedBy=a Alias=b\n",
+        ),
+        (
+            b"[Install]\nWantedBy=a \\\n[X]\nAlias=b\n",
+            b"WantedBy=a [X]\nAlias=b\n",
+        ),
+        // A comment is one before its backslash is looked at, and begins a line.
+        (b"[Install]\n# c \\\nWantedBy=a\n", b"WantedBy=a\n"),
+        (b"[Install]\nWantedBy=a # b\n", b"WantedBy=a # b\n"),
+        (b"#[Install]\nWantedBy=a\n", b""),
+        (
+            b"[Install]\n\xff\n\x00\nWantedBy=\xff\xfe \x00\n",
+            b"WantedBy=\xff\xfe \x00\n",
+        ),
+    ];
+    for row in rows {
+        let text = read(rt.alloc(), row.0)?;
+        assert_text(&rt, rt.alloc(), &text, row)?;
+    }
+    Ok(())
+}
+
+#[test]
+fn sections_and_keys_are_exact(rt: HostRuntime) -> Result<(), Fail> {
+    let rows: [Row; 22] = [
+        // Sections
+        (b" \t[Install]\t \nWantedBy=a", b"WantedBy=a\n"),
+        (b"[Install]x\nWantedBy=a", b""),
+        (b"[Install]\n[X]x\nWantedBy=a", b"WantedBy=a\n"),
+        (b"[Install]\n[\nWantedBy=a", b"WantedBy=a\n"),
+        (b"[Install]\n[]\nWantedBy=a", b""),
+        (b"[Install]\n[a]b]\nWantedBy=a", b""),
+        (b"[ Install ]\nWantedBy=a", b""),
+        (b"[install]\nWantedBy=a", b""),
+        (b"[Install\\\n]\nWantedBy=a", b""),
+        (b"\xef\xbb\xbf[Install]\nWantedBy=a", b""),
+        // Keys
+        (
+            b"[Install]\nwantedby=a\nWantedBy a\nAlso\n=b\nUpheldBy=c",
+            b"",
+        ),
+        (
+            b"[Install]\nWantedBy=a=b\nAlso==c",
+            b"WantedBy=a=b\nAlso==c\n",
+        ),
+        (
+            b"[Install]\n\tRequiredBy \t=\t a\t\tb \nRequiredBy=a",
+            b"RequiredBy=a b a\n",
+        ),
+        (
+            b"[Install]\nAlias=\"a b\" 'c' a\x0cb\x0b",
+            b"Alias=\"a b\" 'c' a\x0cb\x0b\n",
+        ),
+        // Empty values
+        (
+            b"[Install]\nWantedBy=a\nRequiredBy=b\nAlias=c\nWantedBy= \t",
+            b"RequiredBy=b\nAlias=c\n",
+        ),
+        (b"[Install]\nAlias=a\nAlias=\nAlias=b", b"Alias=b\n"),
+        (
+            b"[Install]\nRequiredBy=a\nRequiredBy=\nRequiredBy=b c",
+            b"RequiredBy=b c\n",
+        ),
+        (b"[Install]\nAlso=a\nAlso=\nAlso=b", b"Also=a b\n"),
+        // The last value
+        (
+            b"[Install]\nDefaultInstance=a\nDefaultInstance= b  c ",
+            b"DefaultInstance=b  c\n",
+        ),
+        (b"[Install]\nDefaultInstance=a\nDefaultInstance=", b""),
+        (
+            b"[Install]\nDefaultInstance=\nDefaultInstance=%i",
+            b"DefaultInstance=%i\n",
+        ),
+        (
+            b"[Install]\nDefaultInstance=a\n[Unit]\nDefaultInstance=b",
+            b"DefaultInstance=a\n",
+        ),
+    ];
+    for row in rows {
+        let text = read(rt.alloc(), row.0)?;
+        assert_text(&rt, rt.alloc(), &text, row)?;
+    }
+    Ok(())
+}
+
+/// The bytes so many times, and then the end.
+fn repeated(alloc: Global, bytes: &[u8], times: usize, end: &[u8]) -> Result<Vec<u8>, AllocError> {
+    let mut file = ample!(Vec::with_capacity(alloc, 2 * MAX_LINE), AllocError)?;
+    for _time in 0..times {
+        ample!(file.extend_from_slice(bytes), AllocError)?;
+    }
+    ample!(file.extend_from_slice(end), AllocError)?;
+    Ok(file)
+}
+
+#[test]
+fn a_line_has_at_most_a_mebibyte(rt: HostRuntime) -> Result<(), Fail> {
+    // What is repeated, how often, what follows, and whether a line is too long.
+    let rows: [(&[u8], usize, &[u8], bool); 13] = [
+        (b"a", MAX_LINE, b"", false),
+        (b"a", MAX_LINE, b"\n[Install]", false),
+        (b"a", MAX_LINE, b"\r\n", false),
+        (b"a", MAX_LINE, b"\r", true),
+        (b"a", MAX_LINE, b"a", true),
+        (b"a", MAX_LINE, b" \n", true),
+        (b"a", MAX_LINE, b"a\n[Install]\n", true),
+        (b"#", MAX_LINE, b"#\nWantedBy=a", false),
+        (b"a", MAX_LINE, b"\\\n", true),
+        (b"a", MAX_LINE - 1, b"\\\n#\n", false),
+        (b"a", MAX_LINE - 1, b"\\\n#\na", true),
+        (b"aaa\\\n# a comment\n", MAX_LINE / 4, b"", false),
+        (b"aaa\\\n# a comment\n", MAX_LINE / 4, b"a", true),
+    ];
+    for (bytes, times, end, is_long) in rows {
+        let file = repeated(rt.alloc(), bytes, times, end)?;
+        match read(rt.alloc(), &file) {
+            Ok(text) => assert!(rt; text.wanted_by.is_empty() && !is_long),
+            Err(error) => {
+                assert_eq!(rt; error, InstallError::Bad(InstallFault::LineTooLong));
+                assert!(rt; is_long);
+            }
+        }
+    }
+    Ok(())
+}
+
+fn named(alloc: Global, text: &[u8]) -> Result<UnitName, NameError> {
+    ample!(UnitName::parse(alloc, text), NameError::OutOfMemory)
+}
+
+/// The identity of a unit whose file has this `DefaultInstance=`.
+fn identity_with(alloc: Global, unit: &UnitName, default: Option<&[u8]>) -> Result<UnitName, Fail> {
+    let mut text = InstallText::new(alloc);
+    if let Some(default) = default {
+        text.default_instance = Some(ample!(Word::from_slice(alloc, default), AllocError)?);
+    }
+    Ok(ample!(identity(alloc, unit, &text), AllocError)?)
+}
+
+#[test]
+fn templates_have_the_identity_of_an_instance(rt: HostRuntime) -> Result<(), Fail> {
+    let rows: [(&[u8], &[u8], &[u8]); 11] = [
+        (b"getty@.service", b"tty1", b"getty@tty1.service"),
+        (b"getty@.service", b"", b"getty@.service"),
+        (b"getty@.service", b"a/b", b"getty@.service"),
+        (b"getty@.service", b"a b", b"getty@.service"),
+        (b"getty@.service", b"%i", b"getty@.service"),
+        (b"a@.mount", b"b@c.d", b"a@b@c.d.mount"),
+        (b"getty@tty2.service", b"tty1", b"getty@tty2.service"),
+        (b"ssh.service", b"tty1", b"ssh.service"),
+        (b"ssh.service", b"", b"ssh.service"),
+        (b"getty@.service", &[b'/'; 300], b"getty@.service"),
+        (b"getty@.service", &[b'x'; 242], b"getty@.service"),
+    ];
+    for (unit, default, expected) in rows {
+        let unit = named(rt.alloc(), unit)?;
+        assert_eq!(rt; identity_with(rt.alloc(), &unit, None)?, unit);
+        assert_eq!(rt;
+            identity_with(rt.alloc(), &unit, Some(default))?.text(),
+            expected
+        );
+    }
+    Ok(())
+}
+
+#[test]
+fn templates_are_listed_for_their_instance(rt: HostRuntime) -> Result<(), Fail> {
+    let rows: [(&[u8], &[u8], &[u8]); 6] = [
+        (b"getty.target", b"getty@.service", b"getty@tty1.service"),
+        (
+            b"getty@tty2.service",
+            b"getty@.service",
+            b"getty@tty1.service",
+        ),
+        (b"other@.service", b"getty@.service", b"getty@.service"),
+        (
+            b"getty.target",
+            b"getty@tty3.service",
+            b"getty@tty3.service",
+        ),
+        (b"getty.target", b"ssh.service", b"ssh.service"),
+        (b"other@.service", b"ssh.service", b"ssh.service"),
+    ];
+    for (by, unit, expected) in rows {
+        let by = named(rt.alloc(), by)?;
+        let unit = named(rt.alloc(), unit)?;
+        let identity = identity_with(rt.alloc(), &unit, Some(b"tty1"))?;
+        assert_eq!(rt;
+            listed_name(&by, &unit, &identity).map(|name| name.text()),
+            Some(expected)
+        );
+    }
+    let getty = named(rt.alloc(), b"getty@.service")?;
+    let target = named(rt.alloc(), b"getty.target")?;
+    assert!(rt; is_template(&getty));
+    assert!(rt; !is_template(&target));
+    assert!(rt; listed_name(&target, &getty, &getty).is_none());
+    Ok(())
+}
+
+#[test]
+fn words_are_copied(rt: HostRuntime) -> Result<(), Fail> {
+    for bytes in [b"".as_slice(), b"a", b"%i.service", b"\xff \n"] {
+        let word = ample!(Word::from_slice(rt.alloc(), bytes), AllocError)?;
+        assert_eq!(rt; word.bytes(), bytes);
+        let copy = ample!(word.copy(), AllocError)?;
+        assert_eq!(rt; copy.bytes(), bytes);
+    }
+    Ok(())
+}

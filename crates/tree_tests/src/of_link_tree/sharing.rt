@@ -1,0 +1,62 @@
+use link_tree::{Entry, FileError, PathError, Slot, Tree, TreePath};
+use std::alloc::{AllocError, Global};
+use std::test::Fail;
+use unit_name::ample;
+
+/// The tree of one unit file.
+fn tree_of_one(alloc: Global) -> Result<Tree, AllocError> {
+    let slot = match TreePath::parse(alloc, b"/usr/lib/systemd/system/ssh.service") {
+        Ok(slot) => slot,
+        Err(PathError::BadPath | PathError::OutOfMemory) => return Err(AllocError),
+    };
+    let file = match Entry::file(alloc, b"[Install]\nWantedBy=multi-user.target\n") {
+        Ok(file) => file,
+        Err(FileError::TooLarge | FileError::OutOfMemory) => return Err(AllocError),
+    };
+    if Slot::of(&slot).is_none() {
+        return Err(AllocError);
+    }
+    let mut tree = Tree::empty(alloc)?;
+    tree.set(&slot, Some(file))?;
+    Ok(tree)
+}
+
+/// `tools/each-growth` refuses each growth in turn, so a copy that took memory would fail here. It isn't tried again.
+#[test]
+fn share_takes_nothing(rt: HostRuntime) -> Result<(), Fail> {
+    let tree = ample!(tree_of_one(rt.alloc()), AllocError)?;
+    assert!(rt; tree.share().is_ok());
+    assert!(rt; tree.copy().is_ok());
+    Ok(())
+}
+
+/// Puts the one entry of a tree into another: whether it stands there then, and is the last to come.
+fn shares_in(one: &Tree, other: &mut Tree) -> Result<bool, AllocError> {
+    let mut entries = one.iter();
+    let Some(placed) = entries.next_placed() else {
+        return Ok(false);
+    };
+    if Slot::of(placed.path()).is_none() {
+        return Ok(false);
+    }
+    other.share_in(placed)?;
+    let is_there = match other.get(placed.path()) {
+        Some(entry) => entry.same(placed.entry()),
+        None => false,
+    };
+    Ok(is_there && entries.next_placed().is_none())
+}
+
+/// A tree with no entry, and then one in which the file stands: both take the file in.
+fn others_share_in(alloc: Global) -> Result<bool, AllocError> {
+    let one = tree_of_one(alloc)?;
+    let mut other = Tree::empty(alloc)?;
+    Ok(shares_in(&one, &mut other)? && shares_in(&one, &mut other)? && other.len() == 1)
+}
+
+#[test]
+fn entries_are_shared_in(rt: HostRuntime) -> Result<(), Fail> {
+    let shared = ample!(others_share_in(rt.alloc()), AllocError)?;
+    assert!(rt; shared);
+    Ok(())
+}
