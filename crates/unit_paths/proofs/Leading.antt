@@ -26,7 +26,7 @@ joined-split (x ∷ xs) = elim (cases_Bool (is_slash x)) [
   | inr away ↦ ap joined (split-cons x xs false away) ∙ joined-onto x (slice_split is_slash xs) xs (joined-split xs)
 ]
 
-with_part-part : (text part : List ℕ) → is_part part ≡ true → with_part text part ≡ text ++ 47 ∷ part
+pub with_part-part : (text part : List ℕ) → is_part part ≡ true → with_part text part ≡ text ++ 47 ∷ part
 unfolding with_part
 with_part-part text part h = rw h refl
 
@@ -37,12 +37,12 @@ walked-parts text (part ∷ parts) h =
     let both = and_parts (is_part part) (list_all is_part parts) h in
     ap (λ t. walked t parts) (with_part-part text part both.0) ∙ walked-parts (text ++ 47 ∷ part) parts both.1 ∙ append_assoc text (47 ∷ part) (joined parts)
 
-walked-last : (text : List ℕ) (parts : List (List ℕ)) (part : List ℕ) → walked text (parts ++ part ∷ []) ≡ with_part (walked text parts) part
+pub walked-last : (text : List ℕ) (parts : List (List ℕ)) (part : List ℕ) → walked text (parts ++ part ∷ []) ≡ with_part (walked text parts) part
 unfolding walked
 walked-last text [] part = refl
 walked-last text (p ∷ parts) part = walked-last (with_part text p) parts part
 
-split-one : (part : List ℕ) → list_any is_slash part ≡ false → slice_split is_slash part ≡ part ∷ []
+pub split-one : (part : List ℕ) → list_any is_slash part ≡ false → slice_split is_slash part ≡ part ∷ []
 split-one [] none = refl
 split-one (x ∷ xs) none =
     let both = or_parts (is_slash x) (list_any is_slash xs) none in

@@ -12,3 +12,4 @@ pub mod DependencySlots
 pub mod Spelled
 pub mod NearSlots
 pub mod Leading
+pub mod NullEnds

@@ -1,9 +1,9 @@
 -- Where a link leads: its target, taken from the link's directory, as a path.
-use Rattle.std.specs.Prelude.{ℕ, ◌+◌, take, drop, Bool, false, ◌&&◌, nat_lt, nat_le, nat_eq, if◌then◌else◌, List, [], ◌∷◌, ◌++◌, length, Option, Some, None, codes}
+use Rattle.std.specs.Prelude.{ℕ, ◌+◌, take, drop, Bool, false, not, ◌||◌, ◌&&◌, nat_lt, nat_le, nat_eq, if◌then◌else◌, List, [], ◌∷◌, ◌++◌, length, Option, Some, None, codes}
 use Rattle.std.specs.List.{slice_split, starts_with, position}
 use Rattle.std.specs.Option.{option_map, option_map_or}
 use Rattle.std.specs.Str.{bytes_eq}
-use Rattle.unit_paths.specs.Paths.{is_part, is_slash, is_path, parent}
+use Rattle.unit_paths.specs.Paths.{is_part, is_slash, is_path, parent, name_at}
 use Prim.Native.Char.{code}
 
 -- what stands before the first slash and after it
@@ -49,3 +49,7 @@ fits text = nat_lt 0 (length text) && nat_le (length text) 4095
 -- whether a link at a path with a target leads to /dev/null
 unfoldable pub is_null_target : List ℕ → List ℕ → Bool
 is_null_target link target = option_map_or (λ path. bytes_eq path (codes "/dev/null")) (canonical link target) false
+
+-- whether a walk over a target may end with null: its last part is that, or is no part of a path
+abbrev pub may_end_with_null : List ℕ → Bool
+may_end_with_null target = not (is_part (name_at target)) || bytes_eq (name_at target) (codes "null")

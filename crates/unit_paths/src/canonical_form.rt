@@ -3,13 +3,13 @@ ghost use Rattle.std.specs.Prelude.{◌≡◌, ◌+◌, ◌≤◌, ◌<◌, leng
 ghost use Rattle.std.specs.List.{slice_split};
 ghost use Rattle.smallvec.specs.SmallVec.{small_vec_len};
 ghost use Rattle.unit_paths.specs.Paths.{is_slash, parent};
-ghost use Rattle.unit_paths.specs.Canonical.{with_part, walked, start_of, merged, canonical, is_null_target};
+ghost use Rattle.unit_paths.specs.Canonical.{with_part, walked, start_of, merged, canonical, is_null_target, may_end_with_null};
 
 use crate::fault::MAX_PATH;
 use crate::part::is_part;
 use crate::path::TreePath;
 use crate::target::Target;
-use crate::text::{cut_at_slash, parent_len};
+use crate::text::{cut_at_last_slash, cut_at_slash, parent_len};
 use smallvec::SmallVec;
 use std::alloc::{AllocError, Global};
 
@@ -39,6 +39,22 @@ pub fn canonical(
 /// Whether a link at this path with this target leads to `/dev/null`, which masks a unit: systemctl(1), `mask`. It
 /// allocates nothing.
 pub fn is_null_target(link: &TreePath, target: &Target) -> bool
+    ensures { result ≡ is_null_target link.now target.now }
+{
+    // (most links lead elsewhere, and their last part tells)
+    may_end_with_null(target.text()) && walks_to_null(link, target)
+}
+
+/// Whether a walk over the target may end with `null`: where its last part is that, or is passed over or `..`.
+fn may_end_with_null(target: &[u8]) -> bool
+    ensures { result ≡ may_end_with_null target.now }
+{
+    let (_, end) = cut_at_last_slash(target);
+    !is_part(end) || end == b"null".as_slice()
+}
+
+/// Whether the walk over the target comes to `/dev/null`.
+fn walks_to_null(link: &TreePath, target: &Target) -> bool
     ensures { result ≡ is_null_target link.now target.now }
 {
     let text = walk_from(link.allocator(), link.text(), target.text()).unwrap();
