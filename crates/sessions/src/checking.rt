@@ -16,15 +16,18 @@ use shared_admin::{CloseFault, LogEntry, SessionLog, SessionLogs, SharedAdmin, U
 
 /// What is left of a run that was fed: the desk, the logs, and all answers.
 #[derive(Drop)]
-pub(crate) struct Fed<O> {
-    pub(crate) desk: Desk,
-    pub(crate) logs: SessionLogs<O>,
-    pub(crate) answers: Vec<Answered>,
+pub struct Fed<O> {
+    pub desk: Desk,
+    pub logs: SessionLogs<O>,
+    pub answers: Vec<Answered>,
 }
 
 /// Closes a run that was fed. Where the logs tell the rows, it is looked whether each log is of what its operator asked for, and whether the desk
-/// takes each answer and has one for each job.
-pub(crate) fn close_fed<O: Operation>(
+/// takes each answer and has one for each job. `run_desk` ends so; who feeds sessions in another way can too.
+///
+/// Fails with the first of what `CloseFault` lists, or with `Mismatch` for the first log that isn't of what was asked for, and gives history and
+/// logs back.
+pub fn close_fed<O: Operation>(
     admin: SharedAdmin<O>,
     fed: Fed<O>,
     asks: &[Ask<O>],

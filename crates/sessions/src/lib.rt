@@ -15,6 +15,7 @@ mod session;
 mod works;
 
 pub use asks::{Ask, Asks};
+pub use checking::{Fed, close_fed};
 pub use desk::{AcceptError, Answered, Desk, IssueError, Issued, Job, Unissued};
 pub use faults::RunError;
 pub use feeding::run_desk;

@@ -32,8 +32,9 @@ pub struct Unclosed<H, L> {
     pub logs: L,
 }
 
-/// Why a run isn't closed, if it isn't.
-pub(crate) fn fault<O: Operation>(
+/// Why a run isn't closed, if it isn't: the first that applies of what `CloseFault` lists. `SharedAdmin::close` asks this of its own history,
+/// tree and operators, with the logs that it is handed.
+pub fn run_fault<O: Operation>(
     given: &Tree,
     operators: &[Operator],
     logs: &[SessionLog<O>],

@@ -13,11 +13,12 @@ use history::{CallError, Commit, History, Operator, Plan};
 use link_tree::Tree;
 use std::alloc::{AllocError, Global};
 
-pub(crate) const SLOTS: usize = 16;
+/// How many slots a run of events has.
+pub const SLOTS: usize = 16;
 
-/// What a slot keeps.
+/// What a slot keeps: the last snapshot that was taken there, and the last plan that was made on it.
 #[derive(Drop)]
-pub(crate) struct Kept<P> {
+pub struct Kept<P> {
     snapshot: Option<Snapshot>,
     plan: Option<P>,
 }
@@ -46,8 +47,8 @@ pub fn drive<O: Operation>(
     Ok((history, replies))
 }
 
-/// Sixteen slots that keep nothing.
-pub(crate) fn empty_slots<P: Drop>(alloc: Global) -> Result<Vec<Kept<P>>, AllocError>
+/// Sixteen slots that keep nothing. Fails only where memory runs out.
+pub fn empty_slots<P: Drop>(alloc: Global) -> Result<Vec<Kept<P>>, AllocError>
     ensures { IfOk result (λ slots. slots.items ≡ replicate 16 nothing_kept) }
 {
     let mut slots = Vec::new(alloc);
@@ -60,8 +61,10 @@ pub(crate) fn empty_slots<P: Drop>(alloc: Global) -> Result<Vec<Kept<P>>, AllocE
     Ok(slots)
 }
 
-/// Lets one event happen.
-pub(crate) fn happen<O: Operation>(
+/// Lets one event happen on a history and its slots, for events that come one at a time: `drive` does the same with a list of them.
+///
+/// There are sixteen slots, and that of the event is from 0 to 15. Fails only where memory runs out.
+pub fn happen<O: Operation>(
     alloc: Global,
     history: &mut History<O>,
     slots: &mut Vec<Kept<Plan<O>>>,

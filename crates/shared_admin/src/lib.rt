@@ -13,8 +13,8 @@ mod snapshot;
 mod strangers;
 mod telling;
 
-pub use close::{CloseFault, Unclosed};
-pub use driving::drive;
+pub use close::{CloseFault, Unclosed, run_fault};
+pub use driving::{Kept, SLOTS, drive, empty_slots, happen};
 pub use event::{Event, EventReply};
 pub use holds::{NewRow, Settled};
 pub use laws::{events_have_one_outcome, plans_commit_as_calls};

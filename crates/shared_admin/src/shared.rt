@@ -5,7 +5,7 @@ ghost use Rattle.shared_admin.specs.Closing.{IsClosed, IsFault};
 ghost use Rattle.shared_admin.specs.Holds.{KeepsPlan};
 ghost use Rattle.shared_admin.specs.Sharing.{MayShare, IsUnshared};
 
-use crate::close::{Unclosed, fault};
+use crate::close::{Unclosed, run_fault};
 use crate::holds;
 use crate::holds::{NewRow, Settled};
 use crate::log::SessionLogs;
@@ -151,7 +151,7 @@ impl<O: Operation> SharedAdmin<O> {
             history,
         } = self;
         let history = history.into_inner();
-        match fault(&first, operators.as_slice(), logs.as_slice(), &history) {
+        match run_fault(&first, operators.as_slice(), logs.as_slice(), &history) {
             None => Ok((history, logs)),
             Some(fault) => Err(Unclosed {
                 fault,

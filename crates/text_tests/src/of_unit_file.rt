@@ -237,7 +237,7 @@ fn named(alloc: Global, text: &[u8]) -> Result<UnitName, NameError> {
 
 /// The identity of a unit whose file has this `DefaultInstance=`.
 fn identity_with(alloc: Global, unit: &UnitName, default: Option<&[u8]>) -> Result<UnitName, Fail> {
-    let mut text = InstallText::new(alloc);
+    let mut text = read(alloc, b"")?;
     if let Some(default) = default {
         text.default_instance = Some(ample!(Word::from_slice(alloc, default), AllocError)?);
     }

@@ -26,17 +26,17 @@ last_step text target = elim (cases_Bool (list_any is_slash target)) [
   | inl some ↦ (
       let cut = last_slash target some in
       let parts : slice_split is_slash target ≡ slice_split is_slash (parent target) ++ name_at target ∷ [] =
-        ap (slice_split is_slash) cut.is ∙ split-append (parent target) (name_at target) ∙ ap (λ (ps : List (List ℕ)). slice_split is_slash (parent target) ++ ps) (split-one (name_at target) cut.none) in
+      ap (slice_split is_slash) cut.is ∙ split-append (parent target) (name_at target) ∙ ap (λ (ps : List (List ℕ)). slice_split is_slash (parent target) ++ ps) (split-one (name_at target) cut.none) in
       record {
         front = walked text (slice_split is_slash (parent target));
         is = ap (walked text) parts ∙ walked-last text (slice_split is_slash (parent target)) (name_at target);
-        none = cut.none
+        none = cut.none;
       })
   | inr none ↦ record {
-      front = text;
-      is = ap (walked text) (split-one target none) ∙ alone text target ∙ ap (with_part text) (sym (name-none target none));
-      none = ap (list_any is_slash) (name-none target none) ∙ none
-    }
+    front = text;
+    is = ap (walked text) (split-one target none) ∙ alone text target ∙ ap (with_part text) (sym (name-none target none));
+    none = ap (list_any is_slash) (name-none target none) ∙ none;
+  }
 ]
 
 part_here : (b : Bool) → not b ≡ false → b ≡ true
@@ -56,9 +56,9 @@ other_end link target off =
     merged_null (walked (start_of link target) (slice_split is_slash target))
     ∙ ap (λ t. bytes_eq t (codes "/dev/null")) text
     ∙ elim (cases_Bool (bytes_eq (step.front ++ 47 ∷ name_at target) (codes "/dev/null"))) [
-        | inl null ↦ (
-            let same = (bytes_eq-Decides (step.front ++ 47 ∷ name_at target) (codes "/dev/null")).0 null in
-            let name : name_at target ≡ codes "null" = sym (name-seam step.front (name_at target) step.none) ∙ ap name_at same ∙ name_of_null in
-            absurd (false≢true (sym both.1 ∙ (bytes_eq-Decides (name_at target) (codes "null")).1 name)))
-        | inr other ↦ other
-      ]
+      | inl null ↦ (
+          let same = (bytes_eq-Decides (step.front ++ 47 ∷ name_at target) (codes "/dev/null")).0 null in
+          let name : name_at target ≡ codes "null" = sym (name-seam step.front (name_at target) step.none) ∙ ap name_at same ∙ name_of_null in
+          absurd (false≢true (sym both.1 ∙ (bytes_eq-Decides (name_at target) (codes "null")).1 name)))
+      | inr other ↦ other
+    ]

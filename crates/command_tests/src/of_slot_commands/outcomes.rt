@@ -1,7 +1,7 @@
 //! What commands come to.
 use crate::trees::{assert_copied, assert_looks_at, text_of, tree};
 use footprint::{Answer, Operation, Outcome, Refusal};
-use link_tree::{Change, Entry, PathError, TreePath};
+use link_tree::{Change, Entry, PathError, Tree, TreePath};
 use slot_commands::Paths;
 use std::alloc::{AllocError, Global};
 use std::process::Abort;

@@ -1,7 +1,9 @@
 //! Copies, and what is the same as its copy.
-use super::values::{key, name, path, put_file, put_link, reading, tree};
-use footprint::{Answer, Changes, Notice, NoticeKey, Notices, Reason, Refusal, StateWord, Units};
-use link_tree::Change;
+use super::values::{key, name, path, reading, tree};
+use footprint::{
+    Answer, Changes, Edit, Notice, NoticeKey, Notices, Reason, Refusal, StateWord, Units,
+};
+use link_tree::{Entry, Slot, Tree, TreePath};
 use std::alloc::{AllocError, Global};
 use std::fmt::Debug;
 use std::process::Abort;
@@ -42,19 +44,33 @@ fn readings_are_copied(rt: HostRuntime) -> Result<(), Fail> {
     assert_same(&rt, alloc, &copy, &reading)
 }
 
-fn changes_of(alloc: Global, made: &Change, taken_back: &Change) -> Result<Changes, AllocError> {
-    let mut changes = Changes::none(alloc);
-    changes.push(made.copy()?)?;
-    changes.push(taken_back.taken_back()?)?;
-    Ok(changes)
+/// The changes where a link comes in place of what stands at one slot, and what stands at another goes.
+fn changes_of(
+    alloc: Global,
+    tree: &Tree,
+    relinked: &TreePath,
+    cleared: &TreePath,
+) -> Result<Changes, AllocError> {
+    let Ok(link) = Entry::link(alloc, b"b.service") else {
+        return Err(AllocError);
+    };
+    if Slot::of(relinked).is_none() || Slot::of(cleared).is_none() {
+        return Err(AllocError);
+    }
+    let edit = Edit::new(alloc, tree)?.with(relinked, Some(link))?;
+    edit.with(cleared, None)?.into_changes(alloc)
 }
 
 #[test]
 fn changes_are_copied(rt: HostRuntime) -> Result<(), Fail> {
     let alloc = rt.alloc();
-    let link = put_link(alloc, b"/a", b"b")?;
-    let file = put_file(alloc, b"/b", b"c")?;
-    let changes = ample!(changes_of(alloc, &link, &file), AllocError)?;
+    let tree = tree(
+        alloc,
+        b"unitadm-inventory 1\nL\t/etc/systemd/system/a.service\tc.service\nF\t1\t/etc/systemd/system/b.service\nb\nend\n",
+    )?;
+    let link = path(alloc, b"/etc/systemd/system/a.service")?;
+    let file = path(alloc, b"/etc/systemd/system/b.service")?;
+    let changes = ample!(changes_of(alloc, &tree, &link, &file), AllocError)?;
     let copy = ample!(changes.copy(), AllocError)?;
     assert_eq!(rt; copy.as_slice().len(), 2);
     assert_same(&rt, alloc, &copy, &changes)

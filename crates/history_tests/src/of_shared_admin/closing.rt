@@ -6,8 +6,7 @@ use crate::steps::Step;
 use footprint::{Answer, Notices, Refusal, StateWord};
 use history::{History, Operator, Request, RowReply, UndoRefusal};
 use link_tree::{Tree, TreePath};
-use shared_admin::close::fault;
-use shared_admin::{CloseFault, LogEntries, LogEntry, SessionLog, SessionLogs};
+use shared_admin::{CloseFault, LogEntries, LogEntry, SessionLog, SessionLogs, run_fault};
 use std::alloc::{AllocError, Global};
 use std::process::Abort;
 use std::sync::Wait;
@@ -226,7 +225,7 @@ fn each_log_tells_its_rows(rt: HostRuntime) -> Result<(), Fail> {
 /// What is wrong with a history of the empty tree without rows that was to begin with a given tree.
 fn said_of_tree(alloc: Global, given: &Tree) -> Result<[u8; 3], AllocError> {
     let history = History::<Step>::new(alloc, Tree::empty(alloc)?)?;
-    match fault(given, &[], &[], &history) {
+    match run_fault(given, &[], &[], &history) {
         Some(fault) => Ok(of_fault(&fault)),
         None => Ok(*b"ok-"),
     }

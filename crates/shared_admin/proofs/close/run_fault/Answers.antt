@@ -4,7 +4,7 @@ use Rattle.history.specs.declared.row.Row.{Row}
 use Rattle.shared_admin.specs.Closing.{IsOwnRow, IsTold, IsFirstMismatch, IsFirstStrangeRow}
 use Rattle.shared_admin.specs.declared.close.CloseFault.TheVariants.{Missing, Stranger, Mismatch, OtherTree}
 use Rattle.shared_admin.proofs.Closed.{with_fault}
-use Rattle.shared_admin.proofs.close.fault.Goals as goal
+use Rattle.shared_admin.proofs.close.run_fault.Goals as goal
 
 pub returns-in-Some-clause-some : goal.returns-in-Some-clause-some
 returns-in-Some-clause-some g c = with_fault c.args.given.now c.args.operators.now c.args.logs.now c.args.history.now (Missing c.in-Some.operator) c.in-Some.ensures.some
