@@ -1,8 +1,8 @@
 -- Targets lead on part by part.
-use Rattle.std.proofs.Common.{◌≡◌, ◌≢◌, ℕ, Bool, true, false, List, [], ◌∷◌, ◌++◌, refl, sym, ◌∙◌, ap, append_assoc, append-nil, inl, inr}
+use Rattle.std.proofs.Common.{◌≡◌, ◌≢◌, ℕ, true, false, List, [], ◌∷◌, ◌++◌, refl, sym, ◌∙◌, ap, append_assoc, append-nil, inl, inr}
 use Rattle.std.specs.List.{list_all, list_any, slice_split, onto_first}
 use Rattle.std.proofs.lemmas.Bool.{cases_Bool, false≢true, and_parts, or_parts, eqb-true}
-use Rattle.unit_paths.specs.Canonical.{with_part, walked, start_of, begins_with_slash, merged, canonical_text}
+use Rattle.unit_paths.specs.Canonical.{with_part, walked, start_of, begins_with_slash}
 use Rattle.unit_paths.specs.Laws.{led, LeadsByParts}
 use Rattle.unit_paths.specs.Paths.{is_part, is_slash, is_path, parent}
 use Rattle.unit_paths.proofs.PathFacts.{path_facts}

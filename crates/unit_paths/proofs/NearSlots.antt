@@ -1,5 +1,5 @@
 -- A path of bad shape has a slot above it or beneath it.
-use Rattle.std.proofs.Common.{◌≡◌, ℕ, Bool, true, false, ◌||◌, cond, List, [], ◌∷◌, ◌++◌, Option, Some, None, refl, sym, ◌∙◌, ap, subst, append_assoc, inl, inr, ◌⊎◌}
+use Rattle.std.proofs.Common.{◌≡◌, ℕ, Bool, true, false, ◌||◌, cond, List, [], ◌∷◌, ◌++◌, Option, Some, None, refl, sym, ◌∙◌, ap, append_assoc, inl, inr}
 use Rattle.std.specs.Prelude.{is_some, codes}
 use Rattle.std.specs.List.{list_any}
 use Rattle.std.proofs.lemmas.Bool.{cases_Bool, false≢true, or_cases, or_left, or_right}
@@ -8,7 +8,7 @@ use Rattle.unit_paths.specs.declared.place.Place.TheVariants.{Etc, Run, Local, V
 use Rattle.unit_paths.specs.declared.slot.Slot.{Slot}
 use Rattle.unit_paths.specs.declared.slot.Slot.TheVariants as slots
 use Rattle.unit_paths.specs.Paths.{is_slash, parent, name_at}
-use Rattle.unit_paths.specs.Places.{unit_directory, places, preset_directory, preset_places, place_of, preset_place_of}
+use Rattle.unit_paths.specs.Places.{unit_directory, places, preset_directory, place_of, preset_place_of}
 use Rattle.unit_paths.specs.Shape.{is_close, is_beneath, is_bad_shape, is_under_slot, is_over_units, is_over_presets}
 use Rattle.unit_name.specs.Name.{name_fault, part_fault, prefix_of, stem_of, type_of, type_named, suffix_of}
 use Rattle.unit_name.specs.Parts.{type_text}

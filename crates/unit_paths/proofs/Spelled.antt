@@ -1,5 +1,5 @@
 -- A path is a slot exactly where it is spelled so.
-use Rattle.std.proofs.Common.{◌≡◌, ◌≢◌, ℕ, zero, suc, Bool, true, false, ◌&&◌, ◌||◌, ◌-◌, List, [], ◌∷◌, ◌++◌, length, length-append, take, Option, Some, None, refl, sym, ◌∙◌, ap, subst, cond, All, arith, inl, inr}
+use Rattle.std.proofs.Common.{◌≡◌, ◌≢◌, ℕ, zero, suc, Bool, true, false, ◌||◌, ◌-◌, List, [], ◌∷◌, ◌++◌, length, length-append, take, Option, Some, None, refl, sym, ◌∙◌, ap, subst, cond, All, arith, inl, inr}
 use Rattle.std.specs.Prelude.{Contains, codes, nat_eq, not}
 use Rattle.std.specs.List.{find, list_any, ends_with}
 use Rattle.std.specs.Str.{bytes_eq}
@@ -19,7 +19,7 @@ use Rattle.unit_paths.specs.Paths.{is_slash, parent, name_at}
 use Rattle.unit_paths.specs.Places.{unit_directory, places, preset_directory, preset_places, place_of, preset_place_of}
 use Rattle.unit_paths.specs.Slots.{dependency_ending, is_dependency_directory, dependency_directory_slots, dependency_slots_in, first_directory, slots_in, is_preset_name, is_name_for, named_slot, slot_of}
 use Rattle.unit_paths.specs.Spellings.{IsUnitSlot, IsDependencySlot, IsPresetSlot, IsSpelled, SlotsAreSpelled}
-use Rattle.unit_paths.proofs.Slashes.{parent-none, parent-seam, name-seam, LastSlash, last_slash}
+use Rattle.unit_paths.proofs.Slashes.{parent-none, parent-seam, name-seam, last_slash}
 use Rattle.unit_paths.proofs.UnitSlots.{unit_slot_is}
 use Rattle.unit_paths.proofs.DependencySlots.{dependency_slot_is}
 
