@@ -52,13 +52,24 @@ fn assert_text(rt: &impl Abort, alloc: Global, text: &InstallText, row: Row) -> 
     Ok(())
 }
 
+/// A file has this section.
+fn assert_read(rt: &impl Abort, alloc: Global, row: Row) -> Result<(), Fail> {
+    let text = read(alloc, row.0)?;
+    assert_text(rt, alloc, &text, row)
+}
+
+/// What is read of a file, copied, is this section too.
+fn assert_copied(rt: &impl Abort, alloc: Global, row: Row) -> Result<(), Fail> {
+    let text = read(alloc, row.0)?;
+    let copy = ample!(text.copy(), AllocError)?;
+    assert_text(rt, alloc, &copy, row)
+}
+
 #[test]
 fn files_are_read(rt: HostRuntime) -> Result<(), Fail> {
     for row in FILES {
-        let text = read(rt.alloc(), row.0)?;
-        assert_text(&rt, rt.alloc(), &text, row)?;
-        let copy = ample!(text.copy(), AllocError)?;
-        assert_text(&rt, rt.alloc(), &copy, row)?;
+        assert_read(&rt, rt.alloc(), row)?;
+        assert_copied(&rt, rt.alloc(), row)?;
     }
     Ok(())
 }
@@ -120,8 +131,7 @@ fn lines_are_joined_and_dropped(rt: HostRuntime) -> Result<(), Fail> {
         ),
     ];
     for row in rows {
-        let text = read(rt.alloc(), row.0)?;
-        assert_text(&rt, rt.alloc(), &text, row)?;
+        assert_read(&rt, rt.alloc(), row)?;
     }
     Ok(())
 }
@@ -184,8 +194,7 @@ fn sections_and_keys_are_exact(rt: HostRuntime) -> Result<(), Fail> {
         ),
     ];
     for row in rows {
-        let text = read(rt.alloc(), row.0)?;
-        assert_text(&rt, rt.alloc(), &text, row)?;
+        assert_read(&rt, rt.alloc(), row)?;
     }
     Ok(())
 }
@@ -198,6 +207,17 @@ fn repeated(alloc: Global, bytes: &[u8], times: usize, end: &[u8]) -> Result<Vec
     }
     ample!(file.extend_from_slice(end), AllocError)?;
     Ok(file)
+}
+
+/// Whether a file of these bytes so many times, and then the end, is refused for its long line; else it wants nothing.
+fn has_long_line(alloc: Global, bytes: &[u8], times: usize, end: &[u8]) -> Result<bool, Fail> {
+    let file = repeated(alloc, bytes, times, end)?;
+    match read(alloc, &file) {
+        Ok(text) if text.wanted_by.is_empty() => Ok(false),
+        Ok(_) => Err("wanted by something".into()),
+        Err(InstallError::Bad(InstallFault::LineTooLong)) => Ok(true),
+        Err(error) => Err(error.into()),
+    }
 }
 
 #[test]
@@ -219,14 +239,8 @@ fn a_line_has_at_most_a_mebibyte(rt: HostRuntime) -> Result<(), Fail> {
         (b"aaa\\\n# a comment\n", MAX_LINE / 4, b"a", true),
     ];
     for (bytes, times, end, is_long) in rows {
-        let file = repeated(rt.alloc(), bytes, times, end)?;
-        match read(rt.alloc(), &file) {
-            Ok(text) => assert!(rt; text.wanted_by.is_empty() && !is_long),
-            Err(error) => {
-                assert_eq!(rt; error, InstallError::Bad(InstallFault::LineTooLong));
-                assert!(rt; is_long);
-            }
-        }
+        let found = has_long_line(rt.alloc(), bytes, times, end)?;
+        assert_eq!(rt; found, is_long);
     }
     Ok(())
 }
@@ -242,6 +256,18 @@ fn identity_with(alloc: Global, unit: &UnitName, default: Option<&[u8]>) -> Resu
         text.default_instance = Some(ample!(Word::from_slice(alloc, default), AllocError)?);
     }
     Ok(ample!(identity(alloc, unit, &text), AllocError)?)
+}
+
+/// Whether the identity of a unit whose file has this `DefaultInstance=` has this name.
+fn has_identity(
+    alloc: Global,
+    unit: &[u8],
+    default: Option<&[u8]>,
+    expected: &[u8],
+) -> Result<bool, Fail> {
+    let unit = named(alloc, unit)?;
+    let identity = identity_with(alloc, &unit, default)?;
+    Ok(identity.text() == expected)
 }
 
 #[test]
@@ -260,14 +286,23 @@ fn templates_have_the_identity_of_an_instance(rt: HostRuntime) -> Result<(), Fai
         (b"getty@.service", &[b'x'; 242], b"getty@.service"),
     ];
     for (unit, default, expected) in rows {
-        let unit = named(rt.alloc(), unit)?;
-        assert_eq!(rt; identity_with(rt.alloc(), &unit, None)?, unit);
-        assert_eq!(rt;
-            identity_with(rt.alloc(), &unit, Some(default))?.text(),
-            expected
-        );
+        let is_itself = has_identity(rt.alloc(), unit, None, unit)?;
+        assert!(rt; is_itself);
+        let is_instance = has_identity(rt.alloc(), unit, Some(default), expected)?;
+        assert!(rt; is_instance);
     }
     Ok(())
+}
+
+/// Whether a unit with `DefaultInstance=tty1` is listed under this name among those that another needs.
+fn is_listed_as(alloc: Global, by: &[u8], unit: &[u8], expected: &[u8]) -> Result<bool, Fail> {
+    let by = named(alloc, by)?;
+    let unit = named(alloc, unit)?;
+    let identity = identity_with(alloc, &unit, Some(b"tty1"))?;
+    Ok(match listed_name(&by, &unit, &identity) {
+        Some(name) => name.text() == expected,
+        None => false,
+    })
 }
 
 #[test]
@@ -289,29 +324,39 @@ fn templates_are_listed_for_their_instance(rt: HostRuntime) -> Result<(), Fail> 
         (b"other@.service", b"ssh.service", b"ssh.service"),
     ];
     for (by, unit, expected) in rows {
-        let by = named(rt.alloc(), by)?;
-        let unit = named(rt.alloc(), unit)?;
-        let identity = identity_with(rt.alloc(), &unit, Some(b"tty1"))?;
-        assert_eq!(rt;
-            listed_name(&by, &unit, &identity).map(|name| name.text()),
-            Some(expected)
-        );
+        let is_listed = is_listed_as(rt.alloc(), by, unit, expected)?;
+        assert!(rt; is_listed);
     }
-    let getty = named(rt.alloc(), b"getty@.service")?;
-    let target = named(rt.alloc(), b"getty.target")?;
-    assert!(rt; is_template(&getty));
-    assert!(rt; !is_template(&target));
-    assert!(rt; listed_name(&target, &getty, &getty).is_none());
     Ok(())
+}
+
+/// Whether two units are templates, and whether the second, without an instance, is listed among those that the first one needs.
+fn told_of(alloc: Global, by: &[u8], unit: &[u8]) -> Result<(bool, bool, bool), NameError> {
+    let by = named(alloc, by)?;
+    let unit = named(alloc, unit)?;
+    let listed = listed_name(&by, &unit, &unit);
+    Ok((is_template(&by), is_template(&unit), listed.is_some()))
+}
+
+#[test]
+fn a_template_is_listed_nowhere(rt: HostRuntime) -> Result<(), Fail> {
+    let told = told_of(rt.alloc(), b"getty.target", b"getty@.service")?;
+    assert_eq!(rt; told, (false, true, false));
+    Ok(())
+}
+
+/// Whether a word and its copy have these bytes.
+fn has_bytes(alloc: Global, bytes: &[u8]) -> Result<bool, AllocError> {
+    let word = ample!(Word::from_slice(alloc, bytes), AllocError)?;
+    let copy = ample!(word.copy(), AllocError)?;
+    Ok(word.bytes() == bytes && copy.bytes() == bytes)
 }
 
 #[test]
 fn words_are_copied(rt: HostRuntime) -> Result<(), Fail> {
     for bytes in [b"".as_slice(), b"a", b"%i.service", b"\xff \n"] {
-        let word = ample!(Word::from_slice(rt.alloc(), bytes), AllocError)?;
-        assert_eq!(rt; word.bytes(), bytes);
-        let copy = ample!(word.copy(), AllocError)?;
-        assert_eq!(rt; copy.bytes(), bytes);
+        let has_bytes = has_bytes(rt.alloc(), bytes)?;
+        assert!(rt; has_bytes);
     }
     Ok(())
 }

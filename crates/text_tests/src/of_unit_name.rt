@@ -16,11 +16,34 @@ fn has_text(rt: &impl Abort, name: &UnitName, text: &[u8]) {
     assert!(rt; is_unit_name(text));
 }
 
-fn has_parts(rt: &impl Abort, name: &UnitName, kind: Kind, unit_type: UnitType, instance: &[u8]) {
+fn assert_parts(
+    rt: &impl Abort,
+    alloc: Global,
+    text: &[u8],
+    kind: Kind,
+    unit_type: UnitType,
+    instance: &[u8],
+) -> Result<(), NameError> {
+    let name = named(alloc, text)?;
+    has_text(rt, &name, text);
     assert_eq!(rt; name.kind(), kind);
     assert_eq!(rt; name.unit_type(), unit_type);
     assert_eq!(rt; name.instance().unwrap_or(b""), instance);
     assert_eq!(rt; name.instance().is_some(), kind != Kind::Plain);
+    Ok(())
+}
+
+fn assert_copied(rt: &impl Abort, alloc: Global, text: &[u8]) -> Result<(), Fail> {
+    let name = named(alloc, text)?;
+    let copy = ample!(name.copy(), AllocError)?;
+    has_text(rt, &copy, text);
+    Ok(())
+}
+
+/// The kind and the type of a name.
+fn kind_and_type(alloc: Global, text: &[u8]) -> Result<(Kind, UnitType), NameError> {
+    let name = named(alloc, text)?;
+    Ok((name.kind(), name.unit_type()))
 }
 
 #[test]
@@ -47,10 +70,8 @@ fn names_have_their_parts(rt: HostRuntime) -> Result<(), Fail> {
         ),
     ];
     for (text, kind, unit_type, instance) in names {
-        let name = named(rt.alloc(), text)?;
-        has_parts(&rt, &name, kind, unit_type, instance);
-        has_text(&rt, &name, text);
-        has_text(&rt, &ample!(name.copy(), AllocError)?, text);
+        assert_parts(&rt, rt.alloc(), text, kind, unit_type, instance)?;
+        assert_copied(&rt, rt.alloc(), text)?;
     }
     Ok(())
 }
@@ -84,9 +105,8 @@ fn other_texts_have_a_first_fault(rt: HostRuntime) {
 fn a_name_has_at_most_255_bytes(rt: HostRuntime) -> Result<(), Fail> {
     let mut text = [b'a'; 255];
     text[247..].copy_from_slice(b".service");
-    let name = named(rt.alloc(), &text)?;
-    assert_eq!(rt; name.kind(), Kind::Plain);
-    assert_eq!(rt; name.unit_type(), UnitType::Service);
+    let found = kind_and_type(rt.alloc(), &text)?;
+    assert_eq!(rt; found, (Kind::Plain, UnitType::Service));
 
     let mut text = [b'a'; 256];
     text[248..].copy_from_slice(b".service");
@@ -113,7 +133,8 @@ fn each_type_ends_a_name(rt: HostRuntime) -> Result<(), Fail> {
         (b"a.scope", UnitType::Scope, "scope"),
     ];
     for (text, unit_type, word) in types {
-        assert_eq!(rt; named(rt.alloc(), text)?.unit_type(), unit_type);
+        let (_, found) = kind_and_type(rt.alloc(), text)?;
+        assert_eq!(rt; found, unit_type);
         assert_eq!(rt; unit_type.text(), word);
     }
     Ok(())
@@ -147,8 +168,16 @@ fn changed(
     )
 }
 
-fn template_of_text(rt: &impl Abort, alloc: Global, text: &[u8]) -> Result<UnitName, Fail> {
-    Ok(template_of(rt, alloc, &named(alloc, text)?)?)
+/// The kind of a name's template, and whether it has this text.
+fn template_is(
+    rt: &impl Abort,
+    alloc: Global,
+    text: &[u8],
+    expected: &[u8],
+) -> Result<(Kind, bool), Fail> {
+    let name = named(alloc, text)?;
+    let template = template_of(rt, alloc, &name)?;
+    Ok((template.kind(), template.text() == expected))
 }
 
 fn changed_text(
@@ -157,15 +186,27 @@ fn changed_text(
     text: &[u8],
     instance: &[u8],
 ) -> Result<UnitName, Fail> {
-    Ok(changed(rt, alloc, &named(alloc, text)?, instance)?)
+    let name = named(alloc, text)?;
+    Ok(changed(rt, alloc, &name, instance)?)
+}
+
+/// Whether a name with another instance has this text.
+fn changes_to(
+    rt: &impl Abort,
+    alloc: Global,
+    text: &[u8],
+    instance: &[u8],
+    expected: &[u8],
+) -> Result<bool, Fail> {
+    let name = changed_text(rt, alloc, text, instance)?;
+    Ok(name.text() == expected)
 }
 
 #[test]
 fn instances_have_a_template(rt: HostRuntime) -> Result<(), Fail> {
     for text in [b"getty@tty1.service".as_slice(), b"getty@.service"] {
-        let template = template_of_text(&rt, rt.alloc(), text)?;
-        assert_eq!(rt; template.kind(), Kind::Template);
-        assert_eq!(rt; template.text(), b"getty@.service".as_slice());
+        let told = template_is(&rt, rt.alloc(), text, b"getty@.service")?;
+        assert_eq!(rt; told, (Kind::Template, true));
     }
     Ok(())
 }
@@ -178,8 +219,8 @@ fn instances_change(rt: HostRuntime) -> Result<(), Fail> {
         (b"getty@tty1.service", b"a@b.c", b"getty@a@b.c.service"),
     ];
     for (text, instance, expected) in instances {
-        let name = changed_text(&rt, rt.alloc(), text, instance)?;
-        assert_eq!(rt; name.text(), expected);
+        let changes = changes_to(&rt, rt.alloc(), text, instance, expected)?;
+        assert!(rt; changes);
     }
     Ok(())
 }
@@ -192,9 +233,20 @@ fn an_instance_fills_a_name(rt: HostRuntime) -> Result<(), Fail> {
     Ok(())
 }
 
+/// Whether a template's instance of this text is refused for this fault.
+fn is_refused_for(
+    rt: &impl Abort,
+    alloc: Global,
+    instance: &[u8],
+    fault: InstanceFault,
+) -> Result<bool, NameError> {
+    let template = named(alloc, b"getty@.service")?;
+    let refused = changed(rt, alloc, &template, instance);
+    Ok(refused == Err(InstanceError::Bad(fault)))
+}
+
 #[test]
 fn some_instances_are_refused(rt: HostRuntime) -> Result<(), Fail> {
-    let template = named(rt.alloc(), b"getty@.service")?;
     let faults: [(&[u8], InstanceFault); 5] = [
         (b"a/b", InstanceFault::BadCharacter),
         (b" ", InstanceFault::BadCharacter),
@@ -203,8 +255,8 @@ fn some_instances_are_refused(rt: HostRuntime) -> Result<(), Fail> {
         (&[b'x'; 1000], InstanceFault::TooLong),
     ];
     for (instance, fault) in faults {
-        let refused = changed(&rt, rt.alloc(), &template, instance);
-        assert_eq!(rt; refused, Err(InstanceError::Bad(fault)));
+        let is_refused = is_refused_for(&rt, rt.alloc(), instance, fault)?;
+        assert!(rt; is_refused);
     }
     Ok(())
 }
@@ -213,8 +265,18 @@ fn expanded(alloc: Global, word: &[u8], name: &UnitName) -> Result<Vec<u8>, Expa
     ample!(expand(alloc, word, name), ExpandError::OutOfMemory)
 }
 
-fn expanded_by(alloc: Global, text: &[u8], word: &[u8]) -> Result<Vec<u8>, Fail> {
-    Ok(expanded(alloc, word, &named(alloc, text)?)?)
+/// Whether a word expands to this text for the unit of this name.
+fn expands_to(alloc: Global, text: &[u8], word: &[u8], expected: &[u8]) -> Result<bool, Fail> {
+    let name = named(alloc, text)?;
+    let expanded = expanded(alloc, word, &name)?;
+    Ok(expanded.as_slice() == expected)
+}
+
+/// Whether a word is refused for a specifier that is none.
+fn is_refused(alloc: Global, text: &[u8], word: &[u8]) -> Result<bool, NameError> {
+    let name = named(alloc, text)?;
+    let refused = expanded(alloc, word, &name);
+    Ok(refused == Err(ExpandError::UnknownSpecifier))
 }
 
 #[test]
@@ -231,17 +293,17 @@ fn words_are_expanded(rt: HostRuntime) -> Result<(), Fail> {
         (b"a.service", b"plain/ \xff", b"plain/ \xff"),
     ];
     for (text, word, expected) in words {
-        assert_eq!(rt; expanded_by(rt.alloc(), text, word)?.as_slice(), expected);
+        let expands = expands_to(rt.alloc(), text, word, expected)?;
+        assert!(rt; expands);
     }
     Ok(())
 }
 
 #[test]
 fn unknown_specifiers_are_refused(rt: HostRuntime) -> Result<(), Fail> {
-    let name = named(rt.alloc(), b"a.service")?;
     for word in [b"%z".as_slice(), b"a%", b"%", b"%%%", b"%I", b"x% y"] {
-        let refused = expanded(rt.alloc(), word, &name);
-        assert_eq!(rt; refused, Err(ExpandError::UnknownSpecifier));
+        let is_refused = is_refused(rt.alloc(), b"a.service", word)?;
+        assert!(rt; is_refused);
     }
     Ok(())
 }
@@ -272,13 +334,19 @@ fn names_are_sorted_by_their_bytes(rt: HostRuntime) -> Result<(), Fail> {
     Ok(())
 }
 
+/// How many names there are by their hashes, and whether this is one of them.
+fn hashed(alloc: Global, text: &[u8]) -> Result<(usize, bool), Fail> {
+    let mut hashed = HashSet::new(alloc);
+    for text in KEYS {
+        add_hashed(alloc, &mut hashed, text)?;
+    }
+    let name = named(alloc, text)?;
+    Ok((hashed.len(), hashed.contains(&name)))
+}
+
 #[test]
 fn names_are_hashed_by_their_bytes(rt: HostRuntime) -> Result<(), Fail> {
-    let mut hashed = HashSet::new(rt.alloc());
-    for text in KEYS {
-        add_hashed(rt.alloc(), &mut hashed, text)?;
-    }
-    assert_eq!(rt; hashed.len(), 3);
-    assert!(rt; hashed.contains(&named(rt.alloc(), b"a-b.service")?));
+    let told = hashed(rt.alloc(), b"a-b.service")?;
+    assert_eq!(rt; told, (3, true));
     Ok(())
 }

@@ -8,6 +8,11 @@ fn path(alloc: Global, text: &[u8]) -> Result<TreePath, PathError> {
     ample!(TreePath::parse(alloc, text), PathError::OutOfMemory)
 }
 
+fn has_text(alloc: Global, text: &[u8]) -> Result<bool, PathError> {
+    let path = path(alloc, text)?;
+    Ok(path.text() == text)
+}
+
 #[test]
 fn paths_are_absolute(rt: HostRuntime) -> Result<(), Fail> {
     let alloc = rt.alloc();
@@ -18,7 +23,8 @@ fn paths_are_absolute(rt: HostRuntime) -> Result<(), Fail> {
         b"/.a/a.",
         b"/a b/\x01",
     ] {
-        assert_eq!(rt; path(alloc, text)?.text(), text);
+        let is_path = has_text(alloc, text)?;
+        assert!(rt; is_path);
     }
     let others: [&[u8]; 12] = [
         b"", b"a", b"/", b"/a/", b"/a//b", b"/a/../b", b"/a/.", b"/..", b"//a", b"/a\0", b"/a\tb",
@@ -29,9 +35,23 @@ fn paths_are_absolute(rt: HostRuntime) -> Result<(), Fail> {
     }
     let mut long = [b'a'; 4096];
     long[0] = b'/';
-    assert_eq!(rt; path(alloc, &long[..4095])?.text().len(), 4095);
+    let is_path = has_text(alloc, &long[..4095])?;
+    assert!(rt; is_path);
     assert_eq!(rt; TreePath::parse(alloc, &long), Err(PathError::BadPath));
     Ok(())
+}
+
+/// How two paths compare, and whether they are equal.
+fn compared(alloc: Global, one: &[u8], other: &[u8]) -> Result<(Ordering, bool), PathError> {
+    let one = path(alloc, one)?;
+    let other = path(alloc, other)?;
+    Ok((one.cmp(&other), one == other))
+}
+
+fn is_as_its_copy(alloc: Global, text: &[u8]) -> Result<bool, Fail> {
+    let path = path(alloc, text)?;
+    let copy = ample!(path.copy(), AllocError)?;
+    Ok(copy == path)
 }
 
 #[test]
@@ -45,12 +65,32 @@ fn paths_are_ordered_by_bytes(rt: HostRuntime) -> Result<(), Fail> {
         (b"/B", b"/a", Ordering::Less),
     ];
     for (one, other, order) in orders {
-        let (one, other) = (path(alloc, one)?, path(alloc, other)?);
-        assert_eq!(rt; one.cmp(&other), order);
-        assert_eq!(rt; one == other, order == Ordering::Equal);
-        assert_eq!(rt; ample!(one.copy(), AllocError)?, one);
+        let found = compared(alloc, one, other)?;
+        assert_eq!(rt; found, (order, order == Ordering::Equal));
+        let is_same = is_as_its_copy(alloc, one)?;
+        assert!(rt; is_same);
     }
     Ok(())
+}
+
+/// Whether a path has this directory and this name.
+fn is_cut_into(
+    alloc: Global,
+    text: &[u8],
+    directory: &[u8],
+    name: &[u8],
+) -> Result<bool, PathError> {
+    let path = path(alloc, text)?;
+    Ok(path.directory() == directory && path.file_name() == name)
+}
+
+/// Whether a path's parent has this text; the root is no path.
+fn is_of_parent(alloc: Global, text: &[u8], directory: &[u8]) -> Result<bool, PathError> {
+    let path = path(alloc, text)?;
+    Ok(match path.into_parent() {
+        Some(parent) => parent.text() == directory,
+        None => directory.is_empty(),
+    })
 }
 
 #[test]
@@ -62,13 +102,10 @@ fn paths_have_directories_and_names(rt: HostRuntime) -> Result<(), Fail> {
         (b"/a.b/c.d/e.f", b"/a.b/c.d", b"e.f"),
     ];
     for (text, directory, name) in paths {
-        let path = path(alloc, text)?;
-        assert_eq!(rt; path.directory(), directory);
-        assert_eq!(rt; path.file_name(), name);
-        match path.into_parent() {
-            Some(parent) => assert_eq!(rt; parent.text(), directory),
-            None => assert_eq!(rt; directory, b"".as_slice()),
-        }
+        let found = is_cut_into(alloc, text, directory, name)?;
+        assert!(rt; found);
+        let above = is_of_parent(alloc, text, directory)?;
+        assert!(rt; above);
     }
     Ok(())
 }
@@ -94,6 +131,12 @@ fn what_lies_beneath_begins_somewhere(rt: HostRuntime) -> Result<(), Fail> {
     Ok(())
 }
 
+fn lies_beneath(alloc: Global, below: &[u8], above: &[u8]) -> Result<bool, PathError> {
+    let below = path(alloc, below)?;
+    let above = path(alloc, above)?;
+    Ok(below.is_beneath(&above))
+}
+
 #[test]
 fn paths_lie_beneath_others(rt: HostRuntime) -> Result<(), Fail> {
     let alloc = rt.alloc();
@@ -106,11 +149,9 @@ fn paths_lie_beneath_others(rt: HostRuntime) -> Result<(), Fail> {
         (b"/ab", b"/a", false),
         (b"/b/a/c", b"/a", false),
     ];
-    for (below, above, is_beneath) in pairs {
-        assert_eq!(rt;
-            path(alloc, below)?.is_beneath(&path(alloc, above)?),
-            is_beneath
-        );
+    for (below, above, expected) in pairs {
+        let lies = lies_beneath(alloc, below, above)?;
+        assert_eq!(rt; lies, expected);
     }
     Ok(())
 }

@@ -7,6 +7,12 @@ fn path(alloc: Global, text: &[u8]) -> Result<TreePath, PathError> {
     ample!(TreePath::parse(alloc, text), PathError::OutOfMemory)
 }
 
+/// Of what a path is the slot, and whether it is a unit's.
+fn slot_of(alloc: Global, text: &[u8]) -> Result<(Option<Slot>, bool), PathError> {
+    let path = path(alloc, text)?;
+    Ok((Slot::of(&path), Slot::is_of_unit(&path)))
+}
+
 #[test]
 fn slots_have_four_forms(rt: HostRuntime) -> Result<(), Fail> {
     let alloc = rt.alloc();
@@ -59,25 +65,33 @@ fn slots_have_four_forms(rt: HostRuntime) -> Result<(), Fail> {
         (b"/ssh.service", None),
     ];
     for (text, slot) in paths {
-        let path = path(alloc, text)?;
-        assert_eq!(rt; Slot::of(&path), slot);
-        assert_eq!(rt;
-            Slot::is_of_unit(&path),
-            matches!(slot, Some(Slot::Unit(_)))
-        );
+        let found = slot_of(alloc, text)?;
+        assert_eq!(rt; found, (slot, matches!(slot, Some(Slot::Unit(_)))));
     }
     assert_eq!(rt; Scope::Etc.place().directory(), "/etc/systemd/system");
     assert_eq!(rt; Scope::Run.place().directory(), "/run/systemd/system");
     Ok(())
 }
 
+fn name(alloc: Global, text: &[u8]) -> Result<UnitName, NameError> {
+    ample!(UnitName::parse(alloc, text), NameError::OutOfMemory)
+}
+
+/// Whether the slot of a unit in a place has this text, and of what it is the slot.
+fn unit_slot_is(
+    alloc: Global,
+    place: Place,
+    unit: &[u8],
+    text: &[u8],
+) -> Result<(bool, Option<Slot>), Fail> {
+    let unit = name(alloc, unit)?;
+    let slot = ample!(place.slot(alloc, &unit), AllocError)?;
+    Ok((slot.text() == text, Slot::of(&slot)))
+}
+
 #[test]
 fn units_have_slots(rt: HostRuntime) -> Result<(), Fail> {
     let alloc = rt.alloc();
-    let name = ample!(
-        UnitName::parse(alloc, b"getty@tty1.service"),
-        NameError::OutOfMemory
-    )?;
     let places: [(Place, &[u8]); 4] = [
         (Place::Etc, b"/etc/systemd/system/getty@tty1.service"),
         (Place::Run, b"/run/systemd/system/getty@tty1.service"),
@@ -88,21 +102,31 @@ fn units_have_slots(rt: HostRuntime) -> Result<(), Fail> {
         (Place::Vendor, b"/usr/lib/systemd/system/getty@tty1.service"),
     ];
     for (place, text) in places {
-        let slot = ample!(place.slot(alloc, &name), AllocError)?;
-        assert_eq!(rt; slot.text(), text);
-        assert_eq!(rt; Slot::of(&slot), Some(Slot::Unit(place)));
+        let found = unit_slot_is(alloc, place, b"getty@tty1.service", text)?;
+        assert_eq!(rt; found, (true, Some(Slot::Unit(place))));
     }
     Ok(())
+}
+
+/// Whether the slot of `getty@tty1.service` among those that `t@.target` needs has this text, and of what it is the slot.
+fn dependency_slot_is(
+    alloc: Global,
+    place: Place,
+    dependency: Dependency,
+    text: &[u8],
+) -> Result<(bool, Option<Slot>), Fail> {
+    let of = name(alloc, b"t@.target")?;
+    let unit = name(alloc, b"getty@tty1.service")?;
+    let slot = ample!(
+        place.dependency_slot(alloc, dependency, &of, &unit),
+        AllocError
+    )?;
+    Ok((slot.text() == text, Slot::of(&slot)))
 }
 
 #[test]
 fn dependencies_have_slots(rt: HostRuntime) -> Result<(), Fail> {
     let alloc = rt.alloc();
-    let of = ample!(UnitName::parse(alloc, b"t@.target"), NameError::OutOfMemory)?;
-    let name = ample!(
-        UnitName::parse(alloc, b"getty@tty1.service"),
-        NameError::OutOfMemory
-    )?;
     let slots: [(Place, Dependency, Slot, &[u8]); 2] = [
         (
             Place::Etc,
@@ -118,12 +142,8 @@ fn dependencies_have_slots(rt: HostRuntime) -> Result<(), Fail> {
         ),
     ];
     for (place, dependency, kind, text) in slots {
-        let slot = ample!(
-            place.dependency_slot(alloc, dependency, &of, &name),
-            AllocError
-        )?;
-        assert_eq!(rt; slot.text(), text);
-        assert_eq!(rt; Slot::of(&slot), Some(kind));
+        let found = dependency_slot_is(alloc, place, dependency, text)?;
+        assert_eq!(rt; found, (true, Some(kind)));
     }
     Ok(())
 }
@@ -139,6 +159,11 @@ fn presets_have_directories(rt: HostRuntime) -> Result<(), Fail> {
         assert_eq!(rt; place.preset_directory(), directory);
     }
     Ok(())
+}
+
+fn is_bad_shape(alloc: Global, text: &[u8]) -> Result<bool, PathError> {
+    let path = path(alloc, text)?;
+    Ok(path.is_bad_shape())
 }
 
 #[test]
@@ -161,7 +186,8 @@ fn some_paths_hold_no_entry(rt: HostRuntime) -> Result<(), Fail> {
         (b"/lib", false),
     ];
     for (text, is_bad) in paths {
-        assert_eq!(rt; path(alloc, text)?.is_bad_shape(), is_bad);
+        let found = is_bad_shape(alloc, text)?;
+        assert_eq!(rt; found, is_bad);
     }
     Ok(())
 }
