@@ -6,7 +6,7 @@ use Rattle.std.specs.Str.{bytes_eq}
 use Rattle.std.proofs.lemmas.Bool.{cases_Bool, false≢true, or_parts}
 use Rattle.std.proofs.lemmas.Slice.Eq.{bytes_eq-Decides}
 use Rattle.unit_paths.specs.Paths.{is_part, is_slash, parent, name_at}
-use Rattle.unit_paths.specs.Canonical.{with_part, walked, start_of, is_null_target, may_end_with_null}
+use Rattle.unit_paths.specs.Canonical.{with_part, walked, start_of, begins_with_slash, is_null_target, may_end_with_null}
 use Rattle.unit_paths.proofs.Slashes.{last_slash, name-none, name-seam, split-append}
 use Rattle.unit_paths.proofs.Nulls.{merged_null}
 use Rattle.unit_paths.proofs.Leading.{walked-last, split-one, with_part-part}
@@ -38,6 +38,17 @@ last_step text target = elim (cases_Bool (list_any is_slash target)) [
     none = ap (list_any is_slash) (name-none target none) ∙ none;
   }
 ]
+
+-- the usual spelling
+spelled : (link : List ℕ) → walked (start_of link (codes "/dev/null")) (slice_split is_slash (codes "/dev/null")) ≡ codes "/dev/null"
+unfolding start_of begins_with_slash walked with_part is_part
+spelled link = refl
+
+pub usual : (link target : List ℕ) → bytes_eq target (codes "/dev/null") ≡ true → is_null_target link target ≡ true
+unfolding is_null_target
+usual link target same =
+    let at = (bytes_eq-Decides target (codes "/dev/null")).0 same in
+    rw at (merged_null (walked (start_of link (codes "/dev/null")) (slice_split is_slash (codes "/dev/null"))) ∙ ap (λ t. bytes_eq t (codes "/dev/null")) (spelled link))
 
 part_here : (b : Bool) → not b ≡ false → b ≡ true
 part_here true e = refl

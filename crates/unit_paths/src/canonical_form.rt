@@ -41,8 +41,9 @@ pub fn canonical(
 pub fn is_null_target(link: &TreePath, target: &Target) -> bool
     ensures { result ≡ is_null_target link.now target.now }
 {
-    // (most links lead elsewhere, and their last part tells)
-    may_end_with_null(target.text()) && walks_to_null(link, target)
+    // (most links lead elsewhere, and their last part tells; most masks are spelled so)
+    let text = target.text();
+    text == b"/dev/null".as_slice() || may_end_with_null(text) && walks_to_null(link, target)
 }
 
 /// Whether a walk over the target may end with `null`: where its last part is that, or is passed over or `..`.
