@@ -1,5 +1,7 @@
 //! Which preset files count.
 use super::trees::{ON, Row, Said, assert_cells, assert_ruled, assert_says, policy, rules_among};
+use std::alloc::Global;
+use std::process::Abort;
 use std::test::Fail;
 
 const SSH: &[u8] = b"ssh.service";
@@ -24,103 +26,108 @@ const DISABLE: &[u8] = b"disable ssh.service\n";
 
 const NONE: &[u8] = b"disable *\n";
 
-/// Presets, and what they say of `ssh.service`.
-const ROWS: [(&[Row], Said); 17] = [
-    (&[], ON),
-    (
-        &[
-            Row::File(VENDOR, DISABLE),
-            Row::File(ETC, ENABLE),
-            Row::File(LATER, NONE),
-        ],
-        ON,
-    ),
-    (
-        &[Row::File(VENDOR, ENABLE), Row::File(RUN, DISABLE)],
-        Said::Off,
-    ),
-    (&[Row::File(RUN, DISABLE), Row::File(ETC, ENABLE)], ON),
-    (&[Row::File(ETC, NONE), Row::File(EARLIER, ENABLE)], ON),
-    (
-        &[Row::File(LATER, ENABLE), Row::File(VENDOR, NONE)],
-        Said::Off,
-    ),
-    (&[Row::File(VENDOR, NONE), Row::Link(ETC, b"/dev/null")], ON),
-    (
-        &[
-            Row::File(VENDOR, NONE),
-            Row::Link(ETC, b"../../../dev/null"),
-        ],
-        ON,
-    ),
-    (&[Row::File(VENDOR, NONE), Row::Link(ETC, b"/nothing")], ON),
-    (&[Row::File(VENDOR, NONE), Row::File(ETC, b"")], ON),
-    (
-        &[Row::File(ELSEWHERE, NONE), Row::Link(RUN, ELSEWHERE)],
-        Said::Off,
-    ),
-    (
-        &[
-            Row::File(LATER, NONE),
-            Row::Link(ETC, b"/lib/systemd/system-preset/20-b.preset"),
-        ],
-        Said::Off,
-    ),
-    (&[Row::Link(ETC, b"10-a.preset")], ON),
-    (&[Row::File(NINE, NONE), Row::File(ETC, ENABLE)], ON),
-    (
-        &[
-            Row::File(VENDOR, NONE),
-            Row::File(ETC, b"enable \xff\nenable"),
-        ],
-        ON,
-    ),
-    (
-        &[
-            Row::File(LATER, NONE),
-            Row::File(ETC, b"# enable ssh.service"),
-        ],
-        Said::Off,
-    ),
-    (&[Row::File(b"/etc/systemd/system/x.service", NONE)], ON),
+/// Presets that enable `ssh.service`.
+const ENABLED_BY: [&[Row]; 12] = [
+    &[],
+    &[
+        Row::File(VENDOR, DISABLE),
+        Row::File(ETC, ENABLE),
+        Row::File(LATER, NONE),
+    ],
+    &[Row::File(RUN, DISABLE), Row::File(ETC, ENABLE)],
+    &[Row::File(ETC, NONE), Row::File(EARLIER, ENABLE)],
+    &[Row::File(VENDOR, NONE), Row::Link(ETC, b"/dev/null")],
+    &[
+        Row::File(VENDOR, NONE),
+        Row::Link(ETC, b"../../../dev/null"),
+    ],
+    &[Row::File(VENDOR, NONE), Row::Link(ETC, b"/nothing")],
+    &[Row::File(VENDOR, NONE), Row::File(ETC, b"")],
+    &[Row::Link(ETC, b"10-a.preset")],
+    &[Row::File(NINE, NONE), Row::File(ETC, ENABLE)],
+    &[
+        Row::File(VENDOR, NONE),
+        Row::File(ETC, b"enable \xff\nenable"),
+    ],
+    &[Row::File(b"/etc/systemd/system/x.service", NONE)],
 ];
 
-#[test]
-fn files_are_chosen_by_their_names(rt: HostRuntime) -> Result<(), Fail> {
-    for (rows, said) in &ROWS {
-        assert_says(&rt, rt.alloc(), rows, &[(SSH, *said)])?;
+/// Presets that disable `ssh.service`.
+const DISABLED_BY: [&[Row]; 5] = [
+    &[Row::File(VENDOR, ENABLE), Row::File(RUN, DISABLE)],
+    &[Row::File(LATER, ENABLE), Row::File(VENDOR, NONE)],
+    &[Row::File(ELSEWHERE, NONE), Row::Link(RUN, ELSEWHERE)],
+    &[
+        Row::File(LATER, NONE),
+        Row::Link(ETC, b"/lib/systemd/system-preset/20-b.preset"),
+    ],
+    &[
+        Row::File(LATER, NONE),
+        Row::File(ETC, b"# enable ssh.service"),
+    ],
+];
+
+fn assert_ssh(rt: &impl Abort, alloc: Global, table: &[&[Row]], said: Said) -> Result<(), Fail> {
+    for rows in table {
+        assert_says(rt, alloc, rows, SSH, said)?;
     }
     Ok(())
 }
 
 #[test]
-fn cells_are_those_that_links_lead_to(rt: HostRuntime) -> Result<(), Fail> {
-    let linked = policy(
-        rt.alloc(),
-        &[
-            Row::File(ELSEWHERE, NONE),
-            Row::Link(VENDOR, b"/hidden"),
-            Row::Link(ETC, ELSEWHERE),
-            Row::Link(LATER, b"/nothing"),
-            Row::Link(EARLIER, b"/dev/null"),
-        ],
-    )?;
-    assert_cells(&rt, &linked, &[ELSEWHERE, b"/nothing"]);
-    assert_eq!(rt; linked.rules().as_slice().len(), 1);
+fn files_are_chosen_by_their_names(rt: HostRuntime) -> Result<(), Fail> {
+    assert_ssh(&rt, rt.alloc(), &ENABLED_BY, ON)?;
+    assert_ssh(&rt, rt.alloc(), &DISABLED_BY, Said::Off)
+}
+
+/// The paths that are looked at for these presets, and how many rules they have.
+fn assert_read(
+    rt: &impl Abort,
+    alloc: Global,
+    rows: &[Row],
+    paths: &[&[u8]],
+    rules: usize,
+) -> Result<(), Fail> {
+    let policy = policy(alloc, rows)?;
+    assert_cells(rt, policy.cells().as_slice(), paths);
+    assert_eq!(rt; policy.rules().as_slice().len(), rules);
     Ok(())
+}
+
+#[test]
+fn cells_are_those_that_links_lead_to(rt: HostRuntime) -> Result<(), Fail> {
+    let rows = [
+        Row::File(ELSEWHERE, NONE),
+        Row::Link(VENDOR, b"/hidden"),
+        Row::Link(ETC, ELSEWHERE),
+        Row::Link(LATER, b"/nothing"),
+        Row::Link(EARLIER, b"/dev/null"),
+    ];
+    assert_read(&rt, rt.alloc(), &rows, &[ELSEWHERE, b"/nothing"], 1)
+}
+
+/// Of presets whose links are followed in another tree there is one rule, behind two paths, and `ssh.service` is disabled by it.
+fn assert_disabled_among(
+    rt: &impl Abort,
+    alloc: Global,
+    presets: &[Row],
+    rows: &[Row],
+) -> Result<(), Fail> {
+    let (rules, cells) = rules_among(alloc, presets, rows)?;
+    assert_eq!(rt; cells.as_slice().len(), 2);
+    assert_eq!(rt; rules.as_slice().len(), 1);
+    assert_ruled(rt, alloc, &rules, SSH, Said::Off)
 }
 
 /// The presets are those of one tree, and what the links lead to stands in the other.
 #[test]
 fn links_are_followed_in_the_other_tree(rt: HostRuntime) -> Result<(), Fail> {
-    let (rules, cells) = rules_among(
+    assert_disabled_among(
+        &rt,
         rt.alloc(),
         &[Row::Link(RUN, ELSEWHERE), Row::File(ELSEWHERE, ENABLE)],
         &[Row::File(ELSEWHERE, NONE), Row::File(ETC, ENABLE)],
-    )?;
-    assert_eq!(rt; cells.as_slice().len(), 2);
-    assert_eq!(rt; rules.as_slice().len(), 1);
-    assert_ruled(&rt, rt.alloc(), &rules, SSH, Said::Off)
+    )
 }
 
 /// A file behind links at the slots of units: seven from the name of the presets in `/usr/lib` on, eight from that in `/etc` on. The
@@ -139,23 +146,38 @@ const CHAIN: [Row; 11] = [
     Row::Link(ETC, b"/etc/systemd/system/a1.service"),
 ];
 
+/// How many paths are looked at for these presets, and how many rules they have.
+fn counts(alloc: Global, rows: &[Row]) -> Result<(usize, usize), Fail> {
+    let policy = policy(alloc, rows)?;
+    Ok((
+        policy.cells().as_slice().len(),
+        policy.rules().as_slice().len(),
+    ))
+}
+
+/// Eight paths are looked at for these presets, which have so many rules and say this of `ssh.service`.
+fn assert_chain(
+    rt: &impl Abort,
+    alloc: Global,
+    rows: &[Row],
+    said: Said,
+    rules: usize,
+) -> Result<(), Fail> {
+    assert_says(rt, alloc, rows, SSH, said)?;
+    let counts = counts(alloc, rows)?;
+    assert_eq!(rt; counts, (8, rules));
+    Ok(())
+}
+
 #[test]
 fn a_preset_eight_links_deep_is_read(rt: HostRuntime) -> Result<(), Fail> {
-    assert_says(&rt, rt.alloc(), &CHAIN[..10], &[(SSH, Said::Off)])?;
-    let linked = policy(rt.alloc(), &CHAIN[..10])?;
-    assert_eq!(rt; linked.cells().as_slice().len(), 8);
-    assert_eq!(rt; linked.rules().as_slice().len(), 1);
-    Ok(())
+    assert_chain(&rt, rt.alloc(), &CHAIN[..10], Said::Off, 1)
 }
 
 /// It counts as an empty file, which hides the one of its name.
 #[test]
 fn a_preset_nine_links_deep_is_empty(rt: HostRuntime) -> Result<(), Fail> {
-    assert_says(&rt, rt.alloc(), &CHAIN, &[(SSH, ON)])?;
-    let linked = policy(rt.alloc(), &CHAIN)?;
-    assert_eq!(rt; linked.cells().as_slice().len(), 8);
-    assert_eq!(rt; linked.rules().as_slice().len(), 0);
-    Ok(())
+    assert_chain(&rt, rt.alloc(), &CHAIN, ON, 0)
 }
 
 /// What Debian's package `systemd` 252.39-1~deb12u2 ships at `/lib/systemd/system-preset/90-systemd.preset`, its only file there, as it
@@ -210,42 +232,22 @@ disable systemd-journal-remote.*
 disable systemd-journal-upload.*
 ";
 
-/// What `systemctl preset` of that version does with each of them, by this file.
-const DEBIAN_SAYS: [(&[u8], Said); 30] = [
-    (b"remote-fs.target", ON),
-    (b"remote-cryptsetup.target", ON),
-    (b"machines.target", ON),
-    (b"getty@.service", ON),
-    (b"getty@tty1.service", ON),
-    (b"systemd-timesyncd.service", ON),
-    (b"systemd-networkd.service", ON),
-    (b"systemd-networkd.socket", ON),
-    (b"systemd-resolved.service", ON),
-    (b"systemd-userdbd.socket", ON),
-    (b"systemd-pstore.service", ON),
-    (b"systemd-boot-update.service", ON),
-    (b"console-getty.service", Said::Off),
-    (b"debug-shell.service", Said::Off),
-    (b"halt.target", Said::Off),
-    (b"kexec.target", Said::Off),
-    (b"poweroff.target", Said::Off),
-    (b"reboot.target", ON),
-    (b"rescue.target", Said::Off),
-    (b"exit.target", Said::Off),
-    (b"systemd-networkd-wait-online.service", Said::Off),
-    (b"systemd-time-wait-sync.service", Said::Off),
-    (b"systemd-boot-check-no-failures.service", Said::Off),
-    (b"proc-sys-fs-binfmt_misc.mount", Said::Off),
-    (b"syslog.socket", Said::Off),
-    (b"systemd-journal-gatewayd.service", Said::Off),
-    (b"systemd-journal-gatewayd.socket", Said::Off),
-    (b"systemd-journal-remote.socket", Said::Off),
-    (b"systemd-journal-upload.service", Said::Off),
-    (b"ssh.service", ON),
-];
+/// What `systemctl preset` of that version enables by this file.
+const DEBIAN_ENABLES: &[u8] = b"\
+    remote-fs.target remote-cryptsetup.target machines.target getty@.service getty@tty1.service \
+    systemd-timesyncd.service systemd-networkd.service systemd-networkd.socket systemd-resolved.service \
+    systemd-userdbd.socket systemd-pstore.service systemd-boot-update.service reboot.target ssh.service";
+
+/// What `systemctl preset` of that version disables by this file.
+const DEBIAN_DISABLES: &[u8] = b"\
+    console-getty.service debug-shell.service halt.target kexec.target poweroff.target rescue.target exit.target \
+    systemd-networkd-wait-online.service systemd-time-wait-sync.service systemd-boot-check-no-failures.service \
+    proc-sys-fs-binfmt_misc.mount syslog.socket systemd-journal-gatewayd.service systemd-journal-gatewayd.socket \
+    systemd-journal-remote.socket systemd-journal-upload.service";
 
 #[test]
 fn debian_says(rt: HostRuntime) -> Result<(), Fail> {
     let file = Row::File(b"/usr/lib/systemd/system-preset/90-systemd.preset", DEBIAN);
-    assert_says(&rt, rt.alloc(), &[file], &DEBIAN_SAYS)
+    assert_says(&rt, rt.alloc(), &[file], DEBIAN_ENABLES, ON)?;
+    assert_says(&rt, rt.alloc(), &[file], DEBIAN_DISABLES, Said::Off)
 }
