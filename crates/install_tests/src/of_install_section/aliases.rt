@@ -75,12 +75,20 @@ const OF_UNITS: [(&[u8], &[u8], &[u8]); 11] = [
     ),
 ];
 
-#[test]
-fn aliases_are_of_type_and_kind_of_the_unit(rt: HostRuntime) -> Result<(), Fail> {
-    for (unit, bytes, text) in OF_UNITS {
-        assert_alias(&rt, rt.alloc(), unit, unit, bytes, text)?;
+fn assert_of_units(
+    rt: &impl Abort,
+    alloc: Global,
+    table: &[(&[u8], &[u8], &[u8])],
+) -> Result<(), Fail> {
+    for (unit, bytes, text) in table {
+        assert_alias(rt, alloc, unit, unit, bytes, text)?;
     }
     Ok(())
+}
+
+#[test]
+fn aliases_are_of_type_and_kind_of_the_unit(rt: HostRuntime) -> Result<(), Fail> {
+    assert_of_units(&rt, rt.alloc(), &OF_UNITS)
 }
 
 const OF_TEMPLATES: [(&[u8], &[u8], &[u8]); 5] = [
@@ -111,12 +119,20 @@ const OF_TEMPLATES: [(&[u8], &[u8], &[u8]); 5] = [
     ),
 ];
 
-#[test]
-fn aliases_of_templates_and_instances(rt: HostRuntime) -> Result<(), Fail> {
-    for (unit, bytes, text) in OF_TEMPLATES {
-        assert_alias(&rt, rt.alloc(), b"a@.service", unit, bytes, text)?;
+fn assert_of_templates(
+    rt: &impl Abort,
+    alloc: Global,
+    table: &[(&[u8], &[u8], &[u8])],
+) -> Result<(), Fail> {
+    for (unit, bytes, text) in table {
+        assert_alias(rt, alloc, b"a@.service", unit, bytes, text)?;
     }
     Ok(())
+}
+
+#[test]
+fn aliases_of_templates_and_instances(rt: HostRuntime) -> Result<(), Fail> {
+    assert_of_templates(&rt, rt.alloc(), &OF_TEMPLATES)
 }
 
 #[test]

@@ -2,8 +2,7 @@
 use crate::of_install_section::units::{Row, named, names, tree};
 use install_section::{Closure, ClosureError, closure};
 use link_tree::Tree;
-use std::alloc::Global;
-use std::process::Abort;
+use std::alloc::{AllocError, Global};
 use std::test::Fail;
 use unit_name::{UnitName, ample};
 
@@ -53,42 +52,31 @@ fn naming(alloc: Global, count: usize) -> Result<Vec<u8>, Fail> {
 }
 
 /// How many units a closure has, and how many notices; or that they are too many, and how many paths were looked at until then.
-fn assert_counts(
-    rt: &impl Abort,
-    alloc: Global,
-    tree: &Tree,
-    given: &[UnitName],
-    counts: Result<(usize, usize), usize>,
-) {
-    match (closed(alloc, tree, given), counts) {
-        (Ok(closure), Ok((units, notices))) => {
-            assert_eq!(rt; closure.units.len(), units);
-            assert_eq!(rt; closure.notices.len(), notices);
-        }
-        (Err(ClosureError::TooMany(cells)), Err(count)) => {
-            assert_eq!(rt; cells.as_slice().len(), count);
-        }
-        _ => assert!(rt; false),
+type Counts = Result<(usize, usize), usize>;
+
+fn counts(alloc: Global, tree: &Tree, given: &[UnitName]) -> Result<Counts, AllocError> {
+    match closed(alloc, tree, given) {
+        Ok(closure) => Ok(Ok((closure.units.len(), closure.notices.len()))),
+        Err(ClosureError::TooMany(cells)) => Ok(Err(cells.as_slice().len())),
+        Err(ClosureError::OutOfMemory) => Err(AllocError),
     }
 }
 
-fn assert_given(
-    rt: &impl Abort,
-    alloc: Global,
-    count: usize,
-    counts: Result<(usize, usize), usize>,
-) -> Result<(), Fail> {
+/// The counts of units that are given, so many and all different.
+fn counts_given(alloc: Global, count: usize) -> Result<Counts, Fail> {
     let tree = tree(alloc, &[Row::File(b"u@.service", b"[Install]\n")])?;
     let given = numbered(alloc, count)?;
-    assert_counts(rt, alloc, &tree, &given, counts);
-    Ok(())
+    Ok(counts(alloc, &tree, &given)?)
 }
 
 #[test]
 fn a_thousand_given_units(rt: HostRuntime) -> Result<(), Fail> {
-    assert_given(&rt, rt.alloc(), 1024, Ok((1024, 0)))?;
+    let most = counts_given(rt.alloc(), 1024)?;
+    assert_eq!(rt; most, Ok((1024, 0)));
     // None is looked up where they are too many.
-    assert_given(&rt, rt.alloc(), 1025, Err(0))
+    let more = counts_given(rt.alloc(), 1025)?;
+    assert_eq!(rt; more, Err(0));
+    Ok(())
 }
 
 /// A tree with a unit whose section names so many different units.
@@ -103,50 +91,45 @@ fn star(alloc: Global, count: usize) -> Result<Tree, Fail> {
     )
 }
 
-fn assert_star(
-    rt: &impl Abort,
-    alloc: Global,
-    count: usize,
-    counts: Result<(usize, usize), usize>,
-) -> Result<(), Fail> {
+/// The counts of a unit whose section names so many different units.
+fn counts_named(alloc: Global, count: usize) -> Result<Counts, Fail> {
     let tree = star(alloc, count)?;
     let given = names(alloc, b"a.service")?;
-    assert_counts(rt, alloc, &tree, &given, counts);
-    Ok(())
+    Ok(counts(alloc, &tree, &given)?)
 }
 
 #[test]
 fn a_thousand_named_units(rt: HostRuntime) -> Result<(), Fail> {
-    assert_star(&rt, rt.alloc(), 1023, Ok((1024, 0)))?;
+    let most = counts_named(rt.alloc(), 1023)?;
+    assert_eq!(rt; most, Ok((1024, 0)));
     // Four paths for the first unit; for each word its own four; the template's are the same four each time.
-    assert_star(&rt, rt.alloc(), 1024, Err(4 + 4 * 1024 + 4))?;
-    assert_star(&rt, rt.alloc(), 2000, Err(4 + 4 * 1024 + 4))
+    let more = counts_named(rt.alloc(), 1024)?;
+    assert_eq!(rt; more, Err(4 + 4 * 1024 + 4));
+    let many = counts_named(rt.alloc(), 2000)?;
+    assert_eq!(rt; many, Err(4 + 4 * 1024 + 4));
+    Ok(())
+}
+
+/// The counts of a unit that is given, where this is the only file of a unit.
+fn counts_of(alloc: Global, file: &[u8], bytes: &[u8], given: &[u8]) -> Result<Counts, Fail> {
+    let tree = tree(alloc, &[Row::File(file, bytes)])?;
+    let given = names(alloc, given)?;
+    Ok(counts(alloc, &tree, &given)?)
 }
 
 #[test]
 fn names_grow_until_they_are_too_long(rt: HostRuntime) -> Result<(), Fail> {
-    let alloc = rt.alloc();
-    let tree = tree(
-        alloc,
-        &[Row::File(b"t@.service", b"[Install]\nAlso=t@%ia.service\n")],
-    )?;
-    let given = names(alloc, b"t@a.service")?;
-    assert_counts(&rt, alloc, &tree, &given, Ok((245, 1)));
+    let section: &[u8] = b"[Install]\nAlso=t@%ia.service\n";
+    let counts = counts_of(rt.alloc(), b"t@.service", section, b"t@a.service")?;
+    assert_eq!(rt; counts, Ok((245, 1)));
     Ok(())
 }
 
 #[test]
 fn units_that_double_are_too_many(rt: HostRuntime) -> Result<(), Fail> {
-    let alloc = rt.alloc();
-    let tree = tree(
-        alloc,
-        &[Row::File(
-            b"d@.service",
-            b"[Install]\nAlso=d@%i0.service d@%i1.service\n",
-        )],
-    )?;
-    let given = names(alloc, b"d@x.service")?;
+    let section: &[u8] = b"[Install]\nAlso=d@%i0.service d@%i1.service\n";
+    let counts = counts_of(rt.alloc(), b"d@.service", section, b"d@x.service")?;
     // Each word looks at four paths of its own, and all at the template's four.
-    assert_counts(&rt, alloc, &tree, &given, Err(4 * 1025 + 4));
+    assert_eq!(rt; counts, Err(4 * 1025 + 4));
     Ok(())
 }

@@ -20,6 +20,19 @@ pub(crate) fn assert_wanted(
     Ok(())
 }
 
+/// Units ask for these, each line of the table for itself.
+fn assert_each_wanted(
+    rt: &impl Abort,
+    alloc: Global,
+    rows: &[Row],
+    table: &[(&[u8], &[u8])],
+) -> Result<(), Fail> {
+    for (units, text) in table {
+        assert_wanted(rt, alloc, rows, units, text)?;
+    }
+    Ok(())
+}
+
 const SSH: Row = Row::File(
     b"ssh.service",
     b"[Install]\nWantedBy=multi-user.target\nAlias=sshd.service\n",
@@ -68,10 +81,7 @@ fn the_least_clash_is_told(rt: HostRuntime) -> Result<(), Fail> {
         Row::File(b"b.service", b"[Install]\nAlias=d.service c.service\n"),
         Row::File(b"t@.service", b"[Install]\nWantedBy=m.target\n"),
     ];
-    for (units, text) in CLASHES {
-        assert_wanted(&rt, rt.alloc(), &rows, units, text)?;
-    }
-    Ok(())
+    assert_each_wanted(&rt, rt.alloc(), &rows, &CLASHES)
 }
 
 const GETTY: Row = Row::File(
@@ -113,10 +123,7 @@ const DEFAULTS: [(&[u8], &[u8]); 7] = [
 #[test]
 fn templates_stand_for_their_default_instance(rt: HostRuntime) -> Result<(), Fail> {
     let rows = [GETTY, WEB, ODD, MONITOR];
-    for (units, text) in DEFAULTS {
-        assert_wanted(&rt, rt.alloc(), &rows, units, text)?;
-    }
-    Ok(())
+    assert_each_wanted(&rt, rt.alloc(), &rows, &DEFAULTS)
 }
 
 #[test]
