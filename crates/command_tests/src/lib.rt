@@ -9,4 +9,6 @@ mod of_slot_commands;
 #[cfg(test)]
 mod of_states;
 #[cfg(test)]
+mod outcomes;
+#[cfg(test)]
 mod trees;

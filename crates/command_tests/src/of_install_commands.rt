@@ -1,7 +1,7 @@
 mod again;
 mod checking;
+mod commands;
 mod composites;
 mod disabling;
 mod enabling;
 mod large;
-mod outcomes;

@@ -4,4 +4,3 @@ mod defaults;
 mod hands;
 mod links;
 mod masks;
-mod outcomes;

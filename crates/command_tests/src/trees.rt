@@ -1,17 +1,14 @@
 //! Trees and names from texts, and what operations look at.
-use footprint::{Key, Operation, Subject, Units};
+use footprint::{Key, Operation, Reading, Units};
 use link_tree::{FromRead, InventoryError, PathError, Scope, Tree, TreePath, read_inventory};
 use std::alloc::{AllocError, Global};
 use std::process::Abort;
+use std::test::Fail;
 use unit_name::{NameError, UnitName, ample};
 
 pub(crate) fn tree(alloc: Global, text: &[u8]) -> Result<Tree, InventoryError> {
-    let mut bytes = text;
     ample!(
-        {
-            bytes = text;
-            read_inventory(alloc, &mut FromRead::new(&mut bytes))
-        },
+        read_inventory(alloc, &mut FromRead::new(text)),
         InventoryError::OutOfMemory
     )
 }
@@ -38,30 +35,14 @@ pub(crate) fn units(alloc: Global, names: &[u8]) -> Result<Units, NameError> {
     Ok(units)
 }
 
-pub(crate) fn text_of(subject: &Subject) -> &[u8] {
-    match subject {
-        Subject::Unit(name) => name.text(),
-        Subject::Path(path) => path.text(),
-    }
+/// Neither is the same as the other.
+pub(crate) fn assert_other<O: Operation>(rt: &impl Abort, one: O, other: O) {
+    assert!(rt; !one.same(&other));
+    assert!(rt; !other.same(&one));
 }
 
-/// Copies are the same, and no questions.
-pub(crate) fn assert_copied<O: Operation>(
-    rt: &impl Abort,
-    operation: &O,
-) -> Result<(), AllocError> {
-    let copy = ample!(operation.copy(), AllocError)?;
-    assert!(rt; copy.same(operation));
-    assert!(rt; !copy.asks_only());
-    Ok(())
-}
-
-pub(crate) fn assert_other<O: Operation>(rt: &impl Abort, one: &O, other: &O) {
-    assert!(rt; !one.same(other));
-    assert!(rt; !other.same(one));
-}
-
-fn push_key(out: &mut Vec<u8>, key: &Key) -> Result<(), AllocError> {
+/// A key, with a line end.
+pub(crate) fn push_key(out: &mut Vec<u8>, key: &Key) -> Result<(), AllocError> {
     match key {
         Key::Cell(path) => out.extend_from_slice(path.text())?,
         Key::Marked(Scope::Etc, name) => {
@@ -78,13 +59,18 @@ fn push_key(out: &mut Vec<u8>, key: &Key) -> Result<(), AllocError> {
     out.extend_from_slice(b"\n")
 }
 
-fn read_by<O: Operation>(alloc: Global, operation: &O, tree: &Tree) -> Result<Vec<u8>, AllocError> {
-    let outcome = operation.run(alloc, tree)?;
+/// The keys of a reading, each on a line.
+fn keys_of(alloc: Global, reading: &Reading) -> Result<Vec<u8>, AllocError> {
     let mut out = Vec::new(alloc);
-    for observation in outcome.reading.as_slice() {
+    for observation in reading.as_slice() {
         push_key(&mut out, &observation.key)?;
     }
     Ok(out)
+}
+
+fn read_by<O: Operation>(alloc: Global, operation: &O, tree: &Tree) -> Result<Vec<u8>, AllocError> {
+    let outcome = operation.run(alloc, tree)?;
+    keys_of(alloc, &outcome.reading)
 }
 
 /// An operation looks at these keys, each on a line.
@@ -94,8 +80,20 @@ pub(crate) fn assert_looks_at<O: Operation>(
     operation: &O,
     tree: &Tree,
     text: &[u8],
-) -> Result<(), AllocError> {
+) -> Result<(), Fail> {
     let read = ample!(read_by(alloc, operation, tree), AllocError)?;
     assert_eq!(rt; read.as_slice(), text);
     Ok(())
+}
+
+/// An operation looks at these keys in the tree of an inventory.
+pub(crate) fn assert_reads<O: Operation>(
+    rt: &impl Abort,
+    alloc: Global,
+    operation: O,
+    inventory: &[u8],
+    text: &[u8],
+) -> Result<(), Fail> {
+    let tree = tree(alloc, inventory)?;
+    assert_looks_at(rt, alloc, &operation, &tree, text)
 }

@@ -1,23 +1,24 @@
 //! Commands that follow one another.
-use super::outcomes::assert_comes_to;
-use crate::trees::units;
+use super::commands::{disable, enable, enable_then_disable};
+use crate::outcomes::assert_told;
 use footprint::Then;
 use install_commands::{Disable, Enable};
 use link_tree::Scope;
 use std::alloc::Global;
 use std::process::Abort;
 use std::test::Fail;
+use unit_name::NameError;
 
-fn enable(alloc: Global, names: &[u8]) -> Result<Enable, Fail> {
-    let units = units(alloc, names)?;
-    let scope = Scope::Etc;
-    Ok(Enable { scope, units })
+fn enable_twice(alloc: Global, names: &[u8]) -> Result<Then<Enable, Enable>, NameError> {
+    let first = enable(alloc, Scope::Etc, names)?;
+    let second = enable(alloc, Scope::Etc, names)?;
+    Ok(Then { first, second })
 }
 
-fn disable(alloc: Global, names: &[u8]) -> Result<Disable, Fail> {
-    let units = units(alloc, names)?;
-    let scope = Scope::Etc;
-    Ok(Disable { scope, units })
+fn disable_twice(alloc: Global, names: &[u8]) -> Result<Then<Disable, Disable>, NameError> {
+    let first = disable(alloc, Scope::Etc, names)?;
+    let second = disable(alloc, Scope::Etc, names)?;
+    Ok(Then { first, second })
 }
 
 /// `a` names `b`, and both are wanted.
@@ -26,25 +27,30 @@ const PAIR: &[u8] = b"unitadm-inventory 1\n\
     F\t28\t/usr/lib/systemd/system/b.service\n[Install]\nWantedBy=m.target\n\n\
     end\n";
 
-/// What an enable of the pair changes.
-const MADE: &[u8] = b"done\n\
-    /etc/systemd/system/m.target.wants/b.service + /usr/lib/systemd/system/b.service\n\
-    /etc/systemd/system/x.service + /usr/lib/systemd/system/a.service\n";
-
 #[test]
 fn enable_again_changes_nothing(rt: HostRuntime) -> Result<(), Fail> {
-    let alloc = rt.alloc();
-    let first = enable(alloc, b"a.service")?;
-    let second = enable(alloc, b"a.service")?;
-    assert_comes_to(&rt, alloc, &Then { first, second }, PAIR, MADE)
+    let both = enable_twice(rt.alloc(), b"a.service")?;
+    let text = b"done\n\
+        + /etc/systemd/system/m.target.wants/b.service -> /usr/lib/systemd/system/b.service\n\
+        + /etc/systemd/system/x.service -> /usr/lib/systemd/system/a.service\n";
+    assert_told(&rt, rt.alloc(), both, PAIR, text)
+}
+
+/// An enable and then a disable of a unit come to this.
+fn assert_back(
+    rt: &impl Abort,
+    alloc: Global,
+    name: &[u8],
+    inventory: &[u8],
+    text: &[u8],
+) -> Result<(), Fail> {
+    let both = enable_then_disable(alloc, name)?;
+    assert_told(rt, alloc, both, inventory, text)
 }
 
 #[test]
 fn disable_takes_an_enable_back(rt: HostRuntime) -> Result<(), Fail> {
-    let alloc = rt.alloc();
-    let first = enable(alloc, b"a.service")?;
-    let second = disable(alloc, b"a.service")?;
-    assert_comes_to(&rt, alloc, &Then { first, second }, PAIR, b"done\n")
+    assert_back(&rt, rt.alloc(), b"a.service", PAIR, b"done\n")
 }
 
 /// An instance dangles, until the link that leads to its template is made, and then it joins by `Also=`.
@@ -56,14 +62,14 @@ fn enable_again_may_find_more(rt: HostRuntime) -> Result<(), Fail> {
         F\t44\t/usr/lib/systemd/system/a@.service\n[Install]\nAlso=a@1.service\nAlias=b@.service\n\n\
         end\n";
     let text = b"done\n  ! a@.service: Also a@1.service: dangling\n\
-        /etc/systemd/system/b@.service + /usr/lib/systemd/system/a@.service\n";
-    assert_comes_to(&rt, alloc, &enable(alloc, b"a@.service")?, tree, text)?;
+        + /etc/systemd/system/b@.service -> /usr/lib/systemd/system/a@.service\n";
+    let once = enable(alloc, Scope::Etc, b"a@.service")?;
+    assert_told(&rt, alloc, once, tree, text)?;
     let text = b"done\n  ! a@.service: Also a@1.service: dangling\n\
-        /etc/systemd/system/b@.service + /usr/lib/systemd/system/a@.service\n\
-        /etc/systemd/system/b@1.service + /usr/lib/systemd/system/a@.service\n";
-    let first = enable(alloc, b"a@.service")?;
-    let second = enable(alloc, b"a@.service")?;
-    assert_comes_to(&rt, alloc, &Then { first, second }, tree, text)
+        + /etc/systemd/system/b@.service -> /usr/lib/systemd/system/a@.service\n\
+        + /etc/systemd/system/b@1.service -> /usr/lib/systemd/system/a@.service\n";
+    let twice = enable_twice(alloc, b"a@.service")?;
+    assert_told(&rt, alloc, twice, tree, text)
 }
 
 /// The link that goes was the way to a unit, and a file of that name in another directory comes to light.
@@ -77,40 +83,35 @@ fn disable_again_may_find_another_file(rt: HostRuntime) -> Result<(), Fail> {
         F\t25\t/usr/lib/systemd/system/a.service\n[Install]\nAlso=b.service\n\n\
         F\t1\t/usr/lib/systemd/system/b.service\n#\n\
         end\n";
-    let text = b"done\n/etc/systemd/system/a.service - /opt/a.service\n";
-    assert_comes_to(&rt, alloc, &disable(alloc, b"a.service")?, tree, text)?;
-    let text = b"done\n/etc/systemd/system/a.service - /opt/a.service\n\
-        /etc/systemd/system/m.target.wants/b.service - /usr/lib/systemd/system/b.service\n";
-    let first = disable(alloc, b"a.service")?;
-    let second = disable(alloc, b"a.service")?;
-    assert_comes_to(&rt, alloc, &Then { first, second }, tree, text)
+    let text = b"done\n- /etc/systemd/system/a.service -> /opt/a.service\n";
+    let once = disable(alloc, Scope::Etc, b"a.service")?;
+    assert_told(&rt, alloc, once, tree, text)?;
+    let text = b"done\n\
+        - /etc/systemd/system/a.service -> /opt/a.service\n\
+        - /etc/systemd/system/m.target.wants/b.service -> /usr/lib/systemd/system/b.service\n";
+    let twice = disable_twice(alloc, b"a.service")?;
+    assert_told(&rt, alloc, twice, tree, text)
 }
 
 /// The alias that is made hides a unit, which is named no more.
 #[test]
 fn disable_may_leave_a_unit_that_was_hidden(rt: HostRuntime) -> Result<(), Fail> {
-    let alloc = rt.alloc();
     let tree = b"unitadm-inventory 1\n\
         F\t41\t/usr/lib/systemd/system/a.service\n[Install]\nAlso=b.service\nAlias=b.service\n\n\
         F\t28\t/usr/lib/systemd/system/b.service\n[Install]\nWantedBy=m.target\n\n\
         end\n";
-    let first = enable(alloc, b"a.service")?;
-    let second = disable(alloc, b"a.service")?;
     let text = b"done\n  ! a.service: Also b.service: is an alias\n\
-        /etc/systemd/system/m.target.wants/b.service + /usr/lib/systemd/system/b.service\n";
-    assert_comes_to(&rt, alloc, &Then { first, second }, tree, text)
+        + /etc/systemd/system/m.target.wants/b.service -> /usr/lib/systemd/system/b.service\n";
+    assert_back(&rt, rt.alloc(), b"a.service", tree, text)
 }
 
 /// An alias that an instance has belongs to no name of a disable.
 #[test]
 fn disable_leaves_an_alias_of_an_instance(rt: HostRuntime) -> Result<(), Fail> {
-    let alloc = rt.alloc();
     let tree = b"unitadm-inventory 1\n\
         F\t45\t/usr/lib/systemd/system/a@.service\n[Install]\nWantedBy=m.target\nAlias=b@.service\n\n\
         end\n";
-    let first = enable(alloc, b"a@1.service")?;
-    let second = disable(alloc, b"a@1.service")?;
     let text = b"done\n\
-        /etc/systemd/system/b@1.service + /usr/lib/systemd/system/a@.service\n";
-    assert_comes_to(&rt, alloc, &Then { first, second }, tree, text)
+        + /etc/systemd/system/b@1.service -> /usr/lib/systemd/system/a@.service\n";
+    assert_back(&rt, rt.alloc(), b"a@1.service", tree, text)
 }

@@ -1,12 +1,16 @@
 //! reenable and preset, and what they look at.
-use super::outcomes::assert_told;
-use crate::trees::{assert_looks_at, tree, units};
-use footprint::Then;
-use install_commands::{Disable, Enable, Preset, Reenable};
-use link_tree::{Scope, Tree};
+use super::commands::enable_then_disable;
+use crate::outcomes::{assert_told, assert_told_and_reads};
+use crate::trees::{assert_reads, units};
+use install_commands::{Preset, Reenable};
+use link_tree::Scope;
 use std::alloc::Global;
 use std::process::Abort;
 use std::test::Fail;
+use unit_name::NameError;
+
+/// The names of units, and what a command comes to with them.
+type Row = (&'static [u8], &'static [u8]);
 
 /// `a` had another alias and names `b`, which is enabled; the file of `app` lies outside the directories of units.
 const LINKED: &[u8] = b"unitadm-inventory 1\n\
@@ -19,53 +23,48 @@ const LINKED: &[u8] = b"unitadm-inventory 1\n\
     F\t28\t/usr/lib/systemd/system/b.service\n[Install]\nWantedBy=m.target\n\n\
     end\n";
 
-fn assert_reenabled(
-    rt: &impl Abort,
-    alloc: Global,
-    tree: &Tree,
-    names: &[u8],
-    text: &[u8],
-) -> Result<(), Fail> {
+fn reenable(alloc: Global, names: &[u8]) -> Result<Reenable, NameError> {
     let units = units(alloc, names)?;
     let scope = Scope::Etc;
-    assert_told(rt, alloc, &Reenable { scope, units }, tree, text)?;
-    Ok(())
+    Ok(Reenable { scope, units })
 }
 
-#[test]
-fn links_are_again_those_that_units_ask_for(rt: HostRuntime) -> Result<(), Fail> {
-    let alloc = rt.alloc();
-    let tree = tree(alloc, LINKED)?;
-    let rows: [(&[u8], &[u8]); 5] = [
-        (b"b.service", b"done\n"),
-        (b"app.service b.service app.service", b"done\n"),
-        (
-            b"a.service",
-            b"done\n\
-            /etc/systemd/system/old.service - /usr/lib/systemd/system/a.service\n\
-            /etc/systemd/system/x.service + /usr/lib/systemd/system/a.service\n",
-        ),
-        (b"b.service old.service", b"alias of a.service\n"),
-        (b"b.service c.service", b"not found: c.service\n"),
-    ];
+fn assert_reenabled(rt: &impl Abort, alloc: Global, rows: &[Row]) -> Result<(), Fail> {
     for (names, text) in rows {
-        assert_reenabled(&rt, alloc, &tree, names, text)?;
+        let reenable = reenable(alloc, names)?;
+        assert_told(rt, alloc, reenable, LINKED, text)?;
     }
     Ok(())
 }
 
 #[test]
+fn links_are_again_those_that_units_ask_for(rt: HostRuntime) -> Result<(), Fail> {
+    assert_reenabled(
+        &rt,
+        rt.alloc(),
+        &[
+            (b"b.service", b"done\n"),
+            (b"app.service b.service app.service", b"done\n"),
+            (
+                b"a.service",
+                b"done\n\
+                - /etc/systemd/system/old.service -> /usr/lib/systemd/system/a.service\n\
+                + /etc/systemd/system/x.service -> /usr/lib/systemd/system/a.service\n",
+            ),
+            (b"b.service old.service", b"alias of a.service\n"),
+            (b"b.service c.service", b"not found: c.service\n"),
+        ],
+    )
+}
+
+#[test]
 fn reenable_looks_at_what_its_parts_look_at(rt: HostRuntime) -> Result<(), Fail> {
-    let alloc = rt.alloc();
-    let tree = tree(alloc, LINKED)?;
-    let units = units(alloc, b"app.service")?;
-    let scope = Scope::Etc;
+    let reenable = reenable(rt.alloc(), b"app.service")?;
     let text = b"/etc/systemd/system/app.service\n\
         /etc/systemd/system/m.target.wants/app.service\n\
         /opt/app.service\n\
         etc app.service\n";
-    assert_looks_at(&rt, alloc, &Reenable { scope, units }, &tree, text)?;
-    Ok(())
+    assert_reads(&rt, rt.alloc(), reenable, LINKED, text)
 }
 
 /// `a` and instances of `t` are to be enabled, and all others disabled; `x` is another name of `a`, and `s` asks for nothing.
@@ -79,97 +78,67 @@ const PRESET: &[u8] = b"unitadm-inventory 1\n\
     F\t28\t/usr/lib/systemd/system/t@.service\n[Install]\nWantedBy=m.target\n\n\
     end\n";
 
-fn assert_preset(
-    rt: &impl Abort,
-    alloc: Global,
-    tree: &Tree,
-    names: &[u8],
-    text: &[u8],
-) -> Result<(), Fail> {
+fn preset(alloc: Global, scope: Scope, names: &[u8]) -> Result<Preset, NameError> {
     let units = units(alloc, names)?;
-    let scope = Scope::Etc;
-    assert_told(rt, alloc, &Preset { scope, units }, tree, text)?;
-    Ok(())
+    Ok(Preset { scope, units })
 }
 
-#[test]
-fn preset_files_tell_which_are_enabled(rt: HostRuntime) -> Result<(), Fail> {
-    let alloc = rt.alloc();
-    let tree = tree(alloc, PRESET)?;
-    let rows: [(&[u8], &[u8]); 4] = [
-        (
-            b"a.service b.service s.service x.service",
-            b"done\n\
-            /etc/systemd/system/m.target.wants/a.service + /usr/lib/systemd/system/a.service\n\
-            /etc/systemd/system/m.target.wants/b.service - /usr/lib/systemd/system/b.service\n",
-        ),
-        (
-            b"t@.service",
-            b"done\n  ! t@.service: Preset two/: bad name\n\
-            /etc/systemd/system/m.target.wants/t@one.service + /usr/lib/systemd/system/t@.service\n\
-            /etc/systemd/system/m.target.wants/t@two.service + /usr/lib/systemd/system/t@.service\n",
-        ),
-        (b"x.service s.service", b"done\n"),
-        (b"b.service c.service", b"not found: c.service\n"),
-    ];
+fn assert_preset(rt: &impl Abort, alloc: Global, rows: &[Row]) -> Result<(), Fail> {
     for (names, text) in rows {
-        assert_preset(&rt, alloc, &tree, names, text)?;
+        let preset = preset(alloc, Scope::Etc, names)?;
+        assert_told(rt, alloc, preset, PRESET, text)?;
     }
     Ok(())
 }
 
 #[test]
+fn preset_files_tell_which_are_enabled(rt: HostRuntime) -> Result<(), Fail> {
+    assert_preset(
+        &rt,
+        rt.alloc(),
+        &[
+            (
+                b"a.service b.service s.service x.service",
+                b"done\n\
+                + /etc/systemd/system/m.target.wants/a.service -> /usr/lib/systemd/system/a.service\n\
+                - /etc/systemd/system/m.target.wants/b.service -> /usr/lib/systemd/system/b.service\n",
+            ),
+            (
+                b"t@.service",
+                b"done\n  ! t@.service: Preset two/: bad name\n\
+                + /etc/systemd/system/m.target.wants/t@one.service -> /usr/lib/systemd/system/t@.service\n\
+                + /etc/systemd/system/m.target.wants/t@two.service -> /usr/lib/systemd/system/t@.service\n",
+            ),
+            (b"x.service s.service", b"done\n"),
+            (b"b.service c.service", b"not found: c.service\n"),
+        ],
+    )
+}
+
+#[test]
 fn preset_looks_at_what_its_parts_look_at(rt: HostRuntime) -> Result<(), Fail> {
-    let alloc = rt.alloc();
-    let tree = tree(alloc, PRESET)?;
-    let units = units(alloc, b"b.service")?;
-    let scope = Scope::Run;
+    let preset = preset(rt.alloc(), Scope::Run, b"b.service")?;
     let text = b"/etc/systemd/system/b.service\n\
         /run/systemd/system/b.service\n\
         /usr/lib/systemd/system/b.service\n\
         /usr/local/lib/systemd/system/b.service\n\
         run b.service\n\
         presets\n";
-    assert_looks_at(&rt, alloc, &Preset { scope, units }, &tree, text)?;
-    Ok(())
+    assert_reads(&rt, rt.alloc(), preset, PRESET, text)
 }
 
-/// An enable of what is enabled, and then a disable.
-fn enable_then_disable(alloc: Global) -> Result<Then<Enable, Disable>, Fail> {
-    let scope = Scope::Etc;
-    let first = units(alloc, b"b.service")?;
-    let second = units(alloc, b"b.service")?;
-    Ok(Then {
-        first: Enable {
-            scope,
-            units: first,
-        },
-        second: Disable {
-            scope,
-            units: second,
-        },
-    })
-}
-
-fn assert_both(rt: &impl Abort, alloc: Global, tree: &Tree) -> Result<(), Fail> {
-    let both = enable_then_disable(alloc)?;
+/// An enable of what is enabled, and then a disable: each key of two commands is told once, and the change is that from the
+/// first tree.
+#[test]
+fn two_commands_look_at_the_keys_of_both(rt: HostRuntime) -> Result<(), Fail> {
+    let both = enable_then_disable(rt.alloc(), b"b.service")?;
     let text = b"done\n\
-        /etc/systemd/system/m.target.wants/b.service - /usr/lib/systemd/system/b.service\n";
-    assert_told(rt, alloc, &both, tree, text)?;
-    let text = b"/etc/systemd/system/b.service\n\
+        - /etc/systemd/system/m.target.wants/b.service -> /usr/lib/systemd/system/b.service\n";
+    let keys = b"/etc/systemd/system/b.service\n\
         /etc/systemd/system/m.target.wants/b.service\n\
         /run/systemd/system/b.service\n\
         /usr/lib/systemd/system/b.service\n\
         /usr/local/lib/systemd/system/b.service\n\
         etc b.service\n";
-    assert_looks_at(rt, alloc, &both, tree, text)?;
-    Ok(())
-}
-
-/// Each key of two commands is told once, and the change is that from the first tree.
-#[test]
-fn two_commands_look_at_the_keys_of_both(rt: HostRuntime) -> Result<(), Fail> {
-    let alloc = rt.alloc();
-    let tree = tree(alloc, LINKED)?;
-    assert_both(&rt, alloc, &tree)
+    assert_told_and_reads(&rt, rt.alloc(), both, LINKED, (text, keys))
 }

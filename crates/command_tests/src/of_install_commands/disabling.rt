@@ -1,12 +1,12 @@
 //! disable.
-use super::outcomes::assert_comes_to;
-use crate::trees::{assert_looks_at, tree, units};
-use footprint::Operation;
-use install_commands::{Check, Disable, Enable};
+use super::commands::{check, disable, enable};
+use crate::outcomes::assert_told;
+use crate::trees::{assert_other, assert_reads};
 use link_tree::Scope;
 use std::alloc::Global;
 use std::process::Abort;
 use std::test::Fail;
+use unit_name::NameError;
 
 /// `a` names `b`, both are enabled, `a` by hand too; `m` is masked in `/run`, and `gone` has links but no file.
 const TREE: &[u8] = b"unitadm-inventory 1\n\
@@ -28,85 +28,98 @@ fn assert_disabled(
     names: &[u8],
     text: &[u8],
 ) -> Result<(), Fail> {
-    let units = units(alloc, names)?;
-    assert_comes_to(rt, alloc, &Disable { scope, units }, TREE, text)
+    let disable = disable(alloc, scope, names)?;
+    assert_told(rt, alloc, disable, TREE, text)
 }
 
 #[test]
 fn all_links_of_the_units_go(rt: HostRuntime) -> Result<(), Fail> {
     let text = b"done\n  ! a.service: Also no.service: not found\n\
-        /etc/systemd/system/alias.service - /usr/lib/systemd/system/a.service\n\
-        /etc/systemd/system/m.target.wants/a.service - /usr/lib/systemd/system/a.service\n\
-        /etc/systemd/system/m.target.wants/b.service - /usr/lib/systemd/system/b.service\n\
-        /etc/systemd/system/n.target.wants/other.service - ../a.service\n";
+        - /etc/systemd/system/alias.service -> /usr/lib/systemd/system/a.service\n\
+        - /etc/systemd/system/m.target.wants/a.service -> /usr/lib/systemd/system/a.service\n\
+        - /etc/systemd/system/m.target.wants/b.service -> /usr/lib/systemd/system/b.service\n\
+        - /etc/systemd/system/n.target.wants/other.service -> ../a.service\n";
     assert_disabled(&rt, rt.alloc(), Scope::Etc, b"alias.service", text)
 }
 
 #[test]
 fn links_of_the_scope_alone_go(rt: HostRuntime) -> Result<(), Fail> {
     let text = b"done\n  ! a.service: Also no.service: not found\n\
-        /run/systemd/system/m.target.wants/a.service - /usr/lib/systemd/system/a.service\n";
+        - /run/systemd/system/m.target.wants/a.service -> /usr/lib/systemd/system/a.service\n";
     assert_disabled(&rt, rt.alloc(), Scope::Run, b"a.service", text)
 }
 
 #[test]
 fn names_without_a_unit_are_disabled_too(rt: HostRuntime) -> Result<(), Fail> {
     let text = b"done\n\
-        /etc/systemd/system/m.target.wants/gone.service - /usr/lib/systemd/system/gone.service\n";
+        - /etc/systemd/system/m.target.wants/gone.service -> /usr/lib/systemd/system/gone.service\n";
     let names = b"gone.service null.service nowhere.service";
     assert_disabled(&rt, rt.alloc(), Scope::Etc, names, text)
 }
 
 #[test]
 fn disable_looks_at_names_and_links(rt: HostRuntime) -> Result<(), Fail> {
-    let alloc = rt.alloc();
-    let tree = tree(alloc, TREE)?;
-    let units = units(alloc, b"b.service")?;
-    let scope = Scope::Etc;
+    let disable = disable(rt.alloc(), Scope::Etc, b"b.service")?;
     let text = b"/etc/systemd/system/b.service\n\
         /etc/systemd/system/m.target.wants/b.service\n\
         /run/systemd/system/b.service\n\
         /usr/lib/systemd/system/b.service\n\
         /usr/local/lib/systemd/system/b.service\n\
         etc b.service\n";
-    assert_looks_at(&rt, alloc, &Disable { scope, units }, &tree, text)?;
+    assert_reads(&rt, rt.alloc(), disable, TREE, text)
+}
+
+/// Enables of these scopes and units are told apart.
+fn assert_enables_apart(
+    rt: &impl Abort,
+    alloc: Global,
+    (one, names): (Scope, &[u8]),
+    (other, others): (Scope, &[u8]),
+) -> Result<(), NameError> {
+    let first = enable(alloc, one, names)?;
+    let second = enable(alloc, other, others)?;
+    assert_other(rt, first, second);
     Ok(())
 }
 
 #[test]
 fn commands_are_told_apart(rt: HostRuntime) -> Result<(), Fail> {
-    let alloc = rt.alloc();
-    let (etc, run) = (Scope::Etc, Scope::Run);
-    for (one, other, names) in [(etc, run, b"a.service"), (run, run, b"b.service")] {
-        let first = Enable {
-            scope: one,
-            units: units(alloc, b"a.service")?,
-        };
-        let second = Enable {
-            scope: other,
-            units: units(alloc, names)?,
-        };
-        assert!(&rt; !first.same(&second));
-    }
+    let one = (Scope::Run, b"a.service".as_slice());
+    assert_enables_apart(&rt, rt.alloc(), (Scope::Etc, b"a.service"), one)?;
+    assert_enables_apart(&rt, rt.alloc(), (Scope::Run, b"b.service"), one)?;
+    Ok(())
+}
+
+/// Disables of these scopes and units are told apart.
+fn assert_disables_apart(
+    rt: &impl Abort,
+    alloc: Global,
+    (one, names): (Scope, &[u8]),
+    (other, others): (Scope, &[u8]),
+) -> Result<(), NameError> {
+    let first = disable(alloc, one, names)?;
+    let second = disable(alloc, other, others)?;
+    assert_other(rt, first, second);
+    Ok(())
+}
+
+fn assert_checks_apart(
+    rt: &impl Abort,
+    alloc: Global,
+    one: &[u8],
+    other: &[u8],
+) -> Result<(), NameError> {
+    let first = check(alloc, one)?;
+    let second = check(alloc, other)?;
+    assert_other(rt, first, second);
     Ok(())
 }
 
 #[test]
 fn disables_are_told_apart(rt: HostRuntime) -> Result<(), Fail> {
-    let alloc = rt.alloc();
-    let (etc, run) = (Scope::Etc, Scope::Run);
-    for (one, other, names) in [(etc, run, b"a.service"), (run, run, b"b.service")] {
-        let first = Disable {
-            scope: one,
-            units: units(alloc, b"a.service")?,
-        };
-        let second = Disable {
-            scope: other,
-            units: units(alloc, names)?,
-        };
-        assert!(&rt; !first.same(&second));
-    }
-    let (first, second) = (units(alloc, b"a.service")?, units(alloc, b"b.service")?);
-    assert!(&rt; !Check { units: first }.same(&Check { units: second }));
+    let one = (Scope::Run, b"a.service".as_slice());
+    assert_disables_apart(&rt, rt.alloc(), (Scope::Etc, b"a.service"), one)?;
+    assert_disables_apart(&rt, rt.alloc(), (Scope::Run, b"b.service"), one)?;
+    assert_checks_apart(&rt, rt.alloc(), b"a.service", b"b.service")?;
     Ok(())
 }

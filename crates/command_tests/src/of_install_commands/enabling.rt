@@ -1,7 +1,7 @@
 //! enable, and the check before it.
-use super::outcomes::assert_comes_to;
-use crate::trees::{assert_looks_at, tree, units};
-use install_commands::{Check, Enable};
+use super::commands::{check, enable};
+use crate::outcomes::assert_told;
+use crate::trees::assert_reads;
 use link_tree::Scope;
 use std::alloc::Global;
 use std::process::Abort;
@@ -28,15 +28,15 @@ fn assert_enabled(
     names: &[u8],
     text: &[u8],
 ) -> Result<(), Fail> {
-    let units = units(alloc, names)?;
-    assert_comes_to(rt, alloc, &Enable { scope, units }, TREE, text)
+    let enable = enable(alloc, scope, names)?;
+    assert_told(rt, alloc, enable, TREE, text)
 }
 
 #[test]
 fn links_are_made_that_units_want(rt: HostRuntime) -> Result<(), Fail> {
     let text = b"done\n\
-        /etc/systemd/system/getty.target.wants/getty@tty1.service + /usr/lib/systemd/system/getty@.service\n\
-        /etc/systemd/system/multi-user.target.wants/ssh.service + /usr/lib/systemd/system/ssh.service\n";
+        + /etc/systemd/system/getty.target.wants/getty@tty1.service -> /usr/lib/systemd/system/getty@.service\n\
+        + /etc/systemd/system/multi-user.target.wants/ssh.service -> /usr/lib/systemd/system/ssh.service\n";
     let names = b"ssh.service getty@.service";
     assert_enabled(&rt, rt.alloc(), Scope::Etc, names, text)
 }
@@ -44,27 +44,37 @@ fn links_are_made_that_units_want(rt: HostRuntime) -> Result<(), Fail> {
 #[test]
 fn links_are_made_until_the_next_start(rt: HostRuntime) -> Result<(), Fail> {
     let text = b"done\n  ! app.service: Alias x.target: bad alias\n\
-        /run/systemd/system/m.target.wants/app.service + /opt/app.service\n";
+        + /run/systemd/system/m.target.wants/app.service -> /opt/app.service\n";
     assert_enabled(&rt, rt.alloc(), Scope::Run, b"app.service", text)
+}
+
+/// The names of units, and what a command comes to with them.
+type Row = (&'static [u8], &'static [u8]);
+
+fn assert_all_enabled(rt: &impl Abort, alloc: Global, rows: &[Row]) -> Result<(), Fail> {
+    for (names, text) in rows {
+        assert_enabled(rt, alloc, Scope::Etc, names, text)?;
+    }
+    Ok(())
 }
 
 #[test]
 fn enable_is_refused_by_the_first_that_applies(rt: HostRuntime) -> Result<(), Fail> {
-    let rows: [(&[u8], &[u8]); 6] = [
-        (b"ssh.service no.service", b"not found: no.service\n"),
-        (b"masked.service", b"masked: masked.service\n"),
-        (b"sshd.service no.service", b"alias of ssh.service\n"),
-        (
-            b"ssh.service web@.service",
-            b"needs instance: web@.service\n",
-        ),
-        (b"a.service web@.service", b"needs instance: web@.service\n"),
-        (b"b.service", b"clash: /etc/systemd/system/c.service\n"),
-    ];
-    for (names, text) in rows {
-        assert_enabled(&rt, rt.alloc(), Scope::Etc, names, text)?;
-    }
-    Ok(())
+    assert_all_enabled(
+        &rt,
+        rt.alloc(),
+        &[
+            (b"ssh.service no.service", b"not found: no.service\n"),
+            (b"masked.service", b"masked: masked.service\n"),
+            (b"sshd.service no.service", b"alias of ssh.service\n"),
+            (
+                b"ssh.service web@.service",
+                b"needs instance: web@.service\n",
+            ),
+            (b"a.service web@.service", b"needs instance: web@.service\n"),
+            (b"b.service", b"clash: /etc/systemd/system/c.service\n"),
+        ],
+    )
 }
 
 #[test]
@@ -74,39 +84,40 @@ fn what_stands_in_the_way_is_refused(rt: HostRuntime) -> Result<(), Fail> {
         L\t/etc/systemd/system/m.target.wants/a.service\t/b\n\
         F\t48\t/usr/lib/systemd/system/a.service\n[Install]\nWantedBy=m.target\nRequiredBy=m.target\n\n\
         end\n";
-    let alloc = rt.alloc();
-    let units = units(alloc, b"a.service")?;
-    let scope = Scope::Etc;
+    let enable = enable(rt.alloc(), Scope::Etc, b"a.service")?;
     let text = b"exists: /etc/systemd/system/m.target.requires/a.service\n";
-    assert_comes_to(&rt, alloc, &Enable { scope, units }, inventory, text)
+    assert_told(&rt, rt.alloc(), enable, inventory, text)
 }
 
 #[test]
 fn enable_looks_at_each_place(rt: HostRuntime) -> Result<(), Fail> {
-    let alloc = rt.alloc();
-    let tree = tree(alloc, TREE)?;
-    let units = units(alloc, b"ssh.service")?;
-    let scope = Scope::Etc;
+    let enable = enable(rt.alloc(), Scope::Etc, b"ssh.service")?;
     let text = b"/etc/systemd/system/multi-user.target.wants/ssh.service\n\
         /etc/systemd/system/ssh.service\n\
         /etc/systemd/system/sshd.service\n\
         /run/systemd/system/ssh.service\n\
         /usr/lib/systemd/system/ssh.service\n\
         /usr/local/lib/systemd/system/ssh.service\n";
-    assert_looks_at(&rt, alloc, &Enable { scope, units }, &tree, text)?;
+    assert_reads(&rt, rt.alloc(), enable, TREE, text)
+}
+
+fn assert_all_checked(rt: &impl Abort, alloc: Global, rows: &[Row]) -> Result<(), Fail> {
+    for (names, text) in rows {
+        let check = check(alloc, names)?;
+        assert_told(rt, alloc, check, TREE, text)?;
+    }
     Ok(())
 }
 
 #[test]
 fn aliases_fail_the_check(rt: HostRuntime) -> Result<(), Fail> {
-    let rows: [(&[u8], &[u8]); 3] = [
-        (b"ssh.service app.service", b"done\n"),
-        (b"ssh.service sshd.service", b"alias of ssh.service\n"),
-        (b"no.service sshd.service", b"not found: no.service\n"),
-    ];
-    for (names, text) in rows {
-        let units = units(rt.alloc(), names)?;
-        assert_comes_to(&rt, rt.alloc(), &Check { units }, TREE, text)?;
-    }
-    Ok(())
+    assert_all_checked(
+        &rt,
+        rt.alloc(),
+        &[
+            (b"ssh.service app.service", b"done\n"),
+            (b"ssh.service sshd.service", b"alias of ssh.service\n"),
+            (b"no.service sshd.service", b"not found: no.service\n"),
+        ],
+    )
 }

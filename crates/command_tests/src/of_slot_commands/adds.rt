@@ -1,6 +1,6 @@
 //! add-wants and add-requires.
-use super::outcomes::{assert_reads, assert_told};
-use crate::trees::{assert_other, name, units};
+use crate::outcomes::assert_told;
+use crate::trees::{assert_other, assert_reads, name, units};
 use link_tree::{Dependency, Scope};
 use slot_commands::AddTo;
 use std::alloc::Global;
@@ -48,7 +48,7 @@ fn add(
     })
 }
 
-fn wants(alloc: Global, target: &[u8], list: &[u8]) -> Result<AddTo, NameError> {
+pub(super) fn wants(alloc: Global, target: &[u8], list: &[u8]) -> Result<AddTo, NameError> {
     add(alloc, (Scope::Etc, Dependency::Wants), target, list)
 }
 
@@ -61,7 +61,17 @@ fn assert_added(
     text: &[u8],
 ) -> Result<(), Fail> {
     let add = wants(alloc, target, list)?;
-    assert_told(rt, alloc, &add, TREE, text)
+    assert_told(rt, alloc, add, TREE, text)
+}
+
+/// The target, the units, and what `add-wants` comes to with them.
+type Row = (&'static [u8], &'static [u8], &'static [u8]);
+
+fn assert_rows(rt: &impl Abort, alloc: Global, rows: &[Row]) -> Result<(), Fail> {
+    for (target, list, text) in rows {
+        assert_added(rt, alloc, target, list, text)?;
+    }
+    Ok(())
 }
 
 #[test]
@@ -88,7 +98,7 @@ fn units_are_required_by_the_target(rt: HostRuntime) -> Result<(), Fail> {
     let text = b"done\n\
         + /run/systemd/system/graphical.target.requires/getty@tty1.service -> /usr/lib/systemd/system/getty@.service\n\
         + /run/systemd/system/graphical.target.requires/ssh.service -> /usr/lib/systemd/system/ssh.service\n";
-    assert_told(&rt, rt.alloc(), &add, TREE, text)
+    assert_told(&rt, rt.alloc(), add, TREE, text)
 }
 
 #[test]
@@ -107,49 +117,74 @@ fn templates_are_listed_by_their_own_names(rt: HostRuntime) -> Result<(), Fail> 
 
 #[test]
 fn add_is_refused_by_its_target(rt: HostRuntime) -> Result<(), Fail> {
-    let alloc = rt.alloc();
-    let unit = b"ssh.service";
-    let text = b"not found: none.target\n";
-    assert_added(&rt, alloc, b"none.target", b"none.service", text)?;
-    assert_added(&rt, alloc, b"m.target", unit, b"masked: m.target\n")?;
-    let text = b"dangling: /etc/systemd/system/d.target\n";
-    assert_added(&rt, alloc, b"d.target", unit, text)
+    assert_rows(
+        &rt,
+        rt.alloc(),
+        &[
+            (b"none.target", b"none.service", b"not found: none.target\n"),
+            (b"m.target", b"ssh.service", b"masked: m.target\n"),
+            (
+                b"d.target",
+                b"ssh.service",
+                b"dangling: /etc/systemd/system/d.target\n",
+            ),
+        ],
+    )
 }
 
 #[test]
 fn add_is_refused_by_a_unit(rt: HostRuntime) -> Result<(), Fail> {
-    let alloc = rt.alloc();
-    let target = b"default.target";
-    let text = b"not found: none.service\n";
-    assert_added(&rt, alloc, target, b"ssh.service none.service", text)?;
-    let text = b"masked: m.target\n";
-    assert_added(&rt, alloc, target, b"ssh.service m.target", text)?;
-    let text = b"dangling: /etc/systemd/system/d.target\n";
-    assert_added(&rt, alloc, target, b"ssh.service d.target", text)?;
-    let text = b"exists: /etc/systemd/system/c.target.wants/ssh.service\n";
-    assert_added(&rt, alloc, b"c.target", b"getty@.service ssh.service", text)
+    assert_rows(
+        &rt,
+        rt.alloc(),
+        &[
+            (
+                b"default.target",
+                b"ssh.service none.service",
+                b"not found: none.service\n",
+            ),
+            (
+                b"default.target",
+                b"ssh.service m.target",
+                b"masked: m.target\n",
+            ),
+            (
+                b"default.target",
+                b"ssh.service d.target",
+                b"dangling: /etc/systemd/system/d.target\n",
+            ),
+            (
+                b"c.target",
+                b"getty@.service ssh.service",
+                b"exists: /etc/systemd/system/c.target.wants/ssh.service\n",
+            ),
+        ],
+    )
 }
 
 #[test]
 fn add_wants_an_instance(rt: HostRuntime) -> Result<(), Fail> {
-    let alloc = rt.alloc();
-    let bare = b"needs instance: bare@.service\n";
-    let bad = b"needs instance: bad@.service\n";
-    assert_added(
+    assert_rows(
         &rt,
-        alloc,
-        b"default.target",
-        b"ssh.service bare@.service",
-        bare,
-    )?;
-    assert_added(
-        &rt,
-        alloc,
-        b"default.target",
-        b"ssh.service bad@.service",
-        bad,
-    )?;
-    assert_added(&rt, alloc, b"t@a.target", b"bare@.service", bare)
+        rt.alloc(),
+        &[
+            (
+                b"default.target",
+                b"ssh.service bare@.service",
+                b"needs instance: bare@.service\n",
+            ),
+            (
+                b"default.target",
+                b"ssh.service bad@.service",
+                b"needs instance: bad@.service\n",
+            ),
+            (
+                b"t@a.target",
+                b"bare@.service",
+                b"needs instance: bare@.service\n",
+            ),
+        ],
+    )
 }
 
 #[test]
@@ -165,42 +200,48 @@ fn add_reads_what_is_found_and_its_link(rt: HostRuntime) -> Result<(), Fail> {
         /usr/lib/systemd/system/ssh.service\n\
         /usr/local/lib/systemd/system/default.target\n\
         /usr/local/lib/systemd/system/ssh.service\n";
-    assert_reads(&rt, rt.alloc(), &add, DEFAULT, text)
+    assert_reads(&rt, rt.alloc(), add, DEFAULT, text)
 }
 
 #[test]
 fn a_refused_add_has_read_up_to_the_refusal(rt: HostRuntime) -> Result<(), Fail> {
     let add = wants(rt.alloc(), b"d.target", b"ssh.service")?;
     let text = b"/etc/systemd/system/d.target\n/etc/systemd/system/none\n";
-    assert_reads(&rt, rt.alloc(), &add, TREE, text)
+    assert_reads(&rt, rt.alloc(), add, TREE, text)
 }
 
-/// An addition is told apart from this one.
-fn assert_apart(
-    rt: &impl Abort,
-    alloc: Global,
-    one: &AddTo,
-    (scope, dependency): (Scope, Dependency),
-    (target, list): (&[u8], &[u8]),
-) -> Result<(), NameError> {
-    let other = add(alloc, (scope, dependency), target, list)?;
-    assert_other(rt, one, &other);
-    Ok(())
-}
+/// An addition of this scope, dependency, target and units.
+type Addition = (Scope, Dependency, &'static [u8], &'static [u8]);
 
 /// Each has one thing in which it is other than `add-wants a.target a.service`.
-const OTHERS: [(Scope, Dependency, &[u8], &[u8]); 4] = [
+const OTHERS: [Addition; 4] = [
     (Scope::Etc, Dependency::Wants, b"b.target", b"a.service"),
     (Scope::Etc, Dependency::Requires, b"a.target", b"a.service"),
     (Scope::Run, Dependency::Wants, b"a.target", b"a.service"),
     (Scope::Etc, Dependency::Wants, b"a.target", b"b.service"),
 ];
 
+/// An addition is told apart from `add-wants a.target a.service`.
+fn assert_apart(
+    rt: &impl Abort,
+    alloc: Global,
+    (scope, dependency, target, list): Addition,
+) -> Result<(), NameError> {
+    let one = wants(alloc, b"a.target", b"a.service")?;
+    let other = add(alloc, (scope, dependency), target, list)?;
+    assert_other(rt, one, other);
+    Ok(())
+}
+
+fn assert_all_apart(rt: &impl Abort, alloc: Global, others: &[Addition]) -> Result<(), NameError> {
+    for other in others {
+        assert_apart(rt, alloc, *other)?;
+    }
+    Ok(())
+}
+
 #[test]
 fn adds_are_told_apart(rt: HostRuntime) -> Result<(), Fail> {
-    let one = wants(rt.alloc(), b"a.target", b"a.service")?;
-    for (scope, dependency, target, list) in OTHERS {
-        assert_apart(&rt, rt.alloc(), &one, (scope, dependency), (target, list))?;
-    }
+    assert_all_apart(&rt, rt.alloc(), &OTHERS)?;
     Ok(())
 }

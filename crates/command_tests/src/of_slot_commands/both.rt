@@ -1,13 +1,17 @@
 //! Two commands, one after the other.
-use super::outcomes::{assert_reads, assert_told, paths};
-use crate::trees::{assert_other, name, path, units};
+use super::adds::wants;
+use super::hands::place_file;
+use super::links::link;
+use super::masks::{mask, unmask};
+use crate::outcomes::{assert_told, assert_told_and_reads};
+use crate::trees::assert_other;
 use footprint::Then;
-use link_tree::{Dependency, Entry, FileError, Scope};
+use link_tree::Scope;
 use slot_commands::{AddTo, LinkUnits, Mask, PlaceEntry, Unmask};
 use std::alloc::Global;
 use std::process::Abort;
 use std::test::Fail;
-use unit_name::{NameError, ample};
+use unit_name::NameError;
 
 const EMPTY: &[u8] = b"unitadm-inventory 1\nend\n";
 
@@ -17,53 +21,10 @@ const TREE: &[u8] = b"unitadm-inventory 1\n\
     F\t1\t/usr/lib/systemd/system/multi-user.target\nm\n\
     end\n";
 
-fn mask(alloc: Global, names: &[u8]) -> Result<Mask, NameError> {
-    Ok(Mask {
-        scope: Scope::Etc,
-        units: units(alloc, names)?,
-    })
-}
-
-fn unmask(alloc: Global, names: &[u8]) -> Result<Unmask, NameError> {
-    Ok(Unmask {
-        scope: Scope::Etc,
-        units: units(alloc, names)?,
-    })
-}
-
-fn file(alloc: Global) -> Result<Entry, FileError> {
-    ample!(Entry::file(alloc, b""), FileError::OutOfMemory)
-}
-
-fn place(alloc: Global, slot: &[u8]) -> Result<PlaceEntry, Fail> {
-    let path = path(alloc, slot)?;
-    let entry = file(alloc)?;
-    Ok(PlaceEntry { path, entry })
-}
-
-fn link(alloc: Global, files: &[u8]) -> Result<LinkUnits, Fail> {
-    let paths = paths(alloc, files)?;
-    Ok(LinkUnits {
-        scope: Scope::Etc,
-        paths,
-    })
-}
-
-fn add(alloc: Global, target: &[u8], names: &[u8]) -> Result<AddTo, NameError> {
-    let target = name(alloc, target)?;
-    let units = units(alloc, names)?;
-    Ok(AddTo {
-        scope: Scope::Etc,
-        dependency: Dependency::Wants,
-        target,
-        units,
-    })
-}
-
 /// A file is linked, and then wanted by a target.
 fn link_and_add(alloc: Global) -> Result<Then<LinkUnits, AddTo>, Fail> {
-    let first = link(alloc, b"/opt/app.service")?;
-    let second = add(alloc, b"multi-user.target", b"app.service")?;
+    let first = link(alloc, Scope::Etc, b"/opt/app.service")?;
+    let second = wants(alloc, b"multi-user.target", b"app.service")?;
     Ok(Then { first, second })
 }
 
@@ -72,8 +33,8 @@ fn mask_and_unmask(
     masked: &[u8],
     unmasked: &[u8],
 ) -> Result<Then<Mask, Unmask>, NameError> {
-    let first = mask(alloc, masked)?;
-    let second = unmask(alloc, unmasked)?;
+    let first = mask(alloc, Scope::Etc, masked)?;
+    let second = unmask(alloc, Scope::Etc, unmasked)?;
     Ok(Then { first, second })
 }
 
@@ -82,23 +43,22 @@ fn mask_and_place(
     masked: &[u8],
     slot: &[u8],
 ) -> Result<Then<Mask, PlaceEntry>, Fail> {
-    let first = mask(alloc, masked)?;
-    let second = place(alloc, slot)?;
+    let first = mask(alloc, Scope::Etc, masked)?;
+    let second = place_file(alloc, slot, b"")?;
     Ok(Then { first, second })
 }
 
 fn masks(alloc: Global, one: &[u8], other: &[u8]) -> Result<Then<Mask, Mask>, NameError> {
-    let first = mask(alloc, one)?;
-    let second = mask(alloc, other)?;
+    let first = mask(alloc, Scope::Etc, one)?;
+    let second = mask(alloc, Scope::Etc, other)?;
     Ok(Then { first, second })
 }
 
 #[test]
 fn what_is_masked_and_unmasked_is_no_change(rt: HostRuntime) -> Result<(), Fail> {
     let both = mask_and_unmask(rt.alloc(), b"x.service", b"x.service")?;
-    assert_told(&rt, rt.alloc(), &both, EMPTY, b"done\n")?;
-    let text = b"/etc/systemd/system/x.service\n";
-    assert_reads(&rt, rt.alloc(), &both, EMPTY, text)
+    let keys = b"/etc/systemd/system/x.service\n";
+    assert_told_and_reads(&rt, rt.alloc(), both, EMPTY, (b"done\n", keys))
 }
 
 #[test]
@@ -107,15 +67,14 @@ fn what_was_linked_is_wanted(rt: HostRuntime) -> Result<(), Fail> {
     let text = b"done\n\
         + /etc/systemd/system/app.service -> /opt/app.service\n\
         + /etc/systemd/system/multi-user.target.wants/app.service -> /opt/app.service\n";
-    assert_told(&rt, rt.alloc(), &both, TREE, text)?;
-    let text = b"/etc/systemd/system/app.service\n\
+    let keys = b"/etc/systemd/system/app.service\n\
         /etc/systemd/system/multi-user.target\n\
         /etc/systemd/system/multi-user.target.wants/app.service\n\
         /opt/app.service\n\
         /run/systemd/system/multi-user.target\n\
         /usr/lib/systemd/system/multi-user.target\n\
         /usr/local/lib/systemd/system/multi-user.target\n";
-    assert_reads(&rt, rt.alloc(), &both, TREE, text)
+    assert_told_and_reads(&rt, rt.alloc(), both, TREE, (text, keys))
 }
 
 #[test]
@@ -123,9 +82,8 @@ fn a_refused_second_drops_the_changes_of_the_first(rt: HostRuntime) -> Result<()
     let slot = b"/etc/systemd/system/y.service";
     let both = mask_and_place(rt.alloc(), b"x.service y.service", slot)?;
     let text = b"exists: /etc/systemd/system/y.service\n";
-    assert_told(&rt, rt.alloc(), &both, EMPTY, text)?;
-    let text = b"/etc/systemd/system/x.service\n/etc/systemd/system/y.service\n";
-    assert_reads(&rt, rt.alloc(), &both, EMPTY, text)
+    let keys = b"/etc/systemd/system/x.service\n/etc/systemd/system/y.service\n";
+    assert_told_and_reads(&rt, rt.alloc(), both, EMPTY, (text, keys))
 }
 
 #[test]
@@ -133,9 +91,8 @@ fn nothing_runs_after_a_refused_first(rt: HostRuntime) -> Result<(), Fail> {
     let tree = b"unitadm-inventory 1\nL\t/etc/systemd/system/x.service\t/a\nend\n";
     let both = masks(rt.alloc(), b"x.service", b"y.service")?;
     let text = b"exists: /etc/systemd/system/x.service\n";
-    assert_told(&rt, rt.alloc(), &both, tree, text)?;
-    let text = b"/etc/systemd/system/x.service\n";
-    assert_reads(&rt, rt.alloc(), &both, tree, text)
+    let keys = b"/etc/systemd/system/x.service\n";
+    assert_told_and_reads(&rt, rt.alloc(), both, tree, (text, keys))
 }
 
 #[test]
@@ -145,25 +102,20 @@ fn a_second_undoes_a_part_of_the_first(rt: HostRuntime) -> Result<(), Fail> {
     let text = b"done\n\
         + /etc/systemd/system/a.service -> /dev/null\n\
         - /etc/systemd/system/c.service -> /dev/null\n";
-    assert_told(&rt, rt.alloc(), &both, tree, text)
+    assert_told(&rt, rt.alloc(), both, tree, text)
 }
 
-fn assert_apart(
-    rt: &impl Abort,
-    alloc: Global,
-    both: &Then<Mask, Mask>,
-    one: &[u8],
-    other: &[u8],
-) -> Result<(), NameError> {
+/// These masks are told apart from those of `a` and then `b`.
+fn assert_apart(rt: &impl Abort, alloc: Global, one: &[u8], other: &[u8]) -> Result<(), NameError> {
+    let both = masks(alloc, b"a.service", b"b.service")?;
     let others = masks(alloc, one, other)?;
-    assert_other(rt, both, &others);
+    assert_other(rt, both, others);
     Ok(())
 }
 
 #[test]
 fn two_in_one_are_told_apart(rt: HostRuntime) -> Result<(), Fail> {
-    let both = masks(rt.alloc(), b"a.service", b"b.service")?;
-    assert_apart(&rt, rt.alloc(), &both, b"a.service", b"c.service")?;
-    assert_apart(&rt, rt.alloc(), &both, b"b.service", b"b.service")?;
+    assert_apart(&rt, rt.alloc(), b"a.service", b"c.service")?;
+    assert_apart(&rt, rt.alloc(), b"b.service", b"b.service")?;
     Ok(())
 }

@@ -1,6 +1,6 @@
 //! set-default.
-use super::outcomes::{assert_reads, assert_told};
-use crate::trees::{assert_other, name};
+use crate::outcomes::assert_told;
+use crate::trees::{assert_other, assert_reads, name};
 use slot_commands::SetDefault;
 use std::alloc::{AllocError, Global};
 use std::process::Abort;
@@ -53,33 +53,56 @@ fn assert_set(
     unit: &[u8],
     text: &[u8],
 ) -> Result<(), Fail> {
-    let inventory = inventory_with(alloc, default)?;
     let command = set_default(alloc, unit)?;
-    assert_told(rt, alloc, &command, &inventory, text)
+    let inventory = inventory_with(alloc, default)?;
+    assert_told(rt, alloc, command, &inventory, text)
+}
+
+/// The default target that stands there, the unit, and what `set-default` comes to.
+type Row = (&'static [u8], &'static [u8], &'static [u8]);
+
+fn assert_rows(rt: &impl Abort, alloc: Global, rows: &[Row]) -> Result<(), Fail> {
+    for (default, unit, text) in rows {
+        assert_set(rt, alloc, default, unit, text)?;
+    }
+    Ok(())
 }
 
 /// What `set-default` reads, where there is no default target.
 fn assert_read(rt: &impl Abort, alloc: Global, unit: &[u8], text: &[u8]) -> Result<(), Fail> {
-    let inventory = inventory_with(alloc, b"")?;
     let command = set_default(alloc, unit)?;
-    assert_reads(rt, alloc, &command, &inventory, text)
+    let inventory = inventory_with(alloc, b"")?;
+    assert_reads(rt, alloc, command, &inventory, text)
 }
 
 #[test]
 fn the_default_is_set(rt: HostRuntime) -> Result<(), Fail> {
-    let alloc = rt.alloc();
-    let unit = b"runlevel3.target";
-    let text = b"done\n\
-        + /etc/systemd/system/default.target -> /usr/lib/systemd/system/multi-user.target\n";
-    assert_set(&rt, alloc, b"", unit, text)?;
-    let text = b"done\n\
-        - /etc/systemd/system/default.target -> /dev/null\n\
-        + /etc/systemd/system/default.target -> /usr/lib/systemd/system/multi-user.target\n";
-    assert_set(&rt, alloc, NULL, unit, text)?;
-    let text = b"done\n\
-        - /etc/systemd/system/default.target -> nowhere\n\
-        + /etc/systemd/system/default.target -> /usr/lib/systemd/system/multi-user.target\n";
-    assert_set(&rt, alloc, NOWHERE, unit, text)
+    assert_rows(
+        &rt,
+        rt.alloc(),
+        &[
+            (
+                b"",
+                b"runlevel3.target",
+                b"done\n\
+                + /etc/systemd/system/default.target -> /usr/lib/systemd/system/multi-user.target\n",
+            ),
+            (
+                NULL,
+                b"runlevel3.target",
+                b"done\n\
+                - /etc/systemd/system/default.target -> /dev/null\n\
+                + /etc/systemd/system/default.target -> /usr/lib/systemd/system/multi-user.target\n",
+            ),
+            (
+                NOWHERE,
+                b"runlevel3.target",
+                b"done\n\
+                - /etc/systemd/system/default.target -> nowhere\n\
+                + /etc/systemd/system/default.target -> /usr/lib/systemd/system/multi-user.target\n",
+            ),
+        ],
+    )
 }
 
 #[test]
@@ -90,46 +113,45 @@ fn what_leads_there_stays(rt: HostRuntime) -> Result<(), Fail> {
 
 #[test]
 fn set_default_is_refused_by_what_is_found(rt: HostRuntime) -> Result<(), Fail> {
-    let alloc = rt.alloc();
-    let text = b"not found: none.service\n";
-    assert_set(&rt, alloc, FILE, b"none.service", text)?;
-    assert_set(&rt, alloc, FILE, b"m.service", b"masked: m.service\n")?;
-    let text = b"dangling: /etc/systemd/system/d.target\n";
-    assert_set(&rt, alloc, FILE, b"d.target", text)
+    assert_rows(
+        &rt,
+        rt.alloc(),
+        &[
+            (FILE, b"none.service", b"not found: none.service\n"),
+            (FILE, b"m.service", b"masked: m.service\n"),
+            (
+                FILE,
+                b"d.target",
+                b"dangling: /etc/systemd/system/d.target\n",
+            ),
+        ],
+    )
 }
 
 #[test]
 fn set_default_wants_a_target(rt: HostRuntime) -> Result<(), Fail> {
-    let alloc = rt.alloc();
-    assert_set(
+    assert_rows(
         &rt,
-        alloc,
-        FILE,
-        b"sshd.service",
-        b"bad type: sshd.service\n",
-    )?;
-    assert_set(
-        &rt,
-        alloc,
-        FILE,
-        b"ssh@.service",
-        b"bad type: ssh@.service\n",
-    )?;
-    assert_set(
-        &rt,
-        alloc,
-        FILE,
-        b"u@.target",
-        b"needs instance: t@.target\n",
+        rt.alloc(),
+        &[
+            (FILE, b"sshd.service", b"bad type: sshd.service\n"),
+            (FILE, b"ssh@.service", b"bad type: ssh@.service\n"),
+            (FILE, b"u@.target", b"needs instance: t@.target\n"),
+        ],
     )
 }
 
 #[test]
 fn a_file_is_in_the_way_of_the_default(rt: HostRuntime) -> Result<(), Fail> {
-    let alloc = rt.alloc();
     let text = b"exists: /etc/systemd/system/default.target\n";
-    assert_set(&rt, alloc, FILE, b"multi-user.target", text)?;
-    assert_set(&rt, alloc, FILE, b"default.target", text)
+    assert_rows(
+        &rt,
+        rt.alloc(),
+        &[
+            (FILE, b"multi-user.target", text),
+            (FILE, b"default.target", text),
+        ],
+    )
 }
 
 #[test]
@@ -153,6 +175,6 @@ fn a_refused_default_is_not_read(rt: HostRuntime) -> Result<(), Fail> {
 fn defaults_are_told_apart(rt: HostRuntime) -> Result<(), Fail> {
     let one = set_default(rt.alloc(), b"a.target")?;
     let other = set_default(rt.alloc(), b"b.target")?;
-    assert_other(&rt, &one, &other);
+    assert_other(&rt, one, other);
     Ok(())
 }

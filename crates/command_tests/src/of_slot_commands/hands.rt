@@ -1,6 +1,6 @@
 //! Entries that are placed and removed by hand.
-use super::outcomes::{assert_reads, assert_told};
-use crate::trees::{assert_other, path};
+use crate::outcomes::assert_told;
+use crate::trees::{assert_other, assert_reads, path};
 use link_tree::{Entry, FileError, PathError, TargetError};
 use slot_commands::{PlaceEntry, RemoveEntry};
 use std::alloc::Global;
@@ -22,7 +22,7 @@ fn link(alloc: Global, target: &[u8]) -> Result<Entry, TargetError> {
     ample!(Entry::link(alloc, target), TargetError::OutOfMemory)
 }
 
-fn place_file(alloc: Global, text: &[u8], bytes: &[u8]) -> Result<PlaceEntry, Fail> {
+pub(super) fn place_file(alloc: Global, text: &[u8], bytes: &[u8]) -> Result<PlaceEntry, Fail> {
     let path = path(alloc, text)?;
     let entry = file(alloc, bytes)?;
     Ok(PlaceEntry { path, entry })
@@ -41,12 +41,12 @@ fn remove(alloc: Global, text: &[u8]) -> Result<RemoveEntry, PathError> {
 
 fn assert_linked(rt: &impl Abort, alloc: Global, at: &[u8], text: &[u8]) -> Result<(), Fail> {
     let place = place_link(alloc, at, b"y")?;
-    assert_told(rt, alloc, &place, TREE, text)
+    assert_told(rt, alloc, place, TREE, text)
 }
 
 fn assert_filed(rt: &impl Abort, alloc: Global, at: &[u8], text: &[u8]) -> Result<(), Fail> {
     let place = place_file(alloc, at, b"n")?;
-    assert_told(rt, alloc, &place, TREE, text)
+    assert_told(rt, alloc, place, TREE, text)
 }
 
 #[test]
@@ -71,7 +71,7 @@ fn entries_are_placed_in_empty_slots_alone(rt: HostRuntime) -> Result<(), Fail> 
 
 fn assert_removed(rt: &impl Abort, alloc: Global, at: &[u8], text: &[u8]) -> Result<(), Fail> {
     let remove = remove(alloc, at)?;
-    assert_told(rt, alloc, &remove, TREE, text)
+    assert_told(rt, alloc, remove, TREE, text)
 }
 
 #[test]
@@ -92,20 +92,12 @@ fn entries_are_removed_from_slots_alone(rt: HostRuntime) -> Result<(), Fail> {
     assert_removed(&rt, alloc, b"/usr/lib/systemd/system/none.service", absent)
 }
 
-fn assert_place_reads(rt: &impl Abort, alloc: Global, at: &[u8], text: &[u8]) -> Result<(), Fail> {
-    let place = place_link(alloc, at, b"y")?;
-    assert_reads(rt, alloc, &place, TREE, text)
-}
-
-fn assert_remove_reads(rt: &impl Abort, alloc: Global, at: &[u8], text: &[u8]) -> Result<(), Fail> {
-    let remove = remove(alloc, at)?;
-    assert_reads(rt, alloc, &remove, TREE, text)
-}
-
 /// What placing a link reads, and removing what stands there.
 fn assert_read(rt: &impl Abort, alloc: Global, at: &[u8], text: &[u8]) -> Result<(), Fail> {
-    assert_place_reads(rt, alloc, at, text)?;
-    assert_remove_reads(rt, alloc, at, text)
+    let place = place_link(alloc, at, b"y")?;
+    assert_reads(rt, alloc, place, TREE, text)?;
+    let remove = remove(alloc, at)?;
+    assert_reads(rt, alloc, remove, TREE, text)
 }
 
 #[test]
@@ -116,39 +108,25 @@ fn slots_alone_are_read(rt: HostRuntime) -> Result<(), Fail> {
     assert_read(&rt, alloc, b"/opt/x", b"")
 }
 
-fn assert_other_link(
-    rt: &impl Abort,
-    alloc: Global,
-    one: &PlaceEntry,
-    at: &[u8],
-) -> Result<(), Fail> {
-    let other = place_link(alloc, at, b"a")?;
-    assert_other(rt, one, &other);
-    Ok(())
-}
-
-fn assert_other_file(
-    rt: &impl Abort,
-    alloc: Global,
-    one: &PlaceEntry,
-    at: &[u8],
-) -> Result<(), Fail> {
-    let other = place_file(alloc, at, b"a")?;
-    assert_other(rt, one, &other);
+/// Placing an entry is told apart from placing a link to `a` at `/x`.
+fn assert_other_place(rt: &impl Abort, alloc: Global, other: PlaceEntry) -> Result<(), Fail> {
+    let one = place_link(alloc, b"/x", b"a")?;
+    assert_other(rt, one, other);
     Ok(())
 }
 
 #[test]
 fn places_are_told_apart(rt: HostRuntime) -> Result<(), Fail> {
-    let one = place_link(rt.alloc(), b"/x", b"a")?;
-    assert_other_link(&rt, rt.alloc(), &one, b"/y")?;
-    assert_other_file(&rt, rt.alloc(), &one, b"/x")
+    let link = place_link(rt.alloc(), b"/y", b"a")?;
+    assert_other_place(&rt, rt.alloc(), link)?;
+    let file = place_file(rt.alloc(), b"/x", b"a")?;
+    assert_other_place(&rt, rt.alloc(), file)
 }
 
 #[test]
 fn removals_are_told_apart(rt: HostRuntime) -> Result<(), Fail> {
     let one = remove(rt.alloc(), b"/x")?;
     let other = remove(rt.alloc(), b"/y")?;
-    assert_other(&rt, &one, &other);
+    assert_other(&rt, one, other);
     Ok(())
 }

@@ -1,11 +1,12 @@
 //! link.
-use super::outcomes::{assert_reads, assert_told, paths};
-use crate::trees::assert_other;
-use link_tree::{PathError, Scope};
-use slot_commands::LinkUnits;
+use crate::outcomes::assert_told;
+use crate::trees::{assert_other, assert_reads};
+use link_tree::{PathError, Scope, TreePath};
+use slot_commands::{LinkUnits, Paths};
 use std::alloc::Global;
 use std::process::Abort;
 use std::test::Fail;
+use unit_name::ample;
 
 /// `l` leads to `app`, `b` is linked in another spelling, and a file is in the way of `x`.
 const TREE: &[u8] = b"unitadm-inventory 1\n\
@@ -25,7 +26,21 @@ const TREE: &[u8] = b"unitadm-inventory 1\n\
     F\t1\t/usr/lib/systemd/system/ssh.service\ns\n\
     end\n";
 
-fn link(alloc: Global, scope: Scope, texts: &[u8]) -> Result<LinkUnits, PathError> {
+fn push_path(alloc: Global, paths: &mut Paths, text: &[u8]) -> Result<(), PathError> {
+    let path = TreePath::parse(alloc, text)?;
+    Ok(paths.push(path)?)
+}
+
+/// Paths that have spaces between them.
+fn paths(alloc: Global, texts: &[u8]) -> Result<Paths, PathError> {
+    let mut paths = Paths::none(alloc);
+    for text in texts.split(|b| *b == b' ') {
+        ample!(push_path(alloc, &mut paths, text), PathError::OutOfMemory)?;
+    }
+    Ok(paths)
+}
+
+pub(super) fn link(alloc: Global, scope: Scope, texts: &[u8]) -> Result<LinkUnits, PathError> {
     let paths = paths(alloc, texts)?;
     Ok(LinkUnits { scope, paths })
 }
@@ -38,20 +53,26 @@ fn assert_linked_in(
     text: &[u8],
 ) -> Result<(), Fail> {
     let link = link(alloc, scope, texts)?;
-    assert_told(rt, alloc, &link, TREE, text)
+    assert_told(rt, alloc, link, TREE, text)
 }
 
-/// What `link` comes to without `--runtime`.
-fn assert_linked(rt: &impl Abort, alloc: Global, texts: &[u8], text: &[u8]) -> Result<(), Fail> {
-    assert_linked_in(rt, alloc, Scope::Etc, texts, text)
+/// The paths, and what `link` comes to with them, without `--runtime`.
+type Row = (&'static [u8], &'static [u8]);
+
+fn assert_rows(rt: &impl Abort, alloc: Global, rows: &[Row]) -> Result<(), Fail> {
+    for (texts, text) in rows {
+        assert_linked_in(rt, alloc, Scope::Etc, texts, text)?;
+    }
+    Ok(())
 }
 
 #[test]
 fn files_are_linked_under_their_names(rt: HostRuntime) -> Result<(), Fail> {
     let alloc = rt.alloc();
-    assert_linked(
+    assert_linked_in(
         &rt,
         alloc,
+        Scope::Etc,
         b"/opt/l.service /opt/app.service /opt/b.service /usr/lib/systemd/system/ssh.service",
         b"done\n\
         + /etc/systemd/system/app.service -> /opt/app.service\n\
@@ -70,38 +91,61 @@ fn files_are_linked_under_their_names(rt: HostRuntime) -> Result<(), Fail> {
 
 #[test]
 fn each_path_is_linked_on_the_tree_of_the_earlier_ones(rt: HostRuntime) -> Result<(), Fail> {
-    let alloc = rt.alloc();
     let once = b"done\n+ /etc/systemd/system/app.service -> /opt/app.service\n";
-    assert_linked(&rt, alloc, b"/opt/app.service /opt/app.service", once)?;
-    let own = b"/opt/app.service /etc/systemd/system/app.service";
-    assert_linked(&rt, alloc, own, once)?;
-    let other = b"/opt/app.service /srv/app.service";
-    let exists = b"exists: /etc/systemd/system/app.service\n";
-    assert_linked(&rt, alloc, other, exists)
+    assert_rows(
+        &rt,
+        rt.alloc(),
+        &[
+            (b"/opt/app.service /opt/app.service", once),
+            (b"/opt/app.service /etc/systemd/system/app.service", once),
+            (
+                b"/opt/app.service /srv/app.service",
+                b"exists: /etc/systemd/system/app.service\n",
+            ),
+        ],
+    )
 }
 
 #[test]
 fn link_is_refused_by_where_the_path_leads(rt: HostRuntime) -> Result<(), Fail> {
-    let alloc = rt.alloc();
-    let none = b"/opt/app.service /opt/none.service";
-    assert_linked(&rt, alloc, none, b"not found: /opt/none.service\n")?;
-    let null = b"/opt/app.service /opt/null.service";
-    assert_linked(&rt, alloc, null, b"masked: /opt/null.service\n")?;
-    let empty = b"/opt/app.service /opt/empty.service";
-    assert_linked(&rt, alloc, empty, b"masked: /opt/empty.service\n")?;
-    let dangling = b"/opt/app.service /opt/d.service";
-    assert_linked(&rt, alloc, dangling, b"dangling: /opt/e.service\n")
+    assert_rows(
+        &rt,
+        rt.alloc(),
+        &[
+            (
+                b"/opt/app.service /opt/none.service",
+                b"not found: /opt/none.service\n",
+            ),
+            (
+                b"/opt/app.service /opt/null.service",
+                b"masked: /opt/null.service\n",
+            ),
+            (
+                b"/opt/app.service /opt/empty.service",
+                b"masked: /opt/empty.service\n",
+            ),
+            (
+                b"/opt/app.service /opt/d.service",
+                b"dangling: /opt/e.service\n",
+            ),
+        ],
+    )
 }
 
 #[test]
 fn link_is_refused_by_its_name_and_slot(rt: HostRuntime) -> Result<(), Fail> {
-    let alloc = rt.alloc();
-    let readme = b"/opt/app.service /opt/readme";
-    assert_linked(&rt, alloc, readme, b"bad type: /opt/readme\n")?;
-    let nulled = b"/opt/app.service /opt/nulled";
-    assert_linked(&rt, alloc, nulled, b"masked: /opt/nulled\n")?;
-    let exists = b"exists: /etc/systemd/system/x.service\n";
-    assert_linked(&rt, alloc, b"/opt/app.service /opt/x.service", exists)
+    assert_rows(
+        &rt,
+        rt.alloc(),
+        &[
+            (b"/opt/app.service /opt/readme", b"bad type: /opt/readme\n"),
+            (b"/opt/app.service /opt/nulled", b"masked: /opt/nulled\n"),
+            (
+                b"/opt/app.service /opt/x.service",
+                b"exists: /etc/systemd/system/x.service\n",
+            ),
+        ],
+    )
 }
 
 #[test]
@@ -118,25 +162,25 @@ fn link_reads_up_to_the_refused_path(rt: HostRuntime) -> Result<(), Fail> {
         /opt/l.service\n\
         /opt/none\n\
         /usr/lib/systemd/system/ssh.service\n";
-    assert_reads(&rt, rt.alloc(), &refused, TREE, text)
+    assert_reads(&rt, rt.alloc(), refused, TREE, text)
 }
 
+/// A link is told apart from that of `/opt/a.service` without `--runtime`.
 fn assert_apart(
     rt: &impl Abort,
     alloc: Global,
-    one: &LinkUnits,
     scope: Scope,
     texts: &[u8],
 ) -> Result<(), PathError> {
+    let one = link(alloc, Scope::Etc, b"/opt/a.service")?;
     let other = link(alloc, scope, texts)?;
-    assert_other(rt, one, &other);
+    assert_other(rt, one, other);
     Ok(())
 }
 
 #[test]
 fn links_are_told_apart(rt: HostRuntime) -> Result<(), Fail> {
-    let one = link(rt.alloc(), Scope::Etc, b"/opt/a.service")?;
-    assert_apart(&rt, rt.alloc(), &one, Scope::Etc, b"/opt/b.service")?;
-    assert_apart(&rt, rt.alloc(), &one, Scope::Run, b"/opt/a.service")?;
+    assert_apart(&rt, rt.alloc(), Scope::Etc, b"/opt/b.service")?;
+    assert_apart(&rt, rt.alloc(), Scope::Run, b"/opt/a.service")?;
     Ok(())
 }

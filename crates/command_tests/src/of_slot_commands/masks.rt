@@ -1,7 +1,7 @@
 //! mask and unmask.
-use super::outcomes::{assert_reads, assert_told};
-use crate::trees::{assert_other, name, path, tree, units};
-use footprint::{Key, Operation, Outcome, Reading, agrees, touches};
+use crate::outcomes::assert_told;
+use crate::trees::{assert_other, assert_reads, name, path, push_key, tree, units};
+use footprint::{Key, Operation, Outcome, agrees, touches};
 use link_tree::{Change, Scope, Tree};
 use slot_commands::{Mask, Unmask};
 use std::alloc::{AllocError, Global};
@@ -20,12 +20,12 @@ const TREE: &[u8] = b"unitadm-inventory 1\n\
     L\t/run/systemd/system/r.service\t/dev/null\n\
     end\n";
 
-fn mask(alloc: Global, scope: Scope, names: &[u8]) -> Result<Mask, NameError> {
+pub(super) fn mask(alloc: Global, scope: Scope, names: &[u8]) -> Result<Mask, NameError> {
     let units = units(alloc, names)?;
     Ok(Mask { scope, units })
 }
 
-fn unmask(alloc: Global, scope: Scope, names: &[u8]) -> Result<Unmask, NameError> {
+pub(super) fn unmask(alloc: Global, scope: Scope, names: &[u8]) -> Result<Unmask, NameError> {
     let units = units(alloc, names)?;
     Ok(Unmask { scope, units })
 }
@@ -33,7 +33,7 @@ fn unmask(alloc: Global, scope: Scope, names: &[u8]) -> Result<Unmask, NameError
 /// What `mask` comes to without `--runtime`.
 fn assert_masked(rt: &impl Abort, alloc: Global, names: &[u8], text: &[u8]) -> Result<(), Fail> {
     let mask = mask(alloc, Scope::Etc, names)?;
-    assert_told(rt, alloc, &mask, TREE, text)
+    assert_told(rt, alloc, mask, TREE, text)
 }
 
 #[test]
@@ -49,7 +49,7 @@ fn mask_fills_empty_slots(rt: HostRuntime) -> Result<(), Fail> {
 fn mask_fills_a_slot_until_the_next_start(rt: HostRuntime) -> Result<(), Fail> {
     let mask = mask(rt.alloc(), Scope::Run, b"x.service")?;
     let text = b"done\n+ /run/systemd/system/x.service -> /dev/null\n";
-    assert_told(&rt, rt.alloc(), &mask, TREE, text)
+    assert_told(&rt, rt.alloc(), mask, TREE, text)
 }
 
 #[test]
@@ -71,61 +71,61 @@ fn unmask_takes_masks_away(rt: HostRuntime) -> Result<(), Fail> {
         - /etc/systemd/system/a.service -> /dev/null\n\
         - /etc/systemd/system/d.service -> ../../../dev/./null\n\
         - /etc/systemd/system/e.service file \n";
-    assert_told(&rt, rt.alloc(), &unmask, TREE, text)
+    assert_told(&rt, rt.alloc(), unmask, TREE, text)
 }
 
 #[test]
 fn mask_reads_up_to_the_refused_slot(rt: HostRuntime) -> Result<(), Fail> {
     let mask = mask(rt.alloc(), Scope::Etc, b"z.service x.service b.service")?;
     let text = b"/etc/systemd/system/x.service\n/etc/systemd/system/z.service\n";
-    assert_reads(&rt, rt.alloc(), &mask, TREE, text)
+    assert_reads(&rt, rt.alloc(), mask, TREE, text)
 }
 
 #[test]
 fn unmask_reads_each_slot_once(rt: HostRuntime) -> Result<(), Fail> {
     let unmask = unmask(rt.alloc(), Scope::Run, b"r.service b.service r.service")?;
     let text = b"/run/systemd/system/b.service\n/run/systemd/system/r.service\n";
-    assert_reads(&rt, rt.alloc(), &unmask, TREE, text)
+    assert_reads(&rt, rt.alloc(), unmask, TREE, text)
 }
 
+/// A mask is told apart from that of `x` without `--runtime`.
 fn assert_masks_apart(
     rt: &impl Abort,
     alloc: Global,
-    one: &Mask,
     scope: Scope,
     names: &[u8],
 ) -> Result<(), NameError> {
+    let one = mask(alloc, Scope::Etc, b"x.service")?;
     let other = mask(alloc, scope, names)?;
-    assert_other(rt, one, &other);
+    assert_other(rt, one, other);
     Ok(())
 }
 
 #[test]
 fn masks_are_told_apart(rt: HostRuntime) -> Result<(), Fail> {
-    let one = mask(rt.alloc(), Scope::Etc, b"x.service")?;
-    assert_masks_apart(&rt, rt.alloc(), &one, Scope::Etc, b"y.service")?;
-    assert_masks_apart(&rt, rt.alloc(), &one, Scope::Run, b"x.service")?;
+    assert_masks_apart(&rt, rt.alloc(), Scope::Etc, b"y.service")?;
+    assert_masks_apart(&rt, rt.alloc(), Scope::Run, b"x.service")?;
     Ok(())
 }
 
+/// An unmask is told apart from that of `x` without `--runtime`.
 fn assert_unmasks_apart(
     rt: &impl Abort,
     alloc: Global,
-    one: &Unmask,
     scope: Scope,
     names: &[u8],
 ) -> Result<(), NameError> {
+    let one = unmask(alloc, Scope::Etc, b"x.service")?;
     let other = unmask(alloc, scope, names)?;
-    assert_other(rt, one, &other);
+    assert_other(rt, one, other);
     Ok(())
 }
 
 #[test]
 fn unmasks_are_told_apart(rt: HostRuntime) -> Result<(), Fail> {
-    let one = unmask(rt.alloc(), Scope::Etc, b"x.service")?;
     let names = b"x.service y.service";
-    assert_unmasks_apart(&rt, rt.alloc(), &one, Scope::Etc, names)?;
-    assert_unmasks_apart(&rt, rt.alloc(), &one, Scope::Run, b"x.service")?;
+    assert_unmasks_apart(&rt, rt.alloc(), Scope::Etc, names)?;
+    assert_unmasks_apart(&rt, rt.alloc(), Scope::Run, b"x.service")?;
     Ok(())
 }
 
@@ -134,67 +134,94 @@ fn run_on_empty(alloc: Global, mask: &Mask) -> Result<Outcome, AllocError> {
     mask.run(alloc, &tree)
 }
 
-/// The mask of `x` on the empty tree.
-fn masked(alloc: Global) -> Result<Outcome, Fail> {
-    let mask = mask(alloc, Scope::Etc, b"x.service")?;
-    Ok(ample!(run_on_empty(alloc, &mask), AllocError)?)
-}
-
-/// The slot of `x` is read as other than it is in a tree.
-fn assert_other_slot(rt: &impl Abort, tree: &Tree, reading: &Reading) {
-    match agrees(tree, reading) {
-        Err(Key::Cell(path)) => {
-            assert_eq!(rt; path.text(), b"/etc/systemd/system/x.service".as_slice());
-        }
-        _ => assert!(rt; false),
+/// The key that a tree doesn't agree on, with a line end, or no text.
+fn text_of_other(alloc: Global, agreed: Result<(), &Key>) -> Result<Vec<u8>, AllocError> {
+    let mut text = Vec::new(alloc);
+    if let Err(key) = agreed {
+        push_key(&mut text, key)?;
     }
+    Ok(text)
 }
 
-fn assert_own(rt: &impl Abort, alloc: Global, reading: &Reading) -> Result<(), AllocError> {
-    let tree = ample!(Tree::empty(alloc), AllocError)?;
-    assert!(rt; agrees(&tree, reading).is_ok());
+/// The key that a mask on the empty tree has read as other than it is in this one, with a line end, or no text.
+fn other_key(alloc: Global, mask: &Mask, tree: &Tree) -> Result<Vec<u8>, AllocError> {
+    let outcome = run_on_empty(alloc, mask)?;
+    text_of_other(alloc, agrees(tree, &outcome.reading))
+}
+
+fn assert_other_key(
+    rt: &impl Abort,
+    alloc: Global,
+    mask: &Mask,
+    tree: &Tree,
+    text: &[u8],
+) -> Result<(), Fail> {
+    let other = ample!(other_key(alloc, mask, tree), AllocError)?;
+    assert_eq!(rt; other.as_slice(), text);
     Ok(())
 }
 
-fn assert_other_than(
+/// What the mask of `x` on the empty tree has read is other in the tree of an inventory at this key.
+fn assert_other_in(
     rt: &impl Abort,
     alloc: Global,
     inventory: &[u8],
-    reading: &Reading,
+    text: &[u8],
 ) -> Result<(), Fail> {
     let tree = tree(alloc, inventory)?;
-    assert_other_slot(rt, &tree, reading);
-    Ok(())
+    let mask = mask(alloc, Scope::Etc, b"x.service")?;
+    assert_other_key(rt, alloc, &mask, &tree, text)
 }
 
 #[test]
 fn a_mask_reads_its_slot_which_is_other_then(rt: HostRuntime) -> Result<(), Fail> {
-    let outcome = masked(rt.alloc())?;
-    assert_own(&rt, rt.alloc(), &outcome.reading)?;
+    let alloc = rt.alloc();
+    assert_other_in(&rt, alloc, b"unitadm-inventory 1\nend\n", b"")?;
     let after = b"unitadm-inventory 1\nL\t/etc/systemd/system/x.service\t/dev/null\nend\n";
-    assert_other_than(&rt, rt.alloc(), after, &outcome.reading)
+    assert_other_in(&rt, alloc, after, b"/etc/systemd/system/x.service\n")
 }
 
-fn assert_cell_alone(rt: &impl Abort, change: &Change, cell: &Key, marked: &Key) {
-    assert!(rt; touches(change, cell));
-    assert!(rt; !touches(change, marked));
-    assert!(rt; !touches(change, &Key::Presets));
-    assert!(rt; !touches(change, &Key::Links));
+/// Whether there is one change, of the first key, and of none of the others.
+fn touches_alone(changes: &[Change], cell: &Key, marked: &Key) -> bool {
+    let [change] = changes else {
+        return false;
+    };
+    touches(change, cell)
+        && !touches(change, marked)
+        && !touches(change, &Key::Presets)
+        && !touches(change, &Key::Links)
 }
 
-fn assert_touched(rt: &impl Abort, alloc: Global, change: &Change) -> Result<(), Fail> {
+fn mask_touches_alone(
+    alloc: Global,
+    mask: &Mask,
+    cell: &Key,
+    marked: &Key,
+) -> Result<bool, AllocError> {
+    let outcome = run_on_empty(alloc, mask)?;
+    Ok(touches_alone(outcome.changes.as_slice(), cell, marked))
+}
+
+fn assert_touches_alone(
+    rt: &impl Abort,
+    alloc: Global,
+    mask: &Mask,
+    cell: &Key,
+    marked: &Key,
+) -> Result<(), Fail> {
+    let alone = ample!(mask_touches_alone(alloc, mask, cell, marked), AllocError)?;
+    assert!(rt; alone);
+    Ok(())
+}
+
+fn assert_touched(rt: &impl Abort, alloc: Global, mask: &Mask) -> Result<(), Fail> {
     let cell = Key::Cell(path(alloc, b"/etc/systemd/system/x.service")?);
     let marked = Key::Marked(Scope::Etc, name(alloc, b"x.service")?);
-    assert_cell_alone(rt, change, &cell, &marked);
-    Ok(())
+    assert_touches_alone(rt, alloc, mask, &cell, &marked)
 }
 
 #[test]
 fn a_mask_touches_its_slot_alone(rt: HostRuntime) -> Result<(), Fail> {
-    let outcome = masked(rt.alloc())?;
-    assert_eq!(rt; outcome.changes.as_slice().len(), 1);
-    for change in outcome.changes.as_slice() {
-        assert_touched(&rt, rt.alloc(), change)?;
-    }
-    Ok(())
+    let mask = mask(rt.alloc(), Scope::Etc, b"x.service")?;
+    assert_touched(&rt, rt.alloc(), &mask)
 }

@@ -1,13 +1,13 @@
 //! What is answered, and what is looked at.
-use super::answers::answer_of;
-use crate::trees::{assert_looks_at, tree};
-use footprint::{Answer, Operation, Refusal, StateWord, Subject};
+use crate::outcomes::{assert_answered, assert_question_copied};
+use crate::trees::{assert_reads, name, tree};
+use footprint::{Answer, Operation, StateWord};
 use link_tree::Tree;
 use states::{GetDefault, IsEnabled};
 use std::alloc::{AllocError, Global};
 use std::process::Abort;
 use std::test::Fail;
-use unit_name::{NameError, UnitName, ample};
+use unit_name::{NameError, ample};
 
 /// A unit for each word, and one that has a link of its own name.
 const STATES: &[u8] = b"unitadm-inventory 1\n\
@@ -29,8 +29,8 @@ const STATES: &[u8] = b"unitadm-inventory 1\n\
     F\t28\t/usr/lib/systemd/system/l.service\n[Install]\nWantedBy=m.target\n\n\
     end\n";
 
-fn is_enabled(alloc: Global, name: &[u8]) -> Result<IsEnabled, NameError> {
-    let unit = ample!(UnitName::parse(alloc, name), NameError::OutOfMemory)?;
+fn is_enabled(alloc: Global, text: &[u8]) -> Result<IsEnabled, NameError> {
+    let unit = name(alloc, text)?;
     Ok(IsEnabled { unit })
 }
 
@@ -42,10 +42,21 @@ fn word_of(answer: &Answer) -> Option<StateWord> {
     }
 }
 
-fn word(alloc: Global, tree: &Tree, name: &[u8]) -> Result<Option<StateWord>, Fail> {
-    let question = is_enabled(alloc, name)?;
-    let answer = answer_of(alloc, tree, &question)?;
-    Ok(word_of(&answer))
+fn word(alloc: Global, question: &IsEnabled, tree: &Tree) -> Result<Option<StateWord>, AllocError> {
+    let outcome = question.run(alloc, tree)?;
+    Ok(word_of(&outcome.answer))
+}
+
+fn assert_word(
+    rt: &impl Abort,
+    alloc: Global,
+    question: &IsEnabled,
+    tree: &Tree,
+    expected: StateWord,
+) -> Result<(), Fail> {
+    let found = ample!(word(alloc, question, tree), AllocError)?;
+    assert_eq!(rt; found, Some(expected));
+    Ok(())
 }
 
 /// A name, and the word that holds first.
@@ -67,10 +78,19 @@ const WORDS: [Row; 13] = [
     (b"l.service", StateWord::Disabled),
 ];
 
-fn assert_words(rt: &impl Abort, alloc: Global, tree: &Tree, rows: &[Row]) -> Result<(), Fail> {
-    for (name, expected) in rows {
-        let found = word(alloc, tree, name)?;
-        assert_eq!(rt; found, Some(*expected));
+fn assert_row(
+    rt: &impl Abort,
+    alloc: Global,
+    tree: &Tree,
+    (name, expected): Row,
+) -> Result<(), Fail> {
+    let question = is_enabled(alloc, name)?;
+    assert_word(rt, alloc, &question, tree, expected)
+}
+
+fn assert_rows(rt: &impl Abort, alloc: Global, tree: &Tree, rows: &[Row]) -> Result<(), Fail> {
+    for row in rows {
+        assert_row(rt, alloc, tree, *row)?;
     }
     Ok(())
 }
@@ -78,14 +98,12 @@ fn assert_words(rt: &impl Abort, alloc: Global, tree: &Tree, rows: &[Row]) -> Re
 #[test]
 fn the_first_word_that_holds_is_told(rt: HostRuntime) -> Result<(), Fail> {
     let tree = tree(rt.alloc(), STATES)?;
-    assert_words(&rt, rt.alloc(), &tree, &WORDS)
+    assert_rows(&rt, rt.alloc(), &tree, &WORDS)
 }
 
 fn assert_looks(rt: &impl Abort, alloc: Global, name: &[u8], text: &[u8]) -> Result<(), Fail> {
-    let tree = tree(alloc, STATES)?;
     let question = is_enabled(alloc, name)?;
-    assert_looks_at(rt, alloc, &question, &tree, text)?;
-    Ok(())
+    assert_reads(rt, alloc, question, STATES, text)
 }
 
 #[test]
@@ -98,18 +116,11 @@ fn links_are_looked_at_of_units_alone(rt: HostRuntime) -> Result<(), Fail> {
     assert_looks(&rt, rt.alloc(), b"h.service", text)
 }
 
-/// A copy is the same, and a question; another name is not the same.
-fn assert_copied(rt: &impl Abort, one: &IsEnabled, other: &IsEnabled) -> Result<(), AllocError> {
-    let copy = ample!(one.copy(), AllocError)?;
-    assert!(rt; copy.same(one) && !copy.same(other) && copy.asks_only());
-    Ok(())
-}
-
 #[test]
 fn questions_are_copied(rt: HostRuntime) -> Result<(), Fail> {
     let one = is_enabled(rt.alloc(), b"a.service")?;
     let other = is_enabled(rt.alloc(), b"b.service")?;
-    assert_copied(&rt, &one, &other)?;
+    assert_question_copied(&rt, one, other)?;
     let default = ample!(GetDefault {}.copy(), AllocError)?;
     assert!(rt; default.same(&GetDefault {}) && default.asks_only());
     Ok(())
@@ -125,31 +136,18 @@ const MASKED: &[u8] = b"unitadm-inventory 1\n\
     L\t/etc/systemd/system/default.target\t/dev/null\n\
     end\n";
 
-/// The name that is answered, or what is refused.
-fn told(answer: &Answer) -> &[u8] {
-    match answer {
-        Answer::Name(name) => name.text(),
-        Answer::Refused(Refusal::NotFound(Subject::Unit(name))) => name.text(),
-        Answer::Refused(Refusal::Masked(Subject::Unit(_))) => b"masked",
-        _ => b"none of these",
-    }
-}
-
 fn assert_default(
     rt: &impl Abort,
     alloc: Global,
     inventory: &[u8],
     text: &[u8],
 ) -> Result<(), Fail> {
-    let tree = tree(alloc, inventory)?;
-    let answer = answer_of(alloc, &tree, &GetDefault {})?;
-    assert_eq!(rt; told(&answer), text);
-    Ok(())
+    assert_answered(rt, alloc, GetDefault {}, inventory, text)
 }
 
 #[test]
 fn the_default_target_has_a_name_of_its_own(rt: HostRuntime) -> Result<(), Fail> {
-    assert_default(&rt, rt.alloc(), DEFAULT, b"m.target")?;
-    assert_default(&rt, rt.alloc(), MASKED, b"masked")?;
-    assert_default(&rt, rt.alloc(), STATES, b"default.target")
+    assert_default(&rt, rt.alloc(), DEFAULT, b"is m.target\n")?;
+    assert_default(&rt, rt.alloc(), MASKED, b"masked: default.target\n")?;
+    assert_default(&rt, rt.alloc(), STATES, b"not found: default.target\n")
 }

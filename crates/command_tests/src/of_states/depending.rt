@@ -1,54 +1,41 @@
 //! Dependencies, either way.
-use super::answers::answer_of;
-use crate::trees::{assert_looks_at, tree};
-use footprint::{Answer, Operation};
+use crate::outcomes::{assert_comes_to, assert_question_copied};
+use crate::trees::{assert_reads, name, tree};
 use link_tree::Tree;
 use states::Dependencies;
-use std::alloc::{AllocError, Global};
+use std::alloc::Global;
 use std::process::Abort;
 use std::test::Fail;
-use unit_name::{NameError, UnitName, ample};
+use unit_name::NameError;
 
-fn question(alloc: Global, reverse: bool, name: &[u8]) -> Result<Dependencies, NameError> {
-    let unit = ample!(UnitName::parse(alloc, name), NameError::OutOfMemory)?;
+fn question(alloc: Global, reverse: bool, text: &[u8]) -> Result<Dependencies, NameError> {
+    let unit = name(alloc, text)?;
     Ok(Dependencies { unit, reverse })
-}
-
-/// The names of an answer, a line each.
-fn lines(alloc: Global, answer: &Answer) -> Result<Vec<u8>, AllocError> {
-    let mut text = Vec::new(alloc);
-    if let Answer::Names(names) = answer {
-        for name in names.as_slice() {
-            text.extend_from_slice(name.text())?;
-            text.push(b'\n')?;
-        }
-    }
-    Ok(text)
-}
-
-fn assert_names(
-    rt: &impl Abort,
-    alloc: Global,
-    tree: &Tree,
-    question: &Dependencies,
-    expected: &[u8],
-) -> Result<(), Fail> {
-    let answer = answer_of(alloc, tree, question)?;
-    let text = ample!(lines(alloc, &answer), AllocError)?;
-    assert_eq!(rt; text.as_slice(), expected);
-    Ok(())
 }
 
 /// Whether the question is reverse, the name, and what is answered.
 type Row = (bool, &'static [u8], &'static [u8]);
 
-fn assert_rows(rt: &impl Abort, alloc: Global, inventory: &[u8], rows: &[Row]) -> Result<(), Fail> {
-    let tree = tree(alloc, inventory)?;
-    for (reverse, name, expected) in rows {
-        let question = question(alloc, *reverse, name)?;
-        assert_names(rt, alloc, &tree, &question, expected)?;
+fn assert_row(
+    rt: &impl Abort,
+    alloc: Global,
+    tree: &Tree,
+    (reverse, name, expected): Row,
+) -> Result<(), Fail> {
+    let question = question(alloc, reverse, name)?;
+    assert_comes_to(rt, alloc, &question, tree, expected)
+}
+
+fn assert_each(rt: &impl Abort, alloc: Global, tree: &Tree, rows: &[Row]) -> Result<(), Fail> {
+    for row in rows {
+        assert_row(rt, alloc, tree, *row)?;
     }
     Ok(())
+}
+
+fn assert_rows(rt: &impl Abort, alloc: Global, inventory: &[u8], rows: &[Row]) -> Result<(), Fail> {
+    let tree = tree(alloc, inventory)?;
+    assert_each(rt, alloc, &tree, rows)
 }
 
 /// Links in all four directories, one to `/dev/null`, a file, a unit that depends on itself, and a circle.
@@ -146,21 +133,20 @@ fn a_name_that_is_too_long_is_none(rt: HostRuntime) -> Result<(), Fail> {
 
 #[test]
 fn dependency_links_are_looked_at(rt: HostRuntime) -> Result<(), Fail> {
-    let alloc = rt.alloc();
-    let tree = tree(alloc, PLAIN)?;
-    let question = question(alloc, false, b"a.target")?;
-    assert_looks_at(&rt, alloc, &question, &tree, b"links\n")?;
-    Ok(())
+    let question = question(rt.alloc(), false, b"a.target")?;
+    assert_reads(&rt, rt.alloc(), question, PLAIN, b"links\n")
+}
+
+/// The question what depends on `a.service` is copied, and told apart from another.
+fn assert_apart(rt: &impl Abort, alloc: Global, reverse: bool, name: &[u8]) -> Result<(), Fail> {
+    let one = question(alloc, true, b"a.service")?;
+    let other = question(alloc, reverse, name)?;
+    assert_question_copied(rt, one, other)
 }
 
 /// A copy is the same, and a question; another unit or the other way is not the same.
 #[test]
 fn dependencies_are_copied(rt: HostRuntime) -> Result<(), Fail> {
-    let one = question(rt.alloc(), true, b"a.service")?;
-    let other = question(rt.alloc(), true, b"b.service")?;
-    let forward = question(rt.alloc(), false, b"a.service")?;
-    let copy = ample!(one.copy(), AllocError)?;
-    assert!(rt; copy.same(&one) && !copy.same(&other) && !copy.same(&forward));
-    assert!(rt; copy.asks_only());
-    Ok(())
+    assert_apart(&rt, rt.alloc(), true, b"b.service")?;
+    assert_apart(&rt, rt.alloc(), false, b"a.service")
 }
