@@ -1,7 +1,7 @@
 //! Links that are made all at once, and what is looked at.
-use super::values::{key, name, path, push_key, text_of, tree};
+use super::values::{name, path, push_key, read_as, tree};
 use footprint::{Answer, Edit, Key, Keys, Notices, Outcome, Refusal, WantedLinks};
-use link_tree::{Entry, Scope, Slot, Tree, TreePath};
+use link_tree::{Change, Entry, Scope, Slot, Tree, TreePath};
 use load_path::{End, Found};
 use std::alloc::{AllocError, Global};
 use std::process::Abort;
@@ -20,18 +20,42 @@ a
 end
 ";
 
-fn slot(alloc: Global, text: &[u8]) -> Result<TreePath, Fail> {
-    let slot = path(alloc, text)?;
-    Ok(slot)
+/// Wants a link at a slot by `+`, and else nothing there; whether the path is a slot.
+fn put(
+    wanted: &mut WantedLinks,
+    sign: u8,
+    at: &TreePath,
+    file: &TreePath,
+) -> Result<bool, AllocError> {
+    if Slot::of(at).is_none() {
+        return Ok(false);
+    }
+    match sign {
+        b'+' => wanted.link(at.copy()?, file.copy()?)?,
+        _ => wanted.clear(at.copy()?)?,
+    }
+    Ok(true)
 }
 
-/// Wants links, each to the file of its name: `+a` a link for `a`, `-a` nothing there.
-fn wanted(alloc: Global, words: &[u8]) -> Result<WantedLinks, Fail> {
-    let mut wanted = WantedLinks::none(alloc);
-    for word in words.split(|b| *b == b' ') {
-        want(alloc, &mut wanted, word)?;
-    }
-    Ok(wanted)
+fn put_again(
+    wanted: &mut WantedLinks,
+    sign: u8,
+    at: &TreePath,
+    file: &TreePath,
+) -> Result<bool, AllocError> {
+    ample!(put(wanted, sign, at, file), AllocError)
+}
+
+fn want_at(
+    alloc: Global,
+    wanted: &mut WantedLinks,
+    sign: u8,
+    at: &[u8],
+    file: &[u8],
+) -> Result<bool, Fail> {
+    let at = path(alloc, at)?;
+    let file = path(alloc, file)?;
+    Ok(put_again(wanted, sign, &at, &file)?)
 }
 
 fn want(alloc: Global, wanted: &mut WantedLinks, word: &[u8]) -> Result<(), Fail> {
@@ -42,24 +66,20 @@ fn want(alloc: Global, wanted: &mut WantedLinks, word: &[u8]) -> Result<(), Fail
     at[20] = *letter;
     let mut file = *b"/usr/lib/systemd/system/x.service";
     file[24] = *letter;
-    let at = slot(alloc, &at)?;
-    let file = path(alloc, &file)?;
-    if Slot::of(&at).is_none() {
-        return Err("no slot".into());
+    if want_at(alloc, wanted, *sign, &at, &file)? {
+        Ok(())
+    } else {
+        Err("no slot".into())
     }
-    ample!(
-        {
-            let at = ample!(at.copy(), AllocError)?;
-            let file = ample!(file.copy(), AllocError)?;
-            if *sign == b'+' {
-                wanted.link(at, file)
-            } else {
-                wanted.clear(at)
-            }
-        },
-        AllocError
-    )?;
-    Ok(())
+}
+
+/// Wants links, each to the file of its name: `+a` a link for `a`, `-a` nothing there.
+fn wanted(alloc: Global, words: &[u8]) -> Result<WantedLinks, Fail> {
+    let mut wanted = WantedLinks::none(alloc);
+    for word in words.split(|b| *b == b' ') {
+        want(alloc, &mut wanted, word)?;
+    }
+    Ok(wanted)
 }
 
 fn made(alloc: Global, tree: &Tree, wanted: &WantedLinks) -> Result<Outcome, AllocError> {
@@ -76,6 +96,13 @@ fn push_entry(text: &mut Vec<u8>, sign: &[u8], entry: &Option<Entry>) -> Result<
     Ok(())
 }
 
+fn push_change(text: &mut Vec<u8>, change: &Change) -> Result<(), AllocError> {
+    text.extend_from_slice(change.path.file_name())?;
+    push_entry(text, b" - ", &change.before)?;
+    push_entry(text, b" + ", &change.after)?;
+    Ok(text.push(b'\n')?)
+}
+
 /// The letters of the paths that were changed, with what stood there and what stands there, or the refusal, and then the letters of
 /// the cells that were read.
 fn push_outcome(text: &mut Vec<u8>, outcome: &Outcome) -> Result<(), AllocError> {
@@ -84,10 +111,7 @@ fn push_outcome(text: &mut Vec<u8>, outcome: &Outcome) -> Result<(), AllocError>
         text.extend_from_slice(path.file_name())?;
     }
     for change in outcome.changes.as_slice() {
-        text.extend_from_slice(change.path.file_name())?;
-        push_entry(text, b" - ", &change.before)?;
-        push_entry(text, b" + ", &change.after)?;
-        text.push(b'\n')?;
+        push_change(text, change)?;
     }
     text.push(b'|')?;
     for observation in outcome.reading.as_slice() {
@@ -99,17 +123,30 @@ fn push_outcome(text: &mut Vec<u8>, outcome: &Outcome) -> Result<(), AllocError>
     Ok(())
 }
 
-fn told(alloc: Global, tree: &Tree, wanted: &WantedLinks) -> Result<Vec<u8>, AllocError> {
-    let outcome = made(alloc, tree, wanted)?;
+fn text_of(alloc: Global, outcome: &Outcome) -> Result<Vec<u8>, AllocError> {
     let mut text = Vec::new(alloc);
-    push_outcome(&mut text, &outcome)?;
+    push_outcome(&mut text, outcome)?;
     Ok(text)
 }
 
-fn assert_made(rt: &impl Abort, alloc: Global, words: &[u8], text: &[u8]) -> Result<(), Fail> {
+fn told(alloc: Global, tree: &Tree, wanted: &WantedLinks) -> Result<Vec<u8>, AllocError> {
+    let outcome = made(alloc, tree, wanted)?;
+    text_of(alloc, &outcome)
+}
+
+fn told_again(alloc: Global, tree: &Tree, wanted: &WantedLinks) -> Result<Vec<u8>, AllocError> {
+    ample!(told(alloc, tree, wanted), AllocError)
+}
+
+/// What is told of the links that are wanted by these words.
+fn told_of(alloc: Global, words: &[u8]) -> Result<Vec<u8>, Fail> {
     let tree = tree(alloc, TREE)?;
     let wanted = wanted(alloc, words)?;
-    let told = ample!(told(alloc, &tree, &wanted), AllocError)?;
+    Ok(told_again(alloc, &tree, &wanted)?)
+}
+
+fn assert_made(rt: &impl Abort, alloc: Global, words: &[u8], text: &[u8]) -> Result<(), Fail> {
+    let told = told_of(alloc, words)?;
     assert_eq!(rt; told.as_slice(), text);
     Ok(())
 }
@@ -149,44 +186,28 @@ fn what_is_wanted_last_counts(rt: HostRuntime) -> Result<(), Fail> {
     assert_made(&rt, alloc, b"-c +c", b"exists c.service| c.service")
 }
 
-/// Looks a unit up, follows a link, and gathers what a key sees; the keys of all that, a line for each.
-fn looked(alloc: Global, tree: &Tree) -> Result<Vec<u8>, Fail> {
-    let unit = name(alloc, b"a.service")?;
-    let link = path(alloc, b"/etc/systemd/system/c.service")?;
-    let seen = key(alloc, b"links")?;
-    let mut text = Vec::new(alloc);
-    ample!(
-        {
-            text.clear();
-            push_looked(alloc, tree, &unit, &link, &seen, &mut text)
-        },
-        AllocError
-    )?;
-    Ok(text)
+fn push_line(text: &mut Vec<u8>, line: &[u8]) -> Result<(), AllocError> {
+    text.extend_from_slice(line)?;
+    Ok(text.push(b'\n')?)
 }
 
-fn push_looked(
-    alloc: Global,
-    tree: &Tree,
-    unit: &UnitName,
-    link: &TreePath,
-    seen: &Key,
-    text: &mut Vec<u8>,
-) -> Result<(), AllocError> {
-    let mut keys = Keys::none(alloc);
-    if let Found::Unit { file, .. } = keys.find(alloc, tree, unit)? {
-        text.extend_from_slice(file.text())?;
-        text.push(b'\n')?;
+/// The file of a unit.
+fn push_found(text: &mut Vec<u8>, found: &Found) -> Result<(), AllocError> {
+    match found {
+        Found::Unit { file, .. } => push_line(text, file.text()),
+        _ => Ok(()),
     }
-    if let End::Dangling(link) = keys.follow(alloc, tree, link)? {
-        text.extend_from_slice(link.text())?;
-        text.push(b'\n')?;
+}
+
+/// The link that leads nowhere.
+fn push_end(text: &mut Vec<u8>, end: &End) -> Result<(), AllocError> {
+    match end {
+        End::Dangling(link) => push_line(text, link.text()),
+        _ => Ok(()),
     }
-    if let Key::Links = seen {
-        let entries = keys.entries(alloc, tree, Key::Links)?;
-        text.push(if entries.len() == 1 { b'1' } else { b'?' })?;
-        text.push(b'\n')?;
-    }
+}
+
+fn push_keys(text: &mut Vec<u8>, keys: &Keys) -> Result<(), AllocError> {
     for key in keys.as_slice() {
         push_key(text, key)?;
         text.push(b'\n')?;
@@ -194,10 +215,93 @@ fn push_looked(
     Ok(())
 }
 
+fn find(
+    alloc: Global,
+    tree: &Tree,
+    unit: &UnitName,
+    keys: &mut Keys,
+    text: &mut Vec<u8>,
+) -> Result<(), AllocError> {
+    let found = keys.find(alloc, tree, unit)?;
+    push_found(text, &found)
+}
+
+fn follow(
+    alloc: Global,
+    tree: &Tree,
+    link: &TreePath,
+    keys: &mut Keys,
+    text: &mut Vec<u8>,
+) -> Result<(), AllocError> {
+    let end = keys.follow(alloc, tree, link)?;
+    push_end(text, &end)
+}
+
+fn count_links(alloc: Global, tree: &Tree, keys: &mut Keys) -> Result<usize, AllocError> {
+    let entries = keys.entries(alloc, tree, Key::Links)?;
+    Ok(entries.len())
+}
+
+/// Looks a unit up, follows a link, and counts the links of dependencies.
+fn look(
+    alloc: Global,
+    tree: &Tree,
+    unit: &UnitName,
+    link: &TreePath,
+    keys: &mut Keys,
+    text: &mut Vec<u8>,
+) -> Result<(), AllocError> {
+    find(alloc, tree, unit, keys, text)?;
+    follow(alloc, tree, link, keys, text)?;
+    match count_links(alloc, tree, keys)? {
+        1 => push_line(text, b"1"),
+        _ => push_line(text, b"?"),
+    }
+}
+
+fn push_looked(
+    alloc: Global,
+    tree: &Tree,
+    unit: &UnitName,
+    link: &TreePath,
+    text: &mut Vec<u8>,
+) -> Result<(), AllocError> {
+    let mut keys = Keys::none(alloc);
+    look(alloc, tree, unit, link, &mut keys, text)?;
+    push_keys(text, &keys)
+}
+
+fn looked(
+    alloc: Global,
+    tree: &Tree,
+    unit: &UnitName,
+    link: &TreePath,
+) -> Result<Vec<u8>, AllocError> {
+    let mut text = Vec::new(alloc);
+    push_looked(alloc, tree, unit, link, &mut text)?;
+    Ok(text)
+}
+
+fn looked_again(
+    alloc: Global,
+    tree: &Tree,
+    unit: &UnitName,
+    link: &TreePath,
+) -> Result<Vec<u8>, AllocError> {
+    ample!(looked(alloc, tree, unit, link), AllocError)
+}
+
+/// What is found for a unit, behind a link and of the links of dependencies, and the keys of all that, a line for each.
+fn looked_at(alloc: Global, unit: &[u8], link: &[u8]) -> Result<Vec<u8>, Fail> {
+    let tree = tree(alloc, TREE)?;
+    let unit = name(alloc, unit)?;
+    let link = path(alloc, link)?;
+    Ok(looked_again(alloc, &tree, &unit, &link)?)
+}
+
 #[test]
 fn what_is_looked_at_is_noted(rt: HostRuntime) -> Result<(), Fail> {
-    let tree = tree(rt.alloc(), TREE)?;
-    let looked = looked(rt.alloc(), &tree)?;
+    let looked = looked_at(rt.alloc(), b"a.service", b"/etc/systemd/system/c.service")?;
     let text = b"/usr/lib/systemd/system/a.service
 /etc/systemd/system/c.service
 1
@@ -213,16 +317,9 @@ links
     Ok(())
 }
 
-fn read_presets(alloc: Global, tree: &Tree) -> Result<Vec<u8>, AllocError> {
-    let mut keys = Keys::none(alloc);
-    keys.push(Key::Presets)?;
-    text_of(alloc, &footprint::Reading::of(alloc, tree, keys)?)
-}
-
 #[test]
 fn no_presets_are_an_empty_set(rt: HostRuntime) -> Result<(), Fail> {
-    let tree = tree(rt.alloc(), TREE)?;
-    let read = ample!(read_presets(rt.alloc(), &tree), AllocError)?;
+    let read = read_as(rt.alloc(), TREE, b"presets")?;
     assert_eq!(rt;
         read.as_slice(),
         b"presets\nunitadm-inventory 1\nend\n".as_slice()
@@ -236,7 +333,7 @@ fn cleared(
     tree: &Tree,
     one: &UnitName,
     other: &UnitName,
-) -> Result<Vec<u8>, AllocError> {
+) -> Result<Outcome, AllocError> {
     let mut looked = Keys::none(alloc);
     looked.push(Key::Marked(Scope::Etc, one.copy()?))?;
     looked.push(Key::Marked(Scope::Etc, other.copy()?))?;
@@ -244,18 +341,39 @@ fn cleared(
     let links = keys.entries_of_all(alloc, tree, looked)?;
     let wanted = WantedLinks::cleared(alloc, &links)?;
     let done = Edit::new(alloc, tree)?.all_at_once(alloc, &wanted, &mut keys)?;
-    let outcome = Outcome::of(alloc, tree, keys, Notices::none(alloc), done)?;
-    let mut text = Vec::new(alloc);
-    push_outcome(&mut text, &outcome)?;
-    Ok(text)
+    Outcome::of(alloc, tree, keys, Notices::none(alloc), done)
+}
+
+fn told_cleared(
+    alloc: Global,
+    tree: &Tree,
+    one: &UnitName,
+    other: &UnitName,
+) -> Result<Vec<u8>, AllocError> {
+    let outcome = cleared(alloc, tree, one, other)?;
+    text_of(alloc, &outcome)
+}
+
+fn told_cleared_again(
+    alloc: Global,
+    tree: &Tree,
+    one: &UnitName,
+    other: &UnitName,
+) -> Result<Vec<u8>, AllocError> {
+    ample!(told_cleared(alloc, tree, one, other), AllocError)
+}
+
+/// What is told where the links in `/etc` are taken away that belong to one of two names.
+fn cleared_of(alloc: Global, one: &[u8], other: &[u8]) -> Result<Vec<u8>, Fail> {
+    let tree = tree(alloc, TREE)?;
+    let one = name(alloc, one)?;
+    let other = name(alloc, other)?;
+    Ok(told_cleared_again(alloc, &tree, &one, &other)?)
 }
 
 #[test]
 fn links_of_several_names_are_taken_away(rt: HostRuntime) -> Result<(), Fail> {
-    let alloc = rt.alloc();
-    let tree = tree(alloc, TREE)?;
-    let (one, other) = (name(alloc, b"a.service")?, name(alloc, b"b.service")?);
-    let told = ample!(cleared(alloc, &tree, &one, &other), AllocError)?;
+    let told = cleared_of(rt.alloc(), b"a.service", b"b.service")?;
     let text = b"b.service - ../../../usr/lib/systemd/system/b.service\n\
         a.service - /usr/lib/systemd/system/a.service\n\
         | b.service a.service";

@@ -1,7 +1,7 @@
 //! Copies, and what is the same as its copy.
 use super::values::{key, name, path, reading, tree};
 use footprint::{
-    Answer, Changes, Edit, Notice, NoticeKey, Notices, Reason, Refusal, StateWord, Units,
+    Answer, Changes, Edit, Notice, NoticeKey, Notices, Reading, Reason, Refusal, StateWord, Units,
 };
 use link_tree::{Entry, Slot, Tree, TreePath};
 use std::alloc::{AllocError, Global};
@@ -9,7 +9,7 @@ use std::fmt::Debug;
 use std::process::Abort;
 use std::test::Fail;
 use unit_file::Word;
-use unit_name::ample;
+use unit_name::{UnitName, ample};
 
 fn assert_same<T: Debug>(rt: &impl Abort, alloc: Global, one: &T, other: &T) -> Result<(), Fail> {
     let one = ample!(format!(in alloc; "{one:?}"), AllocError)?;
@@ -18,34 +18,46 @@ fn assert_same<T: Debug>(rt: &impl Abort, alloc: Global, one: &T, other: &T) -> 
     Ok(())
 }
 
-#[test]
-fn keys_are_copied(rt: HostRuntime) -> Result<(), Fail> {
-    let alloc = rt.alloc();
-    let texts = b"/a/b etc:a.service run:b.service presets links";
-    for text in texts.split(|b| *b == b' ') {
-        let key = key(alloc, text)?;
-        let copy = ample!(key.copy(), AllocError)?;
-        assert_eq!(rt; copy, key);
-    }
+fn assert_key_copied(rt: &impl Abort, alloc: Global, text: &[u8]) -> Result<(), Fail> {
+    let key = key(alloc, text)?;
+    let copy = ample!(key.copy(), AllocError)?;
+    assert_eq!(rt; copy, key);
     Ok(())
 }
 
 #[test]
-fn readings_are_copied(rt: HostRuntime) -> Result<(), Fail> {
-    let alloc = rt.alloc();
-    let tree = tree(
-        alloc,
-        b"unitadm-inventory 1\nL\t/etc/systemd/system/a.service\tb.service\nend\n",
-    )?;
-    let keys = b"/etc/systemd/system/a.service /a etc:a.service links";
-    let reading = reading(alloc, &tree, keys)?;
+fn keys_are_copied(rt: HostRuntime) -> Result<(), Fail> {
+    let texts = b"/a/b etc:a.service run:b.service presets links";
+    for text in texts.split(|b| *b == b' ') {
+        assert_key_copied(&rt, rt.alloc(), text)?;
+    }
+    Ok(())
+}
+
+fn assert_reading_copied(rt: &impl Abort, alloc: Global, reading: &Reading) -> Result<(), Fail> {
     let copy = ample!(reading.copy(), AllocError)?;
     assert_eq!(rt; copy.as_slice().len(), 4);
-    assert_same(&rt, alloc, &copy, &reading)
+    assert_same(rt, alloc, &copy, reading)
+}
+
+/// What a tree is read as by keys that have spaces between them.
+fn read(alloc: Global, inventory: &[u8], keys: &[u8]) -> Result<Reading, Fail> {
+    let tree = tree(alloc, inventory)?;
+    reading(alloc, &tree, keys)
+}
+
+#[test]
+fn readings_are_copied(rt: HostRuntime) -> Result<(), Fail> {
+    let reading = read(
+        rt.alloc(),
+        b"unitadm-inventory 1\nL\t/etc/systemd/system/a.service\tb.service\nend\n",
+        b"/etc/systemd/system/a.service /a etc:a.service links",
+    )?;
+    assert_reading_copied(&rt, rt.alloc(), &reading)
 }
 
 /// The changes where a link comes in place of what stands at one slot, and what stands at another goes.
-fn changes_of(
+fn changes(
     alloc: Global,
     tree: &Tree,
     relinked: &TreePath,
@@ -61,19 +73,42 @@ fn changes_of(
     edit.with(cleared, None)?.into_changes(alloc)
 }
 
-#[test]
-fn changes_are_copied(rt: HostRuntime) -> Result<(), Fail> {
-    let alloc = rt.alloc();
-    let tree = tree(
-        alloc,
-        b"unitadm-inventory 1\nL\t/etc/systemd/system/a.service\tc.service\nF\t1\t/etc/systemd/system/b.service\nb\nend\n",
-    )?;
-    let link = path(alloc, b"/etc/systemd/system/a.service")?;
-    let file = path(alloc, b"/etc/systemd/system/b.service")?;
-    let changes = ample!(changes_of(alloc, &tree, &link, &file), AllocError)?;
+fn changes_again(
+    alloc: Global,
+    tree: &Tree,
+    relinked: &TreePath,
+    cleared: &TreePath,
+) -> Result<Changes, AllocError> {
+    ample!(changes(alloc, tree, relinked, cleared), AllocError)
+}
+
+fn changes_of(
+    alloc: Global,
+    inventory: &[u8],
+    relinked: &[u8],
+    cleared: &[u8],
+) -> Result<Changes, Fail> {
+    let tree = tree(alloc, inventory)?;
+    let relinked = path(alloc, relinked)?;
+    let cleared = path(alloc, cleared)?;
+    Ok(changes_again(alloc, &tree, &relinked, &cleared)?)
+}
+
+fn assert_changes_copied(rt: &impl Abort, alloc: Global, changes: &Changes) -> Result<(), Fail> {
     let copy = ample!(changes.copy(), AllocError)?;
     assert_eq!(rt; copy.as_slice().len(), 2);
-    assert_same(&rt, alloc, &copy, &changes)
+    assert_same(rt, alloc, &copy, changes)
+}
+
+#[test]
+fn changes_are_copied(rt: HostRuntime) -> Result<(), Fail> {
+    let changes = changes_of(
+        rt.alloc(),
+        b"unitadm-inventory 1\nL\t/etc/systemd/system/a.service\tc.service\nF\t1\t/etc/systemd/system/b.service\nb\nend\n",
+        b"/etc/systemd/system/a.service",
+        b"/etc/systemd/system/b.service",
+    )?;
+    assert_changes_copied(&rt, rt.alloc(), &changes)
 }
 
 fn assert_copied(rt: &impl Abort, alloc: Global, answer: &Answer) -> Result<(), Fail> {
@@ -82,11 +117,17 @@ fn assert_copied(rt: &impl Abort, alloc: Global, answer: &Answer) -> Result<(), 
     assert_same(rt, alloc, &copy, answer)
 }
 
+fn word(alloc: Global, text: &[u8]) -> Result<Word, AllocError> {
+    ample!(Word::from_slice(alloc, text), AllocError)
+}
+
 fn notice(alloc: Global) -> Result<Notice, Fail> {
+    let unit = name(alloc, b"a.service")?;
+    let word = word(alloc, b"%q.service")?;
     Ok(Notice {
-        unit: name(alloc, b"a.service")?,
+        unit,
         key: NoticeKey::Alias,
-        word: ample!(Word::from_slice(alloc, b"%q.service"), AllocError)?,
+        word,
         reason: Reason::BadSpecifier,
     })
 }
@@ -102,16 +143,19 @@ fn notices(alloc: Global) -> Result<Notices, Fail> {
     Ok(ample!(one_notice(alloc, &notice), AllocError)?)
 }
 
+fn push_copy(names: &mut Units, name: &UnitName) -> Result<(), AllocError> {
+    names.push(name.copy()?)
+}
+
+fn push_name(alloc: Global, names: &mut Units, text: &[u8]) -> Result<(), Fail> {
+    let name = name(alloc, text)?;
+    Ok(ample!(push_copy(names, &name), AllocError)?)
+}
+
 fn names(alloc: Global) -> Result<Units, Fail> {
     let mut names = Units::none(alloc);
     for text in [b"a.service", b"b@.socket"] {
-        ample!(
-            {
-                let name = name(alloc, text)?;
-                names.push(name)
-            },
-            AllocError
-        )?;
+        push_name(alloc, &mut names, text)?;
     }
     Ok(names)
 }
@@ -127,11 +171,15 @@ fn answer(alloc: Global, number: usize) -> Result<Answer, Fail> {
     })
 }
 
+fn assert_answer_copied(rt: &impl Abort, alloc: Global, number: usize) -> Result<(), Fail> {
+    let answer = answer(alloc, number)?;
+    assert_copied(rt, alloc, &answer)
+}
+
 #[test]
 fn answers_are_copied(rt: HostRuntime) -> Result<(), Fail> {
     for number in 0..5 {
-        let answer = answer(rt.alloc(), number)?;
-        assert_copied(&rt, rt.alloc(), &answer)?;
+        assert_answer_copied(&rt, rt.alloc(), number)?;
     }
     Ok(())
 }

@@ -1,6 +1,7 @@
 //! Readings, and whether trees agree with them.
-use super::values::{key, reading, text_of, tree};
-use footprint::agrees;
+use super::values::{push_key, read_as, reading, tree};
+use footprint::{Reading, agrees};
+use link_tree::Tree;
 use std::alloc::{AllocError, Global};
 use std::process::Abort;
 use std::test::Fail;
@@ -46,16 +47,17 @@ L\t/etc/systemd/system/c.target.wants/a.service\t/usr/lib/systemd/system/a.servi
 end
 ";
 
+fn assert_read(rt: &impl Abort, alloc: Global, keys: &[u8], text: &[u8]) -> Result<(), Fail> {
+    let read = read_as(alloc, SMALL, keys)?;
+    assert_eq!(rt; read.as_slice(), text);
+    Ok(())
+}
+
 #[test]
 fn keys_are_read_once_in_their_order(rt: HostRuntime) -> Result<(), Fail> {
-    let alloc = rt.alloc();
-    let small = tree(alloc, SMALL)?;
     let keys =
         b"links run:a.service etc:b.service presets /etc/systemd/system/b.service etc:a.service links presets etc:b.service /etc/systemd/system/a.service /etc/systemd/system/b.service";
-    let reading = reading(alloc, &small, keys)?;
-    let text = ample!(text_of(alloc, &reading), AllocError)?;
-    assert_eq!(rt; text.as_slice(), READ);
-    Ok(())
+    assert_read(&rt, rt.alloc(), keys, READ)
 }
 
 /// What `SMALL` is read as by three sets, which have entries in common, and by a cell.
@@ -77,16 +79,39 @@ end
 
 #[test]
 fn three_sets_are_read_of_one_tree(rt: HostRuntime) -> Result<(), Fail> {
-    let alloc = rt.alloc();
-    let small = tree(alloc, SMALL)?;
     let keys = b"links etc:b.service /etc/systemd/system/b.service etc:a.service";
-    let reading = reading(alloc, &small, keys)?;
-    let text = ample!(text_of(alloc, &reading), AllocError)?;
-    assert_eq!(rt; text.as_slice(), READ_OF_SETS);
-    Ok(())
+    assert_read(&rt, rt.alloc(), keys, READ_OF_SETS)
 }
 
 const MASK: &[u8] = b"unitadm-inventory 1\nL\t/etc/systemd/system/x.service\t/dev/null\nend\n";
+
+fn first_other(alloc: Global, tree: &Tree, reading: &Reading) -> Result<Vec<u8>, AllocError> {
+    let mut text = Vec::new(alloc);
+    if let Err(key) = agrees(tree, reading) {
+        push_key(&mut text, key)?;
+    }
+    Ok(text)
+}
+
+fn first_other_again(alloc: Global, tree: &Tree, reading: &Reading) -> Result<Vec<u8>, AllocError> {
+    ample!(first_other(alloc, tree, reading), AllocError)
+}
+
+/// The first of these keys, by which the one tree is read, of which the other says something else; empty where there is none.
+fn first_other_of(alloc: Global, one: &[u8], other: &[u8], keys: &[u8]) -> Result<Vec<u8>, Fail> {
+    let one = tree(alloc, one)?;
+    let other = tree(alloc, other)?;
+    let reading = reading(alloc, &one, keys)?;
+    Ok(first_other_again(alloc, &other, &reading)?)
+}
+
+/// Whether a tree agrees with what the one is read as by these keys.
+fn agrees_with(alloc: Global, one: &[u8], other: &[u8], keys: &[u8]) -> Result<bool, Fail> {
+    let one = tree(alloc, one)?;
+    let other = tree(alloc, other)?;
+    let reading = reading(alloc, &one, keys)?;
+    Ok(agrees(&other, &reading).is_ok())
+}
 
 /// Of these keys, by which the one tree is read, this is the first of which the other says something else; none, if it is
 /// empty. A tree agrees with its own reading.
@@ -95,13 +120,9 @@ fn assert_first_other(
     alloc: Global,
     (one, other, keys, expected): (&[u8], &[u8], &[u8], &[u8]),
 ) -> Result<(), Fail> {
-    let one = tree(alloc, one)?;
-    let reading = reading(alloc, &one, keys)?;
-    assert!(rt; agrees(&one, &reading).is_ok());
-    match agrees(&tree(alloc, other)?, &reading) {
-        Ok(()) => assert!(rt; expected.is_empty()),
-        Err(first) => assert_eq!(rt; *first, key(alloc, expected)?),
-    }
+    assert!(rt; agrees_with(alloc, one, one, keys)?);
+    let first = first_other_of(alloc, one, other, keys)?;
+    assert_eq!(rt; first.as_slice(), expected);
     Ok(())
 }
 
@@ -121,9 +142,7 @@ fn the_first_other_key_is_named(rt: HostRuntime) -> Result<(), Fail> {
 
 /// Whether a tree agrees with what `SMALL` is read as by a key.
 fn agrees_with_small(alloc: Global, other: &[u8], key: &[u8]) -> Result<bool, Fail> {
-    let small = tree(alloc, SMALL)?;
-    let reading = reading(alloc, &small, key)?;
-    Ok(agrees(&tree(alloc, other)?, &reading).is_ok())
+    agrees_with(alloc, SMALL, other, key)
 }
 
 #[test]

@@ -69,6 +69,12 @@ const FILES: [Row; 2] = [
     ),
 ];
 
+/// Whether a change touches a key.
+fn is_touched(alloc: Global, change: &Change, text: &[u8]) -> Result<bool, Fail> {
+    let key = key(alloc, text)?;
+    Ok(touches(change, &key))
+}
+
 fn assert_all(
     rt: &impl Abort,
     alloc: Global,
@@ -77,7 +83,8 @@ fn assert_all(
     touched: bool,
 ) -> Result<(), Fail> {
     for text in keys.split(|b| *b == b' ') {
-        assert_eq!(rt; touches(change, &key(alloc, text)?), touched, "{text:?}");
+        let is_touched = is_touched(alloc, change, text)?;
+        assert_eq!(rt; is_touched, touched, "{text:?}");
     }
     Ok(())
 }
@@ -94,20 +101,40 @@ fn assert_touches(
     assert_all(rt, alloc, change, others, false)
 }
 
-#[test]
-fn links_belong_to_names(rt: HostRuntime) -> Result<(), Fail> {
-    for (at, target, touched, others) in LINKS {
-        let change = put_link(rt.alloc(), at, target)?;
-        assert_touches(&rt, rt.alloc(), &change, touched, others)?;
+fn assert_link(
+    rt: &impl Abort,
+    alloc: Global,
+    (at, target, touched, others): Row,
+) -> Result<(), Fail> {
+    let change = put_link(alloc, at, target)?;
+    assert_touches(rt, alloc, &change, touched, others)
+}
+
+fn assert_links(rt: &impl Abort, alloc: Global, table: &[Row]) -> Result<(), Fail> {
+    for row in table {
+        assert_link(rt, alloc, *row)?;
     }
     Ok(())
 }
 
 #[test]
+fn links_belong_to_names(rt: HostRuntime) -> Result<(), Fail> {
+    assert_links(&rt, rt.alloc(), &LINKS)
+}
+
+fn assert_file(
+    rt: &impl Abort,
+    alloc: Global,
+    (at, bytes, touched, others): Row,
+) -> Result<(), Fail> {
+    let change = put_file(alloc, at, bytes)?;
+    assert_touches(rt, alloc, &change, touched, others)
+}
+
+#[test]
 fn files_are_presets_or_cells(rt: HostRuntime) -> Result<(), Fail> {
-    for (at, bytes, touched, others) in FILES {
-        let change = put_file(rt.alloc(), at, bytes)?;
-        assert_touches(&rt, rt.alloc(), &change, touched, others)?;
+    for row in FILES {
+        assert_file(&rt, rt.alloc(), row)?;
     }
     Ok(())
 }

@@ -1,8 +1,8 @@
 //! Names, entries, trees and keys from texts, and texts of readings.
-use footprint::{Key, Keys, Reading, Seen};
+use footprint::{Key, Keys, Observation, Reading, Seen};
 use link_tree::{
     Change, Entry, FileError, FromRead, InventoryError, PathError, Scope, TargetError, ToWrite,
-    Tree, TreePath, read_inventory, write_inventory,
+    Tree, TreePart, TreePath, read_inventory, write_inventory,
 };
 use std::alloc::{AllocError, Global};
 use std::test::Fail;
@@ -55,15 +55,13 @@ pub(crate) fn relink(
     Ok(change)
 }
 
-pub(crate) fn tree(alloc: Global, text: &[u8]) -> Result<Tree, InventoryError> {
+fn inventory(alloc: Global, text: &[u8]) -> Result<Tree, InventoryError> {
     let mut bytes = text;
-    ample!(
-        {
-            bytes = text;
-            read_inventory(alloc, &mut FromRead::new(&mut bytes))
-        },
-        InventoryError::OutOfMemory
-    )
+    read_inventory(alloc, &mut FromRead::new(&mut bytes))
+}
+
+pub(crate) fn tree(alloc: Global, text: &[u8]) -> Result<Tree, InventoryError> {
+    ample!(inventory(alloc, text), InventoryError::OutOfMemory)
 }
 
 /// A key: `etc:NAME`, `run:NAME`, `presets`, `links`, or the path of a cell.
@@ -77,30 +75,38 @@ pub(crate) fn key(alloc: Global, text: &[u8]) -> Result<Key, Fail> {
     }
 }
 
+fn push_parsed(alloc: Global, keys: &mut Vec<Key>, text: &[u8]) -> Result<(), Fail> {
+    let key = key(alloc, text)?;
+    keys.push(key)?;
+    Ok(())
+}
+
 /// Keys that have spaces between them.
-pub(crate) fn keys(alloc: Global, texts: &[u8]) -> Result<Keys, Fail> {
-    let mut keys = Keys::none(alloc);
+fn keys(alloc: Global, texts: &[u8]) -> Result<Vec<Key>, Fail> {
+    let mut keys = ample!(Vec::with_capacity(alloc, 16), AllocError)?;
     for text in texts.split(|b| *b == b' ') {
-        ample!(
-            {
-                let key = key(alloc, text)?;
-                keys.push(key)
-            },
-            AllocError
-        )?;
+        push_parsed(alloc, &mut keys, text)?;
     }
     Ok(keys)
 }
 
+fn copies(alloc: Global, keys: &[Key]) -> Result<Keys, AllocError> {
+    let mut copies = Keys::none(alloc);
+    for key in keys {
+        copies.push(key.copy()?)?;
+    }
+    Ok(copies)
+}
+
+fn read(alloc: Global, tree: &Tree, keys: &[Key]) -> Result<Reading, AllocError> {
+    let keys = copies(alloc, keys)?;
+    Reading::of(alloc, tree, keys)
+}
+
 /// A tree read by keys that have spaces between them.
 pub(crate) fn reading(alloc: Global, tree: &Tree, texts: &[u8]) -> Result<Reading, Fail> {
-    Ok(ample!(
-        {
-            let keys = keys(alloc, texts)?;
-            Reading::of(alloc, tree, keys)
-        },
-        AllocError
-    )?)
+    let keys = keys(alloc, texts)?;
+    Ok(ample!(read(alloc, tree, &keys), AllocError)?)
 }
 
 pub(crate) fn push_key(text: &mut Vec<u8>, key: &Key) -> Result<(), AllocError> {
@@ -118,31 +124,58 @@ pub(crate) fn push_key(text: &mut Vec<u8>, key: &Key) -> Result<(), AllocError> 
     }
 }
 
-fn push_seen(alloc: Global, text: &mut Vec<u8>, seen: &Seen) -> Result<(), AllocError> {
-    match seen {
-        Seen::Entry(None) => Ok(text.extend_from_slice(b" absent\n")?),
-        Seen::Entry(Some(entry)) => {
-            text.push(b' ')?;
-            text.extend_from_slice(entry.bytes())?;
-            Ok(text.push(b'\n')?)
-        }
-        Seen::Entries(entries) => {
-            text.push(b'\n')?;
-            let tree = Tree::of(alloc, entries.share()?)?;
-            match write_inventory(alloc, &tree, &mut ToWrite::new(text)) {
-                Ok(()) => Ok(()),
-                Err(_) => Err(AllocError),
-            }
-        }
+fn push_entry(text: &mut Vec<u8>, entry: &Entry) -> Result<(), AllocError> {
+    text.push(b' ')?;
+    text.extend_from_slice(entry.bytes())?;
+    Ok(text.push(b'\n')?)
+}
+
+fn push_inventory(alloc: Global, text: &mut Vec<u8>, tree: &Tree) -> Result<(), AllocError> {
+    match write_inventory(alloc, tree, &mut ToWrite::new(text)) {
+        Ok(()) => Ok(()),
+        Err(_) => Err(AllocError),
     }
 }
 
-/// A line for each key, with `absent` or the bytes of the entry behind a cell's, and the inventory of what another saw.
-pub(crate) fn text_of(alloc: Global, reading: &Reading) -> Result<Vec<u8>, AllocError> {
+fn push_entries(alloc: Global, text: &mut Vec<u8>, entries: &TreePart) -> Result<(), AllocError> {
+    text.push(b'\n')?;
+    let tree = Tree::of(alloc, entries.share()?)?;
+    push_inventory(alloc, text, &tree)
+}
+
+fn push_seen(alloc: Global, text: &mut Vec<u8>, seen: &Seen) -> Result<(), AllocError> {
+    match seen {
+        Seen::Entry(None) => Ok(text.extend_from_slice(b" absent\n")?),
+        Seen::Entry(Some(entry)) => push_entry(text, entry),
+        Seen::Entries(entries) => push_entries(alloc, text, entries),
+    }
+}
+
+fn push_observation(
+    alloc: Global,
+    text: &mut Vec<u8>,
+    observation: &Observation,
+) -> Result<(), AllocError> {
+    push_key(text, &observation.key)?;
+    push_seen(alloc, text, &observation.seen)
+}
+
+fn told(alloc: Global, reading: &Reading) -> Result<Vec<u8>, AllocError> {
     let mut text = Vec::new(alloc);
     for observation in reading.as_slice() {
-        push_key(&mut text, &observation.key)?;
-        push_seen(alloc, &mut text, &observation.seen)?;
+        push_observation(alloc, &mut text, observation)?;
     }
     Ok(text)
+}
+
+fn told_again(alloc: Global, reading: &Reading) -> Result<Vec<u8>, AllocError> {
+    ample!(told(alloc, reading), AllocError)
+}
+
+/// What a tree is read as by keys that have spaces between them: a line for each key, with `absent` or the bytes of the entry behind a
+/// cell's, and the inventory of what another saw.
+pub(crate) fn read_as(alloc: Global, inventory: &[u8], keys: &[u8]) -> Result<Vec<u8>, Fail> {
+    let tree = tree(alloc, inventory)?;
+    let reading = reading(alloc, &tree, keys)?;
+    Ok(told_again(alloc, &reading)?)
 }

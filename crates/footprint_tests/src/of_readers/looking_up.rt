@@ -82,15 +82,24 @@ const FOUND: [Found; 14] = [
     (b"/etc/systemd/system-preset/1.preset", b":", b"", b"26"),
 ];
 
+fn assert_row_found(
+    rt: &impl Abort,
+    alloc: Global,
+    readers: &Readers,
+    (at, before, after, expected): Found,
+) -> Result<(), Fail> {
+    let change = change(alloc, at, before, after)?;
+    assert_found(rt, alloc, readers, &change, expected)
+}
+
 fn assert_all_found(
     rt: &impl Abort,
     alloc: Global,
     readers: &Readers,
     table: &[Found],
 ) -> Result<(), Fail> {
-    for (at, before, after, expected) in table {
-        let change = change(alloc, at, before, after)?;
-        assert_found(rt, alloc, readers, &change, expected)?;
+    for row in table {
+        assert_row_found(rt, alloc, readers, *row)?;
     }
     Ok(())
 }

@@ -27,43 +27,55 @@ fn key(alloc: Global, text: &[u8]) -> Result<Key, Fail> {
     }
 }
 
+fn push_parsed(alloc: Global, keys: &mut Vec<Key>, text: &[u8]) -> Result<(), Fail> {
+    let key = key(alloc, text)?;
+    keys.push(key)?;
+    Ok(())
+}
+
 /// Keys that have spaces between them.
-fn keys(alloc: Global, texts: &[u8]) -> Result<Keys, Fail> {
-    let mut keys = Keys::none(alloc);
+fn keys(alloc: Global, texts: &[u8]) -> Result<Vec<Key>, Fail> {
+    let mut keys = ample!(Vec::with_capacity(alloc, 16), AllocError)?;
     for text in texts.split(|b| *b == b' ') {
-        ample!(
-            {
-                let key = key(alloc, text)?;
-                keys.push(key)
-            },
-            AllocError
-        )?;
+        push_parsed(alloc, &mut keys, text)?;
     }
     Ok(keys)
 }
 
-fn read(alloc: Global, keys: Keys) -> Result<Reading, AllocError> {
+fn copies(alloc: Global, keys: &[Key]) -> Result<Keys, AllocError> {
+    let mut copies = Keys::none(alloc);
+    for key in keys {
+        copies.push(key.copy()?)?;
+    }
+    Ok(copies)
+}
+
+fn read(alloc: Global, keys: &[Key]) -> Result<Reading, AllocError> {
     let tree = Tree::empty(alloc)?;
+    let keys = copies(alloc, keys)?;
     Reading::of(alloc, &tree, keys)
 }
 
 /// The reading of an empty tree by keys that have spaces between them.
 pub(crate) fn reading(alloc: Global, texts: &[u8]) -> Result<Reading, Fail> {
-    Ok(ample!(
-        {
-            let keys = keys(alloc, texts)?;
-            read(alloc, keys)
-        },
-        AllocError
-    )?)
+    let keys = keys(alloc, texts)?;
+    Ok(ample!(read(alloc, &keys), AllocError)?)
+}
+
+fn file(alloc: Global, bytes: &[u8]) -> Result<Entry, FileError> {
+    ample!(Entry::file(alloc, bytes), FileError::OutOfMemory)
+}
+
+fn link(alloc: Global, target: &[u8]) -> Result<Entry, TargetError> {
+    ample!(Entry::link(alloc, target), TargetError::OutOfMemory)
 }
 
 /// An entry: a link to a target, behind `:` an empty file, or none.
 fn entry(alloc: Global, text: &[u8]) -> Result<Option<Entry>, Fail> {
     match text {
         b"" => Ok(None),
-        b":" => Ok(Some(ample!(Entry::file(alloc, b""), FileError::OutOfMemory)?)),
-        _ => Ok(Some(ample!(Entry::link(alloc, text), TargetError::OutOfMemory)?)),
+        b":" => Ok(Some(file(alloc, b"")?)),
+        _ => Ok(Some(link(alloc, text)?)),
     }
 }
 
@@ -84,11 +96,14 @@ pub(crate) fn change(
     })
 }
 
+fn add(alloc: Global, readers: &mut Readers, n: u32, reading: &Reading) -> Result<(), AllocError> {
+    ample!(readers.add(alloc, reading, n), AllocError)
+}
+
 /// Lists a row under keys that have spaces between them.
 pub(crate) fn list(alloc: Global, readers: &mut Readers, n: u32, texts: &[u8]) -> Result<(), Fail> {
     let reading = reading(alloc, texts)?;
-    ample!(readers.add(alloc, &reading, n), AllocError)?;
-    Ok(())
+    Ok(add(alloc, readers, n, &reading)?)
 }
 
 /// The keys that each row looked at, from row 1 on.
@@ -127,8 +142,8 @@ fn all_of(alloc: Global, readers: &Readers, change: &Change) -> Result<Vec<u8>, 
     digits_of(alloc, numbers.as_slice())
 }
 
-pub(crate) fn found(alloc: Global, readers: &Readers, change: &Change) -> Result<Vec<u8>, Fail> {
-    Ok(ample!(all_of(alloc, readers, change), AllocError)?)
+fn found(alloc: Global, readers: &Readers, change: &Change) -> Result<Vec<u8>, AllocError> {
+    ample!(all_of(alloc, readers, change), AllocError)
 }
 
 /// Which rows are found by a change.
