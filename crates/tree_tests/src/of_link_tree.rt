@@ -1,6 +1,6 @@
 mod entries;
 mod large;
-mod names;
+pub(crate) mod names;
 mod reading;
 mod sharing;
 mod writing;

@@ -77,28 +77,50 @@ fn is_link(alloc: Global, tree: &Tree, number: u32, target: &[u8]) -> Result<boo
     }
 }
 
+/// Numbers of units, the targets to which they become links, and how many entries there are then.
+const SETS: [(u32, &[u8], usize); 9] = [
+    (NEW_FIRST, b"a.service", ENTRIES + 1),
+    (NEW_MIDDLE, b"a.service", ENTRIES + 2),
+    (NEW_LAST, b"a.service", ENTRIES + 3),
+    (FIRST, b"a.service", ENTRIES + 3),
+    (MIDDLE, b"a.service", ENTRIES + 3),
+    (LAST, b"a.service", ENTRIES + 3),
+    (FIRST, b"", ENTRIES + 2),
+    (MIDDLE, b"", ENTRIES + 1),
+    (LAST, b"", ENTRIES),
+];
+
+/// Makes the unit of this number such a link, or takes it away: whether it is so then, of so many entries.
+fn sets(
+    alloc: Global,
+    tree: &mut Tree,
+    number: u32,
+    target: &[u8],
+    len: usize,
+) -> Result<bool, AllocError> {
+    set(alloc, tree, number, target)?;
+    Ok(tree.len() == len && is_link(alloc, tree, number, target)?)
+}
+
+fn assert_sets(
+    rt: &impl Abort,
+    alloc: Global,
+    tree: &mut Tree,
+    rows: &[(u32, &[u8], usize)],
+) -> Result<(), Fail> {
+    for (number, target, len) in rows {
+        let is_set = ample!(sets(alloc, tree, *number, target, *len), AllocError)?;
+        assert!(rt; is_set);
+    }
+    Ok(())
+}
+
 #[test]
 fn units_of_a_large_tree_are_set(rt: HostRuntime) -> Result<(), Fail> {
     let alloc = rt.alloc();
     let mut tree = ample!(large_tree(alloc), AllocError)?;
     assert_eq!(rt; tree.len(), ENTRIES);
-    let rows: [(u32, &[u8], usize); 9] = [
-        (NEW_FIRST, b"a.service", ENTRIES + 1),
-        (NEW_MIDDLE, b"a.service", ENTRIES + 2),
-        (NEW_LAST, b"a.service", ENTRIES + 3),
-        (FIRST, b"a.service", ENTRIES + 3),
-        (MIDDLE, b"a.service", ENTRIES + 3),
-        (LAST, b"a.service", ENTRIES + 3),
-        (FIRST, b"", ENTRIES + 2),
-        (MIDDLE, b"", ENTRIES + 1),
-        (LAST, b"", ENTRIES),
-    ];
-    for (number, target, len) in rows {
-        ample!(set(alloc, &mut tree, number, target), AllocError)?;
-        assert_eq!(rt; tree.len(), len);
-        assert!(rt; ample!(is_link(alloc, &tree, number, target), AllocError)?);
-    }
-    Ok(())
+    assert_sets(&rt, alloc, &mut tree, &SETS)
 }
 
 /// The change of the unit of this number to such a link, or to nothing.
@@ -210,54 +232,67 @@ fn are_links(
     Ok(true)
 }
 
-/// Changes these units to such links, or takes them away, and looks at the trees that it comes to.
-fn assert_changed(
-    rt: &impl Abort,
+/// Whether the tree with these units changed to such links, or taken away, is of so many entries, and they are there.
+fn changes_to(
     alloc: Global,
     tree: &Tree,
     numbers: &[u32],
     target: &[u8],
     len: usize,
-) -> Result<(), AllocError> {
-    for in_place in [false, true] {
-        let made = ample!(
-            with_links(alloc, tree, numbers, target, in_place),
-            AllocError
-        )?;
-        assert_eq!(rt; made.len(), len);
-        assert!(rt; ample!(are_links(alloc, &made, numbers, target), AllocError)?);
-    }
-    Ok(())
+    in_place: bool,
+) -> Result<bool, AllocError> {
+    let made = with_links(alloc, tree, numbers, target, in_place)?;
+    Ok(made.len() == len && are_links(alloc, &made, numbers, target)?)
 }
 
-#[test]
-fn a_large_tree_is_changed(rt: HostRuntime) -> Result<(), Fail> {
-    let alloc = rt.alloc();
-    let tree = ample!(large_tree(alloc), AllocError)?;
-    let rows: [(&[u32], &[u8], usize); 7] = [
-        (&[], b"", ENTRIES),
-        (&[NEW_FIRST], b"a.service", ENTRIES + 1),
-        (&[MIDDLE], b"a.service", ENTRIES),
-        (&[LAST], b"", ENTRIES - 1),
-        (
-            &[NEW_FIRST, NEW_MIDDLE, NEW_LAST],
-            b"a.service",
-            ENTRIES + 3,
-        ),
-        (&[FIRST, MIDDLE, LAST], b"a.service", ENTRIES),
-        (&[FIRST, MIDDLE, LAST], b"", ENTRIES - 3),
-    ];
+/// Numbers of units, the target of the links to which they change, and how many entries there are then.
+type Changes = (&'static [u32], &'static [u8], usize);
+
+const CHANGES: [Changes; 7] = [
+    (&[], b"", ENTRIES),
+    (&[NEW_FIRST], b"a.service", ENTRIES + 1),
+    (&[MIDDLE], b"a.service", ENTRIES),
+    (&[LAST], b"", ENTRIES - 1),
+    (
+        &[NEW_FIRST, NEW_MIDDLE, NEW_LAST],
+        b"a.service",
+        ENTRIES + 3,
+    ),
+    (&[FIRST, MIDDLE, LAST], b"a.service", ENTRIES),
+    (&[FIRST, MIDDLE, LAST], b"", ENTRIES - 3),
+];
+
+/// Makes each of these changes of a tree, which stays as it is.
+fn assert_changed(
+    rt: &impl Abort,
+    alloc: Global,
+    tree: &Tree,
+    rows: &[Changes],
+) -> Result<(), Fail> {
     for (numbers, target, len) in rows {
-        assert_changed(&rt, alloc, &tree, numbers, target, len)?;
+        for in_place in [false, true] {
+            let is_made = ample!(
+                changes_to(alloc, tree, numbers, target, *len, in_place),
+                AllocError
+            )?;
+            assert!(rt; is_made);
+        }
     }
     assert_eq!(rt; tree.len(), ENTRIES);
     Ok(())
 }
 
+#[test]
+fn a_large_tree_is_changed(rt: HostRuntime) -> Result<(), Fail> {
+    let tree = ample!(large_tree(rt.alloc()), AllocError)?;
+    assert_changed(&rt, rt.alloc(), &tree, &CHANGES)
+}
+
 /// A tree of so many units, all masked: a piece has at most 128 of them.
 fn tree_of(alloc: Global, count: u32) -> Result<Tree, AllocError> {
     let mut tree = Tree::empty(alloc)?;
-    for number in FIRST..FIRST.saturating_add(count) {
+    for place in 0..count {
+        let number = place.saturating_add(FIRST);
         set(alloc, &mut tree, number, b"/dev/null")?;
     }
     Ok(tree)
@@ -281,18 +316,45 @@ fn are_changed_up_to(alloc: Global, tree: &Tree, last: u32) -> Result<bool, Allo
     Ok(tree.len() == SHARED as usize)
 }
 
-#[test]
-fn a_shared_tree_is_changed_at_each_entry(rt: HostRuntime) -> Result<(), Fail> {
-    let alloc = rt.alloc();
-    let first = ample!(tree_of(alloc, SHARED), AllocError)?;
+/// Whether the units up to this one are links, and this one is still masked in the tree before.
+fn changed_alone(
+    alloc: Global,
+    tree: &Tree,
+    before: &Tree,
+    number: u32,
+) -> Result<bool, AllocError> {
+    Ok(are_changed_up_to(alloc, tree, number)? && is_link(alloc, before, number, b"/dev/null")?)
+}
+
+/// Makes the next unit a link in a tree: it changes there alone, and not in one that shares the entries.
+fn assert_next_changes(
+    rt: &impl Abort,
+    alloc: Global,
+    tree: &mut Tree,
+    number: u32,
+) -> Result<(), AllocError> {
+    let before = ample!(tree.share(), AllocError)?;
+    ample!(set(alloc, tree, number, b"a.service"), AllocError)?;
+    let is_alone = ample!(changed_alone(alloc, tree, &before, number), AllocError)?;
+    assert!(rt; is_alone);
+    Ok(())
+}
+
+/// Makes the units links in a tree that shares its entries with another, one after another.
+fn assert_changes_alone(rt: &impl Abort, alloc: Global, first: &Tree) -> Result<(), AllocError> {
     let mut tree = ample!(first.share(), AllocError)?;
     for number in FIRST..FIRST + SHARED {
-        let before = ample!(tree.share(), AllocError)?;
-        ample!(set(alloc, &mut tree, number, b"a.service"), AllocError)?;
-        assert!(rt; ample!(are_changed_up_to(alloc, &tree, number), AllocError)?);
-        assert!(rt; ample!(is_link(alloc, &before, number, b"/dev/null"), AllocError)?);
+        assert_next_changes(rt, alloc, &mut tree, number)?;
     }
-    assert!(rt; ample!(are_changed_up_to(alloc, &first, FIRST - 1), AllocError)?);
+    Ok(())
+}
+
+#[test]
+fn a_shared_tree_is_changed_at_each_entry(rt: HostRuntime) -> Result<(), Fail> {
+    let first = ample!(tree_of(rt.alloc(), SHARED), AllocError)?;
+    assert_changes_alone(&rt, rt.alloc(), &first)?;
+    let are_masked = ample!(are_changed_up_to(rt.alloc(), &first, FIRST - 1), AllocError)?;
+    assert!(rt; are_masked);
     Ok(())
 }
 
@@ -311,36 +373,60 @@ fn are_in_order(tree: &Tree, count: usize) -> bool {
     tree.len() == count
 }
 
-/// Takes the units away, one after another, and looks at what is left.
+/// Takes a unit away: whether it is gone then, and so many are left, in order, among which there is this one.
+fn takes(
+    alloc: Global,
+    tree: &mut Tree,
+    number: u32,
+    rest: usize,
+    left: u32,
+) -> Result<bool, AllocError> {
+    set(alloc, tree, number, b"")?;
+    Ok(
+        are_in_order(tree, rest)
+            && is_link(alloc, tree, number, b"")?
+            && is_link(alloc, tree, left, b"a.service")?,
+    )
+}
+
+/// Takes so many units away, one after another, and at last the one that is left.
 fn assert_emptied(
     rt: &impl Abort,
     alloc: Global,
-    mut tree: Tree,
+    tree: &mut Tree,
     count: u32,
     left: u32,
 ) -> Result<(), AllocError> {
-    for number in FIRST..FIRST.saturating_add(count) {
-        ample!(set(alloc, &mut tree, number, b""), AllocError)?;
-        let rest = FIRST.saturating_add(count).saturating_sub(number) as usize;
-        assert!(rt; are_in_order(&tree, rest));
-        assert!(rt; ample!(is_link(alloc, &tree, number, b""), AllocError)?);
-        assert!(rt; ample!(is_link(alloc, &tree, left, b"a.service"), AllocError)?);
+    for place in 0..count {
+        let number = place.saturating_add(FIRST);
+        let rest = count.saturating_sub(place) as usize;
+        let is_taken = ample!(takes(alloc, tree, number, rest, left), AllocError)?;
+        assert!(rt; is_taken);
     }
-    ample!(set(alloc, &mut tree, left, b""), AllocError)?;
+    ample!(set(alloc, tree, left, b""), AllocError)?;
     assert!(rt; tree.is_empty());
     Ok(())
 }
 
+/// A tree of so many units, with a new one that cuts a piece where it is full, and then taken away again.
+fn assert_cut_and_emptied(
+    rt: &impl Abort,
+    alloc: Global,
+    count: u32,
+    new: u32,
+) -> Result<(), AllocError> {
+    let mut tree = ample!(tree_of(alloc, count), AllocError)?;
+    assert!(rt; are_in_order(&tree, count as usize));
+    ample!(set(alloc, &mut tree, new, b"a.service"), AllocError)?;
+    assert!(rt; are_in_order(&tree, (count as usize).saturating_add(1)));
+    assert_emptied(rt, alloc, &mut tree, count, new)
+}
+
 #[test]
 fn pieces_are_cut_and_emptied(rt: HostRuntime) -> Result<(), Fail> {
-    let alloc = rt.alloc();
     for count in [127u32, 128, 129, 255, 256, 257] {
         for new in [NEW_FIRST, NEW_INSIDE, NEW_LAST] {
-            let mut tree = ample!(tree_of(alloc, count), AllocError)?;
-            assert!(rt; are_in_order(&tree, count as usize));
-            ample!(set(alloc, &mut tree, new, b"a.service"), AllocError)?;
-            assert!(rt; are_in_order(&tree, (count as usize).saturating_add(1)));
-            assert_emptied(&rt, alloc, tree, count, new)?;
+            assert_cut_and_emptied(&rt, rt.alloc(), count, new)?;
         }
     }
     Ok(())
@@ -383,14 +469,25 @@ fn written_len_behind(alloc: Global, text: &[u8], tree: &Tree) -> Result<usize, 
     }
 }
 
+fn large_written_len(alloc: Global) -> Result<usize, AllocError> {
+    let tree = large_tree(alloc)?;
+    written_len(alloc, &tree)
+}
+
+fn large_written_len_behind(alloc: Global, text: &[u8]) -> Result<usize, AllocError> {
+    let tree = large_tree(alloc)?;
+    written_len_behind(alloc, text, &tree)
+}
+
 /// A line has 47 bytes: `L`, a path of 34, a target of 9, two tabs and the line end. The first line has 20, and `end` 4.
 #[test]
 fn a_large_tree_is_written(rt: HostRuntime) -> Result<(), Fail> {
-    let alloc = rt.alloc();
-    let tree = ample!(large_tree(alloc), AllocError)?;
-    let len = ample!(written_len(alloc, &tree), AllocError)?;
+    let len = ample!(large_written_len(rt.alloc()), AllocError)?;
     assert_eq!(rt; len, 20 + ENTRIES * 47 + 4);
-    let len = ample!(written_len_behind(alloc, b"== tree\n", &tree), AllocError)?;
+    let len = ample!(
+        large_written_len_behind(rt.alloc(), b"== tree\n"),
+        AllocError
+    )?;
     assert_eq!(rt; len, 8 + 20 + ENTRIES * 47 + 4);
     Ok(())
 }
@@ -422,14 +519,18 @@ fn shared_files(alloc: Global) -> Result<Tree, AllocError> {
     Ok(tree)
 }
 
+/// How many files there are, and how many bytes are written of them.
+fn shared_files_written(alloc: Global) -> Result<(usize, usize), AllocError> {
+    let tree = shared_files(alloc)?;
+    Ok((tree.len(), written_len(alloc, &tree)?))
+}
+
 /// The line of a file has 43 bytes: `F`, the length in 7 digits, a path of 32 bytes, two tabs and the line end. Another line
 /// end stands behind the file.
 #[test]
 fn files_of_over_a_gibibyte_are_written(rt: HostRuntime) -> Result<(), Fail> {
-    let alloc = rt.alloc();
-    let tree = ample!(shared_files(alloc), AllocError)?;
-    assert_eq!(rt; tree.len(), 1100);
-    let len = ample!(written_len(alloc, &tree), AllocError)?;
+    let (count, len) = ample!(shared_files_written(rt.alloc()), AllocError)?;
+    assert_eq!(rt; count, 1100);
     assert_eq!(rt; len, 20 + 1100 * (43 + 1_048_576 + 1) + 4);
     Ok(())
 }
@@ -445,27 +546,45 @@ fn long_text(alloc: Global) -> Result<Vec<u8>, AllocError> {
     Ok(text)
 }
 
+/// How many bytes are written of the text, with an empty tree behind it.
+fn long_text_written_len(alloc: Global) -> Result<usize, AllocError> {
+    let text = long_text(alloc)?;
+    let tree = Tree::empty(alloc)?;
+    written_len_behind(alloc, &text, &tree)
+}
+
+/// How long the text is with a digit more.
+fn long_text_len_with_digit(alloc: Global) -> Result<usize, AllocError> {
+    let mut text = long_text(alloc)?;
+    push_decimal(&mut text, 7)?;
+    Ok(text.len())
+}
+
 #[test]
 fn a_text_of_over_a_gibibyte_is_written(rt: HostRuntime) -> Result<(), Fail> {
-    let alloc = rt.alloc();
-    let mut text = ample!(long_text(alloc), AllocError)?;
-    let tree = ample!(Tree::empty(alloc), AllocError)?;
-    let len = ample!(written_len_behind(alloc, &text, &tree), AllocError)?;
+    let len = ample!(long_text_written_len(rt.alloc()), AllocError)?;
     assert_eq!(rt; len, 1_073_741_825 + 20 + 4);
-    ample!(push_decimal(&mut text, 7), AllocError)?;
-    assert_eq!(rt; text.len(), 1_073_741_826);
+    let len = ample!(long_text_len_with_digit(rt.alloc()), AllocError)?;
+    assert_eq!(rt; len, 1_073_741_826);
+    Ok(())
+}
+
+/// Relinks a unit: whether the lists are right then. They are looked at after every tenth change alone.
+fn follow(alloc: Global, tree: &mut Tree, number: u32) -> Result<bool, AllocError> {
+    relink(alloc, tree, number)?;
+    Ok(number % 10 != 9 || are_all_of_each(alloc, tree)?)
+}
+
+fn assert_lists_follow(rt: &impl Abort, alloc: Global, tree: &mut Tree) -> Result<(), Fail> {
+    for number in 0..1000u32 {
+        let are_right = ample!(follow(alloc, tree, number), AllocError)?;
+        assert!(rt; are_right);
+    }
     Ok(())
 }
 
 #[test]
 fn lists_follow_a_thousand_changes(rt: HostRuntime) -> Result<(), Fail> {
-    let alloc = rt.alloc();
-    let mut tree = ample!(Tree::empty(alloc), AllocError)?;
-    for number in 0..1000u32 {
-        ample!(relink(alloc, &mut tree, number), AllocError)?;
-        if number % 10 == 9 {
-            assert!(rt; ample!(are_all_of_each(alloc, &tree), AllocError)?);
-        }
-    }
-    Ok(())
+    let mut tree = ample!(Tree::empty(rt.alloc()), AllocError)?;
+    assert_lists_follow(&rt, rt.alloc(), &mut tree)
 }

@@ -39,7 +39,7 @@ fn unit(alloc: Global, text: &[u8]) -> Result<UnitName, AllocError> {
 }
 
 /// Whether the paths have these texts.
-fn have_texts(paths: &[TreePath], texts: &[&[u8]]) -> bool {
+pub(crate) fn have_texts(paths: &[TreePath], texts: &[&[u8]]) -> bool {
     let mut at = 0;
     for path in paths {
         match texts.get(at) {
@@ -210,16 +210,24 @@ pub(crate) fn relink(alloc: Global, tree: &mut Tree, number: u32) -> Result<(), 
     set(alloc, tree, &at, &target)
 }
 
+/// Makes a change that may find no memory: the tree and its lists are then as they were, and the change is made again.
+fn assert_relinked(rt: &impl Abort, alloc: Global, tree: &mut Tree) -> Result<(), AllocError> {
+    let entries = tree.len();
+    if let Err(AllocError) = relink(alloc, tree, 0) {
+        assert_eq!(rt; tree.len(), entries);
+        let are_all = ample!(are_all_of_each(alloc, tree), AllocError)?;
+        assert!(rt; are_all);
+        ample!(relink(alloc, tree, 0), AllocError)?;
+    }
+    let are_all = ample!(are_all_of_each(alloc, tree), AllocError)?;
+    assert!(rt; are_all);
+    Ok(())
+}
+
 #[test]
 fn lists_are_as_before_where_memory_runs_out(rt: HostRuntime) -> Result<(), Fail> {
     let alloc = rt.alloc();
     let mut tree = ample!(read(alloc, LINKS), AllocError)?;
-    let entries = tree.len();
-    if let Err(AllocError) = relink(alloc, &mut tree, 0) {
-        assert_eq!(rt; tree.len(), entries);
-        assert!(rt; ample!(are_all_of_each(alloc, &tree), AllocError)?);
-        ample!(relink(alloc, &mut tree, 0), AllocError)?;
-    }
-    assert!(rt; ample!(are_all_of_each(alloc, &tree), AllocError)?);
+    assert_relinked(&rt, alloc, &mut tree)?;
     Ok(())
 }

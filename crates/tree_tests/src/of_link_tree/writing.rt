@@ -69,9 +69,11 @@ fn long_file(alloc: Global) -> Result<Vec<u8>, AllocError> {
     Ok(text)
 }
 
-fn read(alloc: Global, text: &[u8]) -> Result<Tree, InventoryError> {
-    let mut bytes = text;
-    read_inventory(alloc, &mut FromRead::new(&mut bytes))
+fn read(alloc: Global, text: &[u8]) -> Result<Tree, AllocError> {
+    match read_inventory(alloc, &mut FromRead::new(text)) {
+        Ok(tree) => Ok(tree),
+        Err(_) => Err(AllocError),
+    }
 }
 
 /// What is written into a list, which takes all but for want of memory.
@@ -83,13 +85,23 @@ fn written(alloc: Global, before: &[u8], tree: &Tree) -> Result<Vec<u8>, AllocEr
     }
 }
 
+/// Whether an inventory is written as it was read, behind another text.
+fn is_written_behind(alloc: Global, before: &[u8], text: &[u8]) -> Result<bool, AllocError> {
+    let tree = read(alloc, text)?;
+    let written = written(alloc, before, &tree)?;
+    Ok(written.strip_prefix(before) == Some(text))
+}
+
+fn long_file_is_written_behind(alloc: Global, before: &[u8]) -> Result<bool, AllocError> {
+    let text = long_file(alloc)?;
+    is_written_behind(alloc, before, &text)
+}
+
 #[test]
 fn a_long_file_is_written_behind_a_text(rt: HostRuntime) -> Result<(), Fail> {
-    let alloc = rt.alloc();
-    let text = ample!(long_file(alloc), AllocError)?;
-    let tree = ample!(read(alloc, &text), InventoryError::OutOfMemory)?;
-    let written = ample!(written(alloc, b"== tree\n", &tree), AllocError)?;
-    assert!(rt; written.strip_prefix(b"== tree\n") == Some(text.as_slice()));
+    let before = b"== tree\n";
+    let is_written = ample!(long_file_is_written_behind(rt.alloc(), before), AllocError)?;
+    assert!(rt; is_written);
     Ok(())
 }
 
@@ -128,16 +140,32 @@ fn same_entries(one: &Tree, other: &Tree) -> u32 {
     count
 }
 
+/// How many entries there are before and after a change that fills a slot, whether its entry stands after it alone, and how many entries a
+/// copy shares with the changed tree.
+fn told_of_filling(tree: &Tree, change: &Change) -> Result<(usize, usize, bool, u32), AllocError> {
+    let Some(changed) = filled(tree, change)? else {
+        return Ok((tree.len(), 0, false, 0));
+    };
+    let copy = changed.copy()?;
+    let is_new = changed.get(&change.path).is_some() && tree.get(&change.path).is_none();
+    Ok((
+        tree.len(),
+        changed.len(),
+        is_new,
+        same_entries(&copy, &changed),
+    ))
+}
+
+fn told_of_an_alias(alloc: Global) -> Result<(usize, usize, bool, u32), Fail> {
+    let change = alias(alloc)?;
+    let tree = entries(alloc)?;
+    Ok(ample!(told_of_filling(&tree, &change), AllocError)?)
+}
+
 #[test]
 fn trees_change_at_slots(rt: HostRuntime) -> Result<(), Fail> {
-    let change = alias(rt.alloc())?;
-    let tree = entries(rt.alloc())?;
-    let changed = ample!(filled(&tree, &change), AllocError)?.ok_or("the slot is empty")?;
-    assert_eq!(rt; tree.len(), 3);
-    assert_eq!(rt; changed.len(), 4);
-    assert!(rt; changed.get(&change.path).is_some() && tree.get(&change.path).is_none());
-    let copy = ample!(changed.copy(), AllocError)?;
-    assert_eq!(rt; same_entries(&copy, &changed), 4);
+    let told = told_of_an_alias(rt.alloc())?;
+    assert_eq!(rt; told, (3, 4, true, 4));
     Ok(())
 }
 

@@ -1,130 +1,164 @@
 //! Chains of links.
 use super::trees::{
-    Row, assert_cells, assert_dangling, assert_ends_at_link, assert_file, assert_unit, followed,
-    found, led, put_all, tree,
+    Leads, Row, Wanted, assert_finds, assert_leads, assert_looks_at, count_leading,
+    count_looked_at, is_led,
 };
-use link_tree::{FromRead, InventoryError, Place, Tree, read_inventory};
-use load_path::End;
-use std::alloc::Global;
+use link_tree::{FromRead, Place, Tree, read_inventory};
+use std::alloc::{AllocError, Global};
 use std::test::Fail;
 use unit_name::ample;
 
 const UNIT: &[u8] = b"[Unit]\n";
 
 /// Nine links, the first at `a1.service`, of which the last leads to a file at `ae.service`.
-fn nine_links(alloc: Global) -> Result<Tree, Fail> {
-    let mut tree = tree(alloc, &[Row::File(Place::Etc, b"ae.service", UNIT)])?;
-    let mut name = *b"a1.service";
-    let mut target = *b"a2.service";
-    for (from, to) in b"123456789".iter().zip(b"23456789e") {
-        name[1] = *from;
-        target[1] = *to;
-        put_all(alloc, &mut tree, &[Row::Link(Place::Etc, &name, &target)])?;
-    }
-    Ok(tree)
-}
+const NINE_LINKS: [Row; 10] = [
+    Row::File(Place::Etc, b"ae.service", UNIT),
+    Row::Link(Place::Etc, b"a1.service", b"a2.service"),
+    Row::Link(Place::Etc, b"a2.service", b"a3.service"),
+    Row::Link(Place::Etc, b"a3.service", b"a4.service"),
+    Row::Link(Place::Etc, b"a4.service", b"a5.service"),
+    Row::Link(Place::Etc, b"a5.service", b"a6.service"),
+    Row::Link(Place::Etc, b"a6.service", b"a7.service"),
+    Row::Link(Place::Etc, b"a7.service", b"a8.service"),
+    Row::Link(Place::Etc, b"a8.service", b"a9.service"),
+    Row::Link(Place::Etc, b"a9.service", b"ae.service"),
+];
+
+/// The same, but the last leads to `/dev/null`.
+const NINE_LINKS_TO_NULL: [Row; 10] = [
+    Row::File(Place::Etc, b"ae.service", UNIT),
+    Row::Link(Place::Etc, b"a1.service", b"a2.service"),
+    Row::Link(Place::Etc, b"a2.service", b"a3.service"),
+    Row::Link(Place::Etc, b"a3.service", b"a4.service"),
+    Row::Link(Place::Etc, b"a4.service", b"a5.service"),
+    Row::Link(Place::Etc, b"a5.service", b"a6.service"),
+    Row::Link(Place::Etc, b"a6.service", b"a7.service"),
+    Row::Link(Place::Etc, b"a7.service", b"a8.service"),
+    Row::Link(Place::Etc, b"a8.service", b"a9.service"),
+    Row::Link(Place::Etc, b"a9.service", b"/dev/null"),
+];
+
+const EIGHTH: &[u8] = b"/etc/systemd/system/a8.service";
+
+const FILE: &[u8] = b"/etc/systemd/system/ae.service";
+
+const FOUND_FROM_SECOND: [(&[u8], Wanted); 1] = [(
+    b"a2.service",
+    Wanted::Unit(b"ae.service", FILE, Place::Etc),
+)];
+
+const LED_FROM_SECOND: [(&[u8], Leads, usize); 1] = [(
+    b"/etc/systemd/system/a2.service",
+    Leads::File(FILE),
+    9,
+)];
 
 #[test]
 fn eight_links_are_followed(rt: HostRuntime) -> Result<(), Fail> {
-    let tree = nine_links(rt.alloc())?;
-    let file = b"/etc/systemd/system/ae.service";
-    let look = found(rt.alloc(), &tree, b"a2.service")?;
-    assert_unit(&rt, &look, b"ae.service", file, Place::Etc);
-    assert_eq!(rt; look.cells.as_slice().len(), 9);
-    let trail = followed(rt.alloc(), &tree, b"/etc/systemd/system/a2.service")?;
-    assert_file(&rt, &trail, file);
-    Ok(())
+    let alloc = rt.alloc();
+    assert_finds(&rt, alloc, &NINE_LINKS, &FOUND_FROM_SECOND)?;
+    let count = ample!(
+        count_looked_at(alloc, &NINE_LINKS, b"a2.service"),
+        AllocError
+    )?;
+    assert_eq!(rt; count, 9);
+    assert_leads(&rt, alloc, &NINE_LINKS, &LED_FROM_SECOND)
 }
 
 #[test]
 fn the_path_of_an_entry_is_no_cell(rt: HostRuntime) -> Result<(), Fail> {
-    let tree = nine_links(rt.alloc())?;
-    let led = led(rt.alloc(), &tree, b"/etc/systemd/system/a8.service")?;
-    let (link, file) = (
-        b"/etc/systemd/system/a9.service",
-        b"/etc/systemd/system/ae.service",
-    );
-    assert_cells(&rt, &led, &[link, file]);
+    let paths: [&[u8]; 2] = [b"/etc/systemd/system/a9.service", FILE];
+    let is_led = ample!(is_led(rt.alloc(), &NINE_LINKS, EIGHTH, &paths), AllocError)?;
+    assert!(rt; is_led);
     Ok(())
 }
+
+const FOUND_FROM_FIRST: [(&[u8], Wanted); 1] = [(b"a1.service", Wanted::Dangling(EIGHTH))];
+
+const LED_FROM_FIRST: [(&[u8], Leads, usize); 1] = [(
+    b"/etc/systemd/system/a1.service",
+    Leads::Dangling(EIGHTH),
+    9,
+)];
 
 #[test]
 fn a_ninth_link_is_not_followed(rt: HostRuntime) -> Result<(), Fail> {
-    let tree = nine_links(rt.alloc())?;
-    let eighth = b"/etc/systemd/system/a8.service";
-    let look = found(rt.alloc(), &tree, b"a1.service")?;
-    assert_dangling(&rt, &look, eighth);
-    let trail = followed(rt.alloc(), &tree, b"/etc/systemd/system/a1.service")?;
-    assert_ends_at_link(&rt, &trail, eighth);
-    assert_eq!(rt; trail.cells.as_slice().len(), 9);
-    Ok(())
+    assert_finds(&rt, rt.alloc(), &NINE_LINKS, &FOUND_FROM_FIRST)?;
+    assert_leads(&rt, rt.alloc(), &NINE_LINKS, &LED_FROM_FIRST)
 }
+
+const LED_TO_NULL: [(&[u8], Leads, usize); 2] = [
+    (
+        b"/etc/systemd/system/a1.service",
+        Leads::Dangling(EIGHTH),
+        9,
+    ),
+    (b"/etc/systemd/system/a2.service", Leads::Null, 8),
+];
 
 #[test]
 fn a_ninth_link_to_dev_null_is_not_followed(rt: HostRuntime) -> Result<(), Fail> {
-    let mut tree = nine_links(rt.alloc())?;
-    let null = Row::Link(Place::Etc, b"a9.service", b"/dev/null");
-    put_all(rt.alloc(), &mut tree, &[null])?;
-    let trail = followed(rt.alloc(), &tree, b"/etc/systemd/system/a1.service")?;
-    assert_ends_at_link(&rt, &trail, b"/etc/systemd/system/a8.service");
-    let trail = followed(rt.alloc(), &tree, b"/etc/systemd/system/a2.service")?;
-    assert!(rt; matches!(trail.end, End::Null));
-    Ok(())
+    assert_leads(&rt, rt.alloc(), &NINE_LINKS_TO_NULL, &LED_TO_NULL)
 }
+
+/// Two links that lead to one another.
+const ROUND: [Row; 2] = [
+    Row::Link(Place::Etc, b"a.service", b"b.service"),
+    Row::Link(Place::Etc, b"b.service", b"a.service"),
+];
+
+const FOUND_ROUND: [(&[u8], Wanted); 1] = [(
+    b"a.service",
+    Wanted::Dangling(b"/etc/systemd/system/b.service"),
+)];
+
+const LOOKED_AT_ROUND: [&[u8]; 2] = [
+    b"/etc/systemd/system/a.service",
+    b"/etc/systemd/system/b.service",
+];
 
 #[test]
 fn links_may_go_round(rt: HostRuntime) -> Result<(), Fail> {
-    let alloc = rt.alloc();
-    let tree = tree(
-        alloc,
-        &[
-            Row::Link(Place::Etc, b"a.service", b"b.service"),
-            Row::Link(Place::Etc, b"b.service", b"a.service"),
-        ],
-    )?;
-    let look = found(alloc, &tree, b"a.service")?;
-    assert_dangling(&rt, &look, b"/etc/systemd/system/b.service");
-    assert_cells(
-        &rt,
-        &look.cells,
-        &[
-            b"/etc/systemd/system/a.service",
-            b"/etc/systemd/system/b.service",
-        ],
-    );
-    Ok(())
+    assert_finds(&rt, rt.alloc(), &ROUND, &FOUND_ROUND)?;
+    assert_looks_at(&rt, rt.alloc(), &ROUND, b"a.service", &LOOKED_AT_ROUND)
 }
 
-fn read(alloc: Global, input: &[u8]) -> Result<Tree, InventoryError> {
-    let mut bytes = input;
-    ample!(
-        {
-            bytes = input;
-            read_inventory(alloc, &mut FromRead::new(&mut bytes))
-        },
-        InventoryError::OutOfMemory
-    )
+/// Links at paths that are no unit's, to a unit's file.
+const ANYWHERE: &[u8] = b"unitadm-inventory 1
+L\t/lib/systemd/system/b.service\ta.service
+L\t/opt/a\t/lib/systemd/system/a.service
+L\t/opt/b\t/
+F\t7\t/usr/lib/systemd/system/a.service
+[Unit]
+
+end
+";
+
+const UNIT_FILE: &[u8] = b"/usr/lib/systemd/system/a.service";
+
+const LED_FROM_ANYWHERE: [(&[u8], Leads, usize); 5] = [
+    (b"/opt/a", Leads::File(UNIT_FILE), 2),
+    (b"/lib/systemd/system/b.service", Leads::File(UNIT_FILE), 2),
+    (UNIT_FILE, Leads::File(UNIT_FILE), 1),
+    (b"/opt/b", Leads::Dangling(b"/opt/b"), 1),
+    (b"/lib/systemd/system/a.service", Leads::Missing, 1),
+];
+
+fn anywhere(alloc: Global) -> Result<Tree, AllocError> {
+    match read_inventory(alloc, &mut FromRead::new(ANYWHERE)) {
+        Ok(tree) => Ok(tree),
+        Err(_) => Err(AllocError),
+    }
+}
+
+fn count_leading_from_anywhere(alloc: Global) -> Result<usize, AllocError> {
+    let tree = anywhere(alloc)?;
+    count_leading(alloc, &tree, &LED_FROM_ANYWHERE)
 }
 
 #[test]
 fn any_path_is_followed(rt: HostRuntime) -> Result<(), Fail> {
-    let alloc = rt.alloc();
-    let mut tree = read(
-        alloc,
-        b"unitadm-inventory 1\nL\t/lib/systemd/system/b.service\ta.service\nL\t/opt/a\t/lib/systemd/system/a.service\nL\t/opt/b\t/\nend\n",
-    )?;
-    put_all(
-        alloc,
-        &mut tree,
-        &[Row::File(Place::Vendor, b"a.service", UNIT)],
-    )?;
-    let file = b"/usr/lib/systemd/system/a.service";
-    for path in [b"/opt/a".as_slice(), b"/lib/systemd/system/b.service", file] {
-        assert_file(&rt, &followed(alloc, &tree, path)?, file);
-    }
-    assert_ends_at_link(&rt, &followed(alloc, &tree, b"/opt/b")?, b"/opt/b");
-    let trail = followed(alloc, &tree, b"/lib/systemd/system/a.service")?;
-    assert!(rt; matches!(trail.end, End::Missing));
-    assert_cells(&rt, &trail.cells, &[b"/lib/systemd/system/a.service"]);
+    let count = ample!(count_leading_from_anywhere(rt.alloc()), AllocError)?;
+    assert_eq!(rt; count, LED_FROM_ANYWHERE.len());
     Ok(())
 }

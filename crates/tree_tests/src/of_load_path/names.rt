@@ -1,5 +1,5 @@
 //! Aliases, and the files that are no unit's.
-use super::trees::{Row, assert_dangling, assert_unit, found, named, tree};
+use super::trees::{Row, Wanted, assert_finds, count_looked_at, named};
 use link_tree::Place;
 use load_path::put_in;
 use std::alloc::{AllocError, Global};
@@ -8,137 +8,163 @@ use unit_name::{Kind, UnitName, ample};
 
 const UNIT: &[u8] = b"[Unit]\n";
 
-#[test]
-fn aliases_lead_to_units(rt: HostRuntime) -> Result<(), Fail> {
-    let alloc = rt.alloc();
-    let tree = tree(
-        alloc,
-        &[
-            Row::File(Place::Vendor, b"a.service", UNIT),
-            Row::File(Place::Vendor, b"t@.service", UNIT),
-            Row::File(Place::Vendor, b"t@x.service", UNIT),
-            Row::Link(Place::Etc, b"b.service", b"/lib/systemd/system/a.service"),
-            Row::Link(
-                Place::Etc,
-                b"u@.service",
-                b"/usr/lib/systemd/system/t@.service",
-            ),
-            Row::Link(
-                Place::Etc,
-                b"u@x.service",
-                b"/usr/lib/systemd/system/t@x.service",
-            ),
-            Row::Link(
-                Place::Run,
-                b"v@x.service",
-                b"/usr/lib/systemd/system/t@.service",
-            ),
-        ],
-    )?;
-    let units: [(&[u8], &[u8], &[u8], Place); 6] = [
-        (
-            b"b.service",
+const ALIASES: [Row; 7] = [
+    Row::File(Place::Vendor, b"a.service", UNIT),
+    Row::File(Place::Vendor, b"t@.service", UNIT),
+    Row::File(Place::Vendor, b"t@x.service", UNIT),
+    Row::Link(Place::Etc, b"b.service", b"/lib/systemd/system/a.service"),
+    Row::Link(
+        Place::Etc,
+        b"u@.service",
+        b"/usr/lib/systemd/system/t@.service",
+    ),
+    Row::Link(
+        Place::Etc,
+        b"u@x.service",
+        b"/usr/lib/systemd/system/t@x.service",
+    ),
+    Row::Link(
+        Place::Run,
+        b"v@x.service",
+        b"/usr/lib/systemd/system/t@.service",
+    ),
+];
+
+const UNITS: [(&[u8], Wanted); 6] = [
+    (
+        b"b.service",
+        Wanted::Unit(
             b"a.service",
             b"/usr/lib/systemd/system/a.service",
             Place::Etc,
         ),
-        (
-            b"u@.service",
+    ),
+    (
+        b"u@.service",
+        Wanted::Unit(
             b"t@.service",
             b"/usr/lib/systemd/system/t@.service",
             Place::Etc,
         ),
-        (
-            b"u@x.service",
+    ),
+    (
+        b"u@x.service",
+        Wanted::Unit(
             b"t@x.service",
             b"/usr/lib/systemd/system/t@x.service",
             Place::Etc,
         ),
-        (
-            b"u@y.service",
+    ),
+    (
+        b"u@y.service",
+        Wanted::Unit(
             b"t@y.service",
             b"/usr/lib/systemd/system/t@.service",
             Place::Etc,
         ),
-        (
-            b"v@x.service",
+    ),
+    (
+        b"v@x.service",
+        Wanted::Unit(
             b"t@x.service",
             b"/usr/lib/systemd/system/t@.service",
             Place::Run,
         ),
-        (
-            b"t@a@b.service",
+    ),
+    (
+        b"t@a@b.service",
+        Wanted::Unit(
             b"t@a@b.service",
             b"/usr/lib/systemd/system/t@.service",
             Place::Vendor,
         ),
-    ];
-    for (name, real, file, place) in units {
-        assert_unit(&rt, &found(alloc, &tree, name)?, real, file, place);
-    }
-    Ok(())
+    ),
+];
+
+#[test]
+fn aliases_lead_to_units(rt: HostRuntime) -> Result<(), Fail> {
+    assert_finds(&rt, rt.alloc(), &ALIASES, &UNITS)
 }
+
+const OTHER_FILES: [Row; 10] = [
+    Row::File(Place::Vendor, b"a.service", UNIT),
+    Row::File(Place::Vendor, b"t@.service", UNIT),
+    Row::File(Place::Vendor, b"t@x.service", UNIT),
+    Row::Link(
+        Place::Etc,
+        b"a.socket",
+        b"/usr/lib/systemd/system/a.service",
+    ),
+    Row::Link(
+        Place::Etc,
+        b"b.service",
+        b"/usr/lib/systemd/system/t@.service",
+    ),
+    Row::Link(
+        Place::Etc,
+        b"c.service",
+        b"/usr/lib/systemd/system/t@x.service",
+    ),
+    Row::Link(
+        Place::Etc,
+        b"d@.service",
+        b"/usr/lib/systemd/system/a.service",
+    ),
+    Row::Link(
+        Place::Etc,
+        b"e@.service",
+        b"/usr/lib/systemd/system/t@x.service",
+    ),
+    Row::Link(
+        Place::Etc,
+        b"f@x.service",
+        b"/usr/lib/systemd/system/a.service",
+    ),
+    Row::Link(
+        Place::Etc,
+        b"g@y.service",
+        b"/usr/lib/systemd/system/t@x.service",
+    ),
+];
+
+const NO_UNITS: [(&[u8], Wanted); 8] = [
+    (
+        b"a.socket",
+        Wanted::Dangling(b"/etc/systemd/system/a.socket"),
+    ),
+    (
+        b"b.service",
+        Wanted::Dangling(b"/etc/systemd/system/b.service"),
+    ),
+    (
+        b"c.service",
+        Wanted::Dangling(b"/etc/systemd/system/c.service"),
+    ),
+    (
+        b"d@.service",
+        Wanted::Dangling(b"/etc/systemd/system/d@.service"),
+    ),
+    (
+        b"e@.service",
+        Wanted::Dangling(b"/etc/systemd/system/e@.service"),
+    ),
+    (
+        b"f@x.service",
+        Wanted::Dangling(b"/etc/systemd/system/f@x.service"),
+    ),
+    (
+        b"g@y.service",
+        Wanted::Dangling(b"/etc/systemd/system/g@y.service"),
+    ),
+    (
+        b"d@x.service",
+        Wanted::Dangling(b"/etc/systemd/system/d@.service"),
+    ),
+];
 
 #[test]
 fn other_files_are_no_units(rt: HostRuntime) -> Result<(), Fail> {
-    let alloc = rt.alloc();
-    let tree = tree(
-        alloc,
-        &[
-            Row::File(Place::Vendor, b"a.service", UNIT),
-            Row::File(Place::Vendor, b"t@.service", UNIT),
-            Row::File(Place::Vendor, b"t@x.service", UNIT),
-            Row::Link(
-                Place::Etc,
-                b"a.socket",
-                b"/usr/lib/systemd/system/a.service",
-            ),
-            Row::Link(
-                Place::Etc,
-                b"b.service",
-                b"/usr/lib/systemd/system/t@.service",
-            ),
-            Row::Link(
-                Place::Etc,
-                b"c.service",
-                b"/usr/lib/systemd/system/t@x.service",
-            ),
-            Row::Link(
-                Place::Etc,
-                b"d@.service",
-                b"/usr/lib/systemd/system/a.service",
-            ),
-            Row::Link(
-                Place::Etc,
-                b"e@.service",
-                b"/usr/lib/systemd/system/t@x.service",
-            ),
-            Row::Link(
-                Place::Etc,
-                b"f@x.service",
-                b"/usr/lib/systemd/system/a.service",
-            ),
-            Row::Link(
-                Place::Etc,
-                b"g@y.service",
-                b"/usr/lib/systemd/system/t@x.service",
-            ),
-        ],
-    )?;
-    let names: [(&[u8], &[u8]); 8] = [
-        (b"a.socket", b"/etc/systemd/system/a.socket"),
-        (b"b.service", b"/etc/systemd/system/b.service"),
-        (b"c.service", b"/etc/systemd/system/c.service"),
-        (b"d@.service", b"/etc/systemd/system/d@.service"),
-        (b"e@.service", b"/etc/systemd/system/e@.service"),
-        (b"f@x.service", b"/etc/systemd/system/f@x.service"),
-        (b"g@y.service", b"/etc/systemd/system/g@y.service"),
-        (b"d@x.service", b"/etc/systemd/system/d@.service"),
-    ];
-    for (name, link) in names {
-        assert_dangling(&rt, &found(alloc, &tree, name)?, link);
-    }
-    Ok(())
+    assert_finds(&rt, rt.alloc(), &OTHER_FILES, &NO_UNITS)
 }
 
 #[test]
@@ -149,16 +175,14 @@ fn a_name_that_would_be_too_long_is_none(rt: HostRuntime) -> Result<(), Fail> {
     let mut name = [b'b'; 255];
     name[..2].copy_from_slice(b"u@");
     name[247..].copy_from_slice(b".service");
-    let tree = tree(
-        alloc,
-        &[
-            Row::File(Place::Etc, &template, UNIT),
-            Row::Link(Place::Etc, b"u@.service", &template),
-        ],
-    )?;
-    let look = found(alloc, &tree, &name)?;
-    assert_dangling(&rt, &look, b"/etc/systemd/system/u@.service");
-    assert_eq!(rt; look.cells.as_slice().len(), 6);
+    let rows = [
+        Row::File(Place::Etc, &template, UNIT),
+        Row::Link(Place::Etc, b"u@.service", &template),
+    ];
+    let wanted = Wanted::Dangling(b"/etc/systemd/system/u@.service");
+    assert_finds(&rt, alloc, &rows, &[(&name, wanted)])?;
+    let count = ample!(count_looked_at(alloc, &rows, &name), AllocError)?;
+    assert_eq!(rt; count, 6);
     Ok(())
 }
 
@@ -174,9 +198,21 @@ fn instance_of(
     }
 }
 
+/// Whether the template with this put in is the instance of this name, or none.
+fn is_instance(
+    alloc: Global,
+    instance: Option<&[u8]>,
+    text: Option<&[u8]>,
+) -> Result<bool, AllocError> {
+    let template = named(alloc, b"t@.service")?;
+    match instance_of(alloc, &template, instance)? {
+        Some(name) => Ok(text == Some(name.text())),
+        None => Ok(text.is_none()),
+    }
+}
+
 #[test]
 fn templates_take_instances(rt: HostRuntime) -> Result<(), Fail> {
-    let alloc = rt.alloc();
     let long = [b'x'; 246];
     let put: [(Option<&[u8]>, Option<&[u8]>); 6] = [
         (Some(b"tty1"), Some(b"t@tty1.service")),
@@ -186,10 +222,9 @@ fn templates_take_instances(rt: HostRuntime) -> Result<(), Fail> {
         (Some(&long), None),
         (None, None),
     ];
-    let template = named(alloc, b"t@.service")?;
     for (instance, text) in put {
-        let name = ample!(instance_of(alloc, &template, instance), AllocError)?;
-        assert_eq!(rt; name.as_ref().map(|name| name.text()), text);
+        let is_instance = ample!(is_instance(rt.alloc(), instance, text), AllocError)?;
+        assert!(rt; is_instance);
     }
     Ok(())
 }

@@ -1,10 +1,11 @@
 //! Trees of units, and what is found in them.
-use link_tree::{Entry, FileError, PathError, Place, TargetError, Tree, TreePath};
-use load_path::{Cells, End, Found, Look, Trail, find, follow, follow_entry_into};
+use crate::of_link_tree::names::have_texts;
+use link_tree::{Entry, Place, Tree, TreePath};
+use load_path::{Cells, End, Found, find, follow, follow_entry_into};
 use std::alloc::{AllocError, Global};
 use std::process::Abort;
 use std::test::Fail;
-use unit_name::{NameError, UnitName, ample};
+use unit_name::{UnitName, ample};
 
 /// An entry in a directory of units, under a name.
 #[derive(Clone, Copy)]
@@ -13,8 +14,51 @@ pub(crate) enum Row<'a> {
     Link(Place, &'a [u8], &'a [u8]),
 }
 
-pub(crate) fn named(alloc: Global, text: &[u8]) -> Result<UnitName, NameError> {
-    ample!(UnitName::parse(alloc, text), NameError::OutOfMemory)
+/// What is to be found under a name.
+#[derive(Clone, Copy)]
+pub(crate) enum Wanted<'a> {
+    /// The unit of this name, in this file, and where the entry stands.
+    Unit(&'a [u8], &'a [u8], Place),
+    Masked(Place),
+    Dangling(&'a [u8]),
+    Missing,
+}
+
+/// Where a path is to lead.
+#[derive(Clone, Copy)]
+pub(crate) enum Leads<'a> {
+    File(&'a [u8]),
+    Dangling(&'a [u8]),
+    Null,
+    Missing,
+}
+
+pub(crate) fn named(alloc: Global, text: &[u8]) -> Result<UnitName, AllocError> {
+    match UnitName::parse(alloc, text) {
+        Ok(name) => Ok(name),
+        Err(_) => Err(AllocError),
+    }
+}
+
+fn path(alloc: Global, text: &[u8]) -> Result<TreePath, AllocError> {
+    match TreePath::parse(alloc, text) {
+        Ok(path) => Ok(path),
+        Err(_) => Err(AllocError),
+    }
+}
+
+fn file(alloc: Global, bytes: &[u8]) -> Result<Entry, AllocError> {
+    match Entry::file(alloc, bytes) {
+        Ok(file) => Ok(file),
+        Err(_) => Err(AllocError),
+    }
+}
+
+fn link(alloc: Global, target: &[u8]) -> Result<Entry, AllocError> {
+    match Entry::link(alloc, target) {
+        Ok(link) => Ok(link),
+        Err(_) => Err(AllocError),
+    }
 }
 
 fn put(
@@ -22,111 +66,219 @@ fn put(
     tree: &mut Tree,
     place: Place,
     name: &[u8],
-    entry: &Entry,
-) -> Result<(), Fail> {
+    entry: Entry,
+) -> Result<(), AllocError> {
     let name = named(alloc, name)?;
-    let slot = ample!(place.slot(alloc, &name), AllocError)?;
-    ample!(
-        {
-            let entry = ample!(entry.copy(), AllocError)?;
-            tree.set(&slot, Some(entry))
-        },
-        AllocError
-    )?;
-    Ok(())
+    let slot = place.slot(alloc, &name)?;
+    tree.set(&slot, Some(entry))
 }
 
-pub(crate) fn put_all(alloc: Global, tree: &mut Tree, rows: &[Row]) -> Result<(), Fail> {
-    for row in rows {
-        match row {
-            Row::File(place, name, bytes) => {
-                let file = ample!(Entry::file(alloc, bytes), FileError::OutOfMemory)?;
-                put(alloc, tree, *place, name, &file)?;
-            }
-            Row::Link(place, name, target) => {
-                let link = ample!(Entry::link(alloc, target), TargetError::OutOfMemory)?;
-                put(alloc, tree, *place, name, &link)?;
-            }
-        }
+fn put_row(alloc: Global, tree: &mut Tree, row: &Row) -> Result<(), AllocError> {
+    match *row {
+        Row::File(place, name, bytes) => put(alloc, tree, place, name, file(alloc, bytes)?),
+        Row::Link(place, name, target) => put(alloc, tree, place, name, link(alloc, target)?),
     }
-    Ok(())
 }
 
-pub(crate) fn tree(alloc: Global, rows: &[Row]) -> Result<Tree, Fail> {
-    let mut tree = ample!(Tree::empty(alloc), AllocError)?;
-    put_all(alloc, &mut tree, rows)?;
+fn tree(alloc: Global, rows: &[Row]) -> Result<Tree, AllocError> {
+    let mut tree = Tree::empty(alloc)?;
+    for row in rows {
+        put_row(alloc, &mut tree, row)?;
+    }
     Ok(tree)
 }
 
-pub(crate) fn found(alloc: Global, tree: &Tree, name: &[u8]) -> Result<Look, Fail> {
-    let name = named(alloc, name)?;
-    Ok(ample!(find(alloc, tree, &name), AllocError)?)
+fn is_unit(found: &Found, unit: &[u8], path: &[u8], at: Place) -> bool {
+    match found {
+        Found::Unit { real, file, place } => {
+            real.text() == unit && file.text() == path && *place == at
+        }
+        _ => false,
+    }
 }
 
-pub(crate) fn followed(alloc: Global, tree: &Tree, path: &[u8]) -> Result<Trail, Fail> {
-    let path = ample!(TreePath::parse(alloc, path), PathError::OutOfMemory)?;
-    Ok(ample!(follow(alloc, tree, &path), AllocError)?)
+fn is_masked(found: &Found, at: Place) -> bool {
+    match found {
+        Found::Masked(place) => *place == at,
+        _ => false,
+    }
+}
+
+fn is_dangling(found: &Found, path: &[u8]) -> bool {
+    match found {
+        Found::Dangling(link) => link.text() == path,
+        _ => false,
+    }
+}
+
+fn is_wanted(found: &Found, wanted: Wanted) -> bool {
+    match wanted {
+        Wanted::Unit(unit, path, at) => is_unit(found, unit, path, at),
+        Wanted::Masked(at) => is_masked(found, at),
+        Wanted::Dangling(path) => is_dangling(found, path),
+        Wanted::Missing => matches!(found, Found::Missing),
+    }
+}
+
+fn finds(alloc: Global, tree: &Tree, name: &[u8], wanted: Wanted) -> Result<bool, AllocError> {
+    let name = named(alloc, name)?;
+    let look = find(alloc, tree, &name)?;
+    Ok(is_wanted(&look.found, wanted))
+}
+
+/// How many names there are before the first under which something else is found than is wanted.
+fn count_found(
+    alloc: Global,
+    rows: &[Row],
+    names: &[(&[u8], Wanted)],
+) -> Result<usize, AllocError> {
+    let tree = tree(alloc, rows)?;
+    let mut count = 0usize;
+    for (name, wanted) in names {
+        if !finds(alloc, &tree, name, *wanted)? {
+            break;
+        }
+        count = count.saturating_add(1);
+    }
+    Ok(count)
+}
+
+/// Looks names up in a tree of these entries.
+pub(crate) fn assert_finds(
+    rt: &impl Abort,
+    alloc: Global,
+    rows: &[Row],
+    names: &[(&[u8], Wanted)],
+) -> Result<(), Fail> {
+    let count = ample!(count_found(alloc, rows, names), AllocError)?;
+    assert_eq!(rt; count, names.len());
+    Ok(())
+}
+
+/// The paths that are looked at for a name.
+fn looked_at(alloc: Global, rows: &[Row], name: &[u8]) -> Result<Cells, AllocError> {
+    let tree = tree(alloc, rows)?;
+    let name = named(alloc, name)?;
+    Ok(find(alloc, &tree, &name)?.cells)
+}
+
+fn looks_at(alloc: Global, rows: &[Row], name: &[u8], paths: &[&[u8]]) -> Result<bool, AllocError> {
+    let cells = looked_at(alloc, rows, name)?;
+    Ok(have_texts(cells.as_slice(), paths))
+}
+
+/// The paths that are looked at for a name are these.
+pub(crate) fn assert_looks_at(
+    rt: &impl Abort,
+    alloc: Global,
+    rows: &[Row],
+    name: &[u8],
+    paths: &[&[u8]],
+) -> Result<(), Fail> {
+    let looks_at = ample!(looks_at(alloc, rows, name, paths), AllocError)?;
+    assert!(rt; looks_at);
+    Ok(())
+}
+
+/// How many paths are looked at for a name.
+pub(crate) fn count_looked_at(
+    alloc: Global,
+    rows: &[Row],
+    name: &[u8],
+) -> Result<usize, AllocError> {
+    let cells = looked_at(alloc, rows, name)?;
+    Ok(cells.as_slice().len())
+}
+
+fn is_end(end: &End, leads: Leads) -> bool {
+    match (end, leads) {
+        (End::File(path), Leads::File(text)) => path.text() == text,
+        (End::Dangling(path), Leads::Dangling(text)) => path.text() == text,
+        (End::Null, Leads::Null) | (End::Missing, Leads::Missing) => true,
+        _ => false,
+    }
+}
+
+/// Whether so many paths are looked at, of which this is the first.
+fn begin_at(cells: &Cells, at: &[u8], count: usize) -> bool {
+    match cells.as_slice() {
+        [first, ..] => first.text() == at && cells.as_slice().len() == count,
+        [] => false,
+    }
+}
+
+fn leads_to(
+    alloc: Global,
+    tree: &Tree,
+    at: &[u8],
+    leads: Leads,
+    count: usize,
+) -> Result<bool, AllocError> {
+    let path = path(alloc, at)?;
+    let trail = follow(alloc, tree, &path)?;
+    Ok(is_end(&trail.end, leads) && begin_at(&trail.cells, at, count))
+}
+
+/// How many paths there are before the first that leads elsewhere, or past another number of paths.
+pub(crate) fn count_leading(
+    alloc: Global,
+    tree: &Tree,
+    paths: &[(&[u8], Leads, usize)],
+) -> Result<usize, AllocError> {
+    let mut leading = 0usize;
+    for (at, leads, count) in paths {
+        if !leads_to(alloc, tree, at, *leads, *count)? {
+            break;
+        }
+        leading = leading.saturating_add(1);
+    }
+    Ok(leading)
+}
+
+fn count_leading_in(
+    alloc: Global,
+    rows: &[Row],
+    paths: &[(&[u8], Leads, usize)],
+) -> Result<usize, AllocError> {
+    let tree = tree(alloc, rows)?;
+    count_leading(alloc, &tree, paths)
+}
+
+/// Follows paths in a tree of these entries, each past so many paths, itself the first.
+pub(crate) fn assert_leads(
+    rt: &impl Abort,
+    alloc: Global,
+    rows: &[Row],
+    paths: &[(&[u8], Leads, usize)],
+) -> Result<(), Fail> {
+    let count = ample!(count_leading_in(alloc, rows, paths), AllocError)?;
+    assert_eq!(rt; count, paths.len());
+    Ok(())
 }
 
 /// The paths to which the entry at a path leads, if it leads to a file.
-pub(crate) fn led(alloc: Global, tree: &Tree, path: &[u8]) -> Result<Cells, Fail> {
-    let path = ample!(TreePath::parse(alloc, path), PathError::OutOfMemory)?;
+fn led(alloc: Global, tree: &Tree, at: &[u8]) -> Result<Option<Cells>, AllocError> {
+    let path = path(alloc, at)?;
     let Some(entry) = tree.get(&path) else {
-        return Err("nothing stands there".into());
+        return Ok(None);
     };
     let mut cells = Cells::new(alloc);
-    let end = ample!(
-        follow_entry_into(alloc, tree, &path, entry, &mut cells),
-        AllocError
-    )?;
-    match end {
-        End::File(_) => Ok(cells),
-        End::Missing | End::Null | End::Dangling(_) => Err("no file".into()),
+    match follow_entry_into(alloc, tree, &path, entry, &mut cells)? {
+        End::File(_) => Ok(Some(cells)),
+        End::Missing | End::Null | End::Dangling(_) => Ok(None),
     }
 }
 
-pub(crate) fn assert_cells(rt: &impl Abort, cells: &Cells, paths: &[&[u8]]) {
-    assert_eq!(rt; cells.as_slice().len(), paths.len());
-    for (cell, path) in cells.as_slice().iter().zip(paths) {
-        assert_eq!(rt; cell.text(), *path);
-    }
-}
-
-pub(crate) fn assert_unit(rt: &impl Abort, look: &Look, unit: &[u8], path: &[u8], at: Place) {
-    match &look.found {
-        Found::Unit { real, file, place } => {
-            assert_eq!(rt; real.text(), unit);
-            assert_eq!(rt; file.text(), path);
-            assert_eq!(rt; *place, at);
-        }
-        _ => assert!(rt; false),
-    }
-}
-
-pub(crate) fn assert_masked(rt: &impl Abort, look: &Look, at: Place) {
-    match &look.found {
-        Found::Masked(place) => assert_eq!(rt; *place, at),
-        _ => assert!(rt; false),
-    }
-}
-
-pub(crate) fn assert_dangling(rt: &impl Abort, look: &Look, path: &[u8]) {
-    match &look.found {
-        Found::Dangling(link) => assert_eq!(rt; link.text(), path),
-        _ => assert!(rt; false),
-    }
-}
-
-pub(crate) fn assert_file(rt: &impl Abort, trail: &Trail, path: &[u8]) {
-    match &trail.end {
-        End::File(file) => assert_eq!(rt; file.text(), path),
-        _ => assert!(rt; false),
-    }
-}
-
-pub(crate) fn assert_ends_at_link(rt: &impl Abort, trail: &Trail, path: &[u8]) {
-    match &trail.end {
-        End::Dangling(link) => assert_eq!(rt; link.text(), path),
-        _ => assert!(rt; false),
+/// Whether the entry at a path leads to a file, past these paths.
+pub(crate) fn is_led(
+    alloc: Global,
+    rows: &[Row],
+    at: &[u8],
+    paths: &[&[u8]],
+) -> Result<bool, AllocError> {
+    let tree = tree(alloc, rows)?;
+    match led(alloc, &tree, at)? {
+        Some(cells) => Ok(have_texts(cells.as_slice(), paths)),
+        None => Ok(false),
     }
 }
