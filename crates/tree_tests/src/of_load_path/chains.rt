@@ -10,33 +10,21 @@ use unit_name::ample;
 
 const UNIT: &[u8] = b"[Unit]\n";
 
-/// Nine links, the first at `a1.service`, of which the last leads to a file at `ae.service`.
-const NINE_LINKS: [Row; 10] = [
-    Row::File(Place::Etc, b"ae.service", UNIT),
-    Row::Link(Place::Etc, b"a1.service", b"a2.service"),
-    Row::Link(Place::Etc, b"a2.service", b"a3.service"),
-    Row::Link(Place::Etc, b"a3.service", b"a4.service"),
-    Row::Link(Place::Etc, b"a4.service", b"a5.service"),
-    Row::Link(Place::Etc, b"a5.service", b"a6.service"),
-    Row::Link(Place::Etc, b"a6.service", b"a7.service"),
-    Row::Link(Place::Etc, b"a7.service", b"a8.service"),
-    Row::Link(Place::Etc, b"a8.service", b"a9.service"),
-    Row::Link(Place::Etc, b"a9.service", b"ae.service"),
-];
-
-/// The same, but the last leads to `/dev/null`.
-const NINE_LINKS_TO_NULL: [Row; 10] = [
-    Row::File(Place::Etc, b"ae.service", UNIT),
-    Row::Link(Place::Etc, b"a1.service", b"a2.service"),
-    Row::Link(Place::Etc, b"a2.service", b"a3.service"),
-    Row::Link(Place::Etc, b"a3.service", b"a4.service"),
-    Row::Link(Place::Etc, b"a4.service", b"a5.service"),
-    Row::Link(Place::Etc, b"a5.service", b"a6.service"),
-    Row::Link(Place::Etc, b"a6.service", b"a7.service"),
-    Row::Link(Place::Etc, b"a7.service", b"a8.service"),
-    Row::Link(Place::Etc, b"a8.service", b"a9.service"),
-    Row::Link(Place::Etc, b"a9.service", b"/dev/null"),
-];
+/// Nine links, the first at `a1.service`, of which the last leads to this target, and a file at `ae.service`.
+fn nine_links(target: &'static [u8]) -> [Row<'static>; 10] {
+    [
+        Row::File(Place::Etc, b"ae.service", UNIT),
+        Row::Link(Place::Etc, b"a1.service", b"a2.service"),
+        Row::Link(Place::Etc, b"a2.service", b"a3.service"),
+        Row::Link(Place::Etc, b"a3.service", b"a4.service"),
+        Row::Link(Place::Etc, b"a4.service", b"a5.service"),
+        Row::Link(Place::Etc, b"a5.service", b"a6.service"),
+        Row::Link(Place::Etc, b"a6.service", b"a7.service"),
+        Row::Link(Place::Etc, b"a7.service", b"a8.service"),
+        Row::Link(Place::Etc, b"a8.service", b"a9.service"),
+        Row::Link(Place::Etc, b"a9.service", target),
+    ]
+}
 
 const EIGHTH: &[u8] = b"/etc/systemd/system/a8.service";
 
@@ -56,19 +44,22 @@ const LED_FROM_SECOND: [(&[u8], Leads, usize); 1] = [(
 #[test]
 fn eight_links_are_followed(rt: HostRuntime) -> Result<(), Fail> {
     let alloc = rt.alloc();
-    assert_finds(&rt, alloc, &NINE_LINKS, &FOUND_FROM_SECOND)?;
+    assert_finds(&rt, alloc, &nine_links(b"ae.service"), &FOUND_FROM_SECOND)?;
     let count = ample!(
-        count_looked_at(alloc, &NINE_LINKS, b"a2.service"),
+        count_looked_at(alloc, &nine_links(b"ae.service"), b"a2.service"),
         AllocError
     )?;
     assert_eq!(rt; count, 9);
-    assert_leads(&rt, alloc, &NINE_LINKS, &LED_FROM_SECOND)
+    assert_leads(&rt, alloc, &nine_links(b"ae.service"), &LED_FROM_SECOND)
 }
 
 #[test]
 fn the_path_of_an_entry_is_no_cell(rt: HostRuntime) -> Result<(), Fail> {
     let paths: [&[u8]; 2] = [b"/etc/systemd/system/a9.service", FILE];
-    let is_led = ample!(is_led(rt.alloc(), &NINE_LINKS, EIGHTH, &paths), AllocError)?;
+    let is_led = ample!(
+        is_led(rt.alloc(), &nine_links(b"ae.service"), EIGHTH, &paths),
+        AllocError
+    )?;
     assert!(rt; is_led);
     Ok(())
 }
@@ -83,8 +74,13 @@ const LED_FROM_FIRST: [(&[u8], Leads, usize); 1] = [(
 
 #[test]
 fn a_ninth_link_is_not_followed(rt: HostRuntime) -> Result<(), Fail> {
-    assert_finds(&rt, rt.alloc(), &NINE_LINKS, &FOUND_FROM_FIRST)?;
-    assert_leads(&rt, rt.alloc(), &NINE_LINKS, &LED_FROM_FIRST)
+    assert_finds(
+        &rt,
+        rt.alloc(),
+        &nine_links(b"ae.service"),
+        &FOUND_FROM_FIRST,
+    )?;
+    assert_leads(&rt, rt.alloc(), &nine_links(b"ae.service"), &LED_FROM_FIRST)
 }
 
 const LED_TO_NULL: [(&[u8], Leads, usize); 2] = [
@@ -98,7 +94,7 @@ const LED_TO_NULL: [(&[u8], Leads, usize); 2] = [
 
 #[test]
 fn a_ninth_link_to_dev_null_is_not_followed(rt: HostRuntime) -> Result<(), Fail> {
-    assert_leads(&rt, rt.alloc(), &NINE_LINKS_TO_NULL, &LED_TO_NULL)
+    assert_leads(&rt, rt.alloc(), &nine_links(b"/dev/null"), &LED_TO_NULL)
 }
 
 /// Two links that lead to one another.
