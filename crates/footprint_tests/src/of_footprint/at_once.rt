@@ -1,5 +1,6 @@
 //! Links that are made all at once, and what is looked at.
-use super::values::{name, path, push_key, read_as, tree};
+use super::values::{push_key, read_as, tree};
+use crate::keys::{name, path};
 use footprint::{Answer, Edit, Key, Keys, Notices, Outcome, Refusal, WantedLinks};
 use link_tree::{Change, Entry, Scope, Slot, Tree, TreePath};
 use load_path::{End, Found};

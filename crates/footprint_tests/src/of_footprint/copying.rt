@@ -1,5 +1,6 @@
 //! Copies, and what is the same as its copy.
-use super::values::{key, name, path, reading, tree};
+use super::values::{reading, tree};
+use crate::keys::{key, name, path};
 use footprint::{
     Answer, Changes, Edit, Notice, NoticeKey, Notices, Reading, Reason, Refusal, StateWord, Units,
 };

@@ -1,5 +1,6 @@
 //! Which changes touch a key.
-use super::values::{key, put_file, put_link, relink};
+use super::values::{put_file, put_link, relink};
+use crate::keys::key;
 use footprint::touches;
 use link_tree::Change;
 use std::alloc::Global;

@@ -1,54 +1,13 @@
 //! Readings, changes and indexes from texts.
-use footprint::{Key, Keys, Reading};
+use crate::keys::{copies, keys, path};
+use footprint::{Key, Reading};
 use link_tree::{Change, Entry, FileError, Tree};
 use readers::Readers;
 use std::alloc::{AllocError, Global};
 use std::process::Abort;
 use std::test::Fail;
-use unit_name::{NameError, UnitName, ample};
-use unit_paths::{PathError, Scope, TargetError, TreePath};
-
-fn name(alloc: Global, text: &[u8]) -> Result<UnitName, NameError> {
-    ample!(UnitName::parse(alloc, text), NameError::OutOfMemory)
-}
-
-fn path(alloc: Global, text: &[u8]) -> Result<TreePath, PathError> {
-    ample!(TreePath::parse(alloc, text), PathError::OutOfMemory)
-}
-
-/// A key: `etc:NAME`, `run:NAME`, `presets`, `links`, or the path of a cell.
-fn key(alloc: Global, text: &[u8]) -> Result<Key, Fail> {
-    match text {
-        b"presets" => Ok(Key::Presets),
-        b"links" => Ok(Key::Links),
-        [b'e', b't', b'c', b':', text @ ..] => Ok(Key::Marked(Scope::Etc, name(alloc, text)?)),
-        [b'r', b'u', b'n', b':', text @ ..] => Ok(Key::Marked(Scope::Run, name(alloc, text)?)),
-        _ => Ok(Key::Cell(path(alloc, text)?)),
-    }
-}
-
-fn push_parsed(alloc: Global, keys: &mut Vec<Key>, text: &[u8]) -> Result<(), Fail> {
-    let key = key(alloc, text)?;
-    keys.push(key)?;
-    Ok(())
-}
-
-/// Keys that have spaces between them.
-fn keys(alloc: Global, texts: &[u8]) -> Result<Vec<Key>, Fail> {
-    let mut keys = ample!(Vec::with_capacity(alloc, 16), AllocError)?;
-    for text in texts.split(|b| *b == b' ') {
-        push_parsed(alloc, &mut keys, text)?;
-    }
-    Ok(keys)
-}
-
-fn copies(alloc: Global, keys: &[Key]) -> Result<Keys, AllocError> {
-    let mut copies = Keys::none(alloc);
-    for key in keys {
-        copies.push(key.copy()?)?;
-    }
-    Ok(copies)
-}
+use unit_name::ample;
+use unit_paths::TargetError;
 
 fn read(alloc: Global, keys: &[Key]) -> Result<Reading, AllocError> {
     let tree = Tree::empty(alloc)?;
