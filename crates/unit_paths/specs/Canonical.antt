@@ -50,6 +50,6 @@ fits text = nat_lt 0 (length text) && nat_le (length text) 4095
 unfoldable pub is_null_target : List ℕ → List ℕ → Bool
 is_null_target link target = option_map_or (λ path. bytes_eq path (codes "/dev/null")) (canonical link target) false
 
--- whether a walk over a target may end with null: its last part is that, or is no part of a path
+-- for the code alone, no public contract cites it: whether a walk over a target may end with null, since its last part is that or no part of a path
 abbrev pub may_end_with_null : List ℕ → Bool
 may_end_with_null target = not (is_part (name_at target)) || bytes_eq (name_at target) (codes "null")
