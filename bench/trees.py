@@ -1,4 +1,5 @@
 """Trees of so many entries, as inventories."""
+import os
 from typing import NamedTuple
 
 ETC, RUN, USR = "/etc/systemd/system", "/run/systemd/system", "/usr/lib/systemd/system"
@@ -44,3 +45,16 @@ def write(out, entries, calls):
     """Writes a script of an operator's calls on such a tree."""
     out.writelines(["unitadm-inventory 1\n", *entries, "end\n== calls\n"])
     out.writelines(f"alice {call}\n" for call in calls)
+
+
+def lay(root, entries):
+    """Makes the files and links of these entries beneath a directory."""
+    for text in entries:
+        kind, one, two = text.split("\n", 1)[0].split("\t")
+        path = root + (two if kind == "F" else one)
+        os.makedirs(os.path.dirname(path), exist_ok=True)
+        if kind == "L":
+            os.symlink(two, path)
+        else:
+            with open(path, "w") as out:
+                out.write(text.split("\n", 1)[1][:int(one)])

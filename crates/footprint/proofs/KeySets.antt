@@ -1,5 +1,5 @@
 -- Sets of keys.
-use Rattle.std.proofs.Common.{◌≡◌, Bool, true, false, cond, T, ◌&&◌, ◌||◌, List, [], ◌∷◌, ◌++◌, map as list_map, All, Contains, Option, Some, None, refl, sym, ap, subst, ◌∙◌}
+use Rattle.std.proofs.Common.{◌≡◌, Bool, true, false, cond, T, ◌&&◌, ◌||◌, List, [], ◌∷◌, ◌++◌, map as list_map, length, All, Contains, Option, Some, None, refl, sym, ap, subst, ◌∙◌}
 use Rattle.std.specs.Prelude.{is_some}
 use Rattle.std.specs.BTreeSet.{BTreeSet, contains}
 use Rattle.std.specs.List.{list_any, AllByRecursion}
@@ -9,7 +9,7 @@ use Rattle.std.specs.Cmp.{eq_by_cmp_equiv}
 use Rattle.std.specs.declared.cmp.Ordering.{Ordering}
 use Rattle.std.specs.declared.cmp.Ordering.TheVariants.{Less, Equal, Greater}
 use Rattle.std.specs.FinMap as map
-use Rattle.std.specs.FinMap.{is_sorted}
+use Rattle.std.specs.FinMap.{is_sorted, put}
 use Rattle.std.specs.FinMap.Entries.{below_all}
 use Rattle.std.proofs.lemmas.Bool.{true≢false}
 use Rattle.std.proofs.lemmas.List.Elements.{All-contains, All-weaker, All-contains_itself}
@@ -149,3 +149,15 @@ in_order-both keys more = ap map.keys (same_keys (set_of (in_order keys ++ in_or
     get-set_of (in_order keys ++ in_order more) key
     ∙ ap mark (among-append (in_order keys) (in_order more) key ∙ (λ i. any-in_order keys key i || any-in_order more key i) ∙ sym (among-append keys more key))
     ∙ sym (get-set_of (keys ++ more) key)))
+
+none_there : map.entries (map.empty {X = Unit {0}} {R = key_cmp}) ≡ []
+none_there = no_length _ (sym (map.len-entries map.empty) ∙ map.len-empty key_cmp (Unit {0}))
+  where
+    no_length : {X : Type 0} (xs : List X) → length xs ≡ 0 → xs ≡ []
+    no_length [] h = refl
+    no_length (x ∷ xs) h = cc
+
+-- one key is in order
+pub one_in_order : (key : Key) → in_order (key ∷ []) ≡ key ∷ []
+unfolding in_order
+one_in_order key = ap (list_map (λ (e : Key × Unit {0}). e.0)) (map.entries-insert key_cmp_total map.empty key tt ∙ ap (put key_cmp key tt) none_there)

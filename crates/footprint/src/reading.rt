@@ -1,6 +1,9 @@
 //! What an operation looked at, with what it saw.
 ghost use Rattle.std.specs.Prelude.{◌≡◌, ◌++◌, ◌∷◌, [], IfOk, OnOk, OnErr, MatchResult};
-ghost use Rattle.footprint.specs.Readings.{HoldsIn, IsFirstOther};
+ghost use Rattle.link_tree.specs.Trees.{Entries};
+ghost use Rattle.footprint.specs.declared.reading.Seen.TheVariants as sees;
+ghost use Rattle.footprint.specs.Keys.{seen};
+ghost use Rattle.footprint.specs.Readings.{reading_of, HoldsIn, IsFirstOther};
 
 use crate::key::Key;
 use link_tree::{Entry, Tree, TreePart, copy_of};
@@ -99,6 +102,18 @@ impl Reading {
         Reading {
             observations: SmallVec::new(alloc),
         }
+    }
+
+    /// The reading by one key that is no cell, where the entries at which it looks are at hand. Fails only where memory runs out.
+    pub fn of_entries(alloc: Global, key: Key, entries: TreePart) -> Result<Reading, AllocError>
+        ensures { IfOk result (λ reading. (t : Entries) → seen key t ≡ sees.Entries entries → reading ≡ reading_of (key ∷ []) t) }
+    {
+        let mut reading = Reading::none(alloc);
+        reading.push(Observation {
+            key,
+            seen: Seen::Entries(entries),
+        })?;
+        Ok(reading)
     }
 
     pub(crate) fn push(&mut self, observation: Observation) -> Result<(), AllocError>

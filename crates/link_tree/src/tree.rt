@@ -211,13 +211,17 @@ impl Tree {
         Ok(tree)
     }
 
-    /// Makes these changes: each replaces what stands at a slot. They are made on a copy, which then takes this tree's place.
+    /// Makes these changes: each replaces what stands at a slot. One alone is made in place; several are made on a copy, which then takes this
+    /// tree's place.
     pub fn make_changes(&mut self, changes: &[Change]) -> Result<(), AllocError>
         requires slots { All (λ change. is_slot change.path ≡ true) changes.now }
         requires from { AreFrom self.old changes.now }
         ensures ok { OnOk result (self.new ≡ after_changes changes.now self.old) }
         ensures err { OnErr result (self.new ≡ self.old) }
     {
+        if let [change] = changes {
+            return self.set(&change.path, copy_of(&change.after)?);
+        }
         *self = self.with_changes(changes)?;
         Ok(())
     }

@@ -3,6 +3,8 @@ use Rattle.std.proofs.Common.{◌≡◌, ℕ, Bool, true, false, cond, List, [],
 use Rattle.std.specs.Prelude.{IsPermutation}
 use Rattle.std.specs.Cmp.Lexicographic.{nat_list_cmp_total, nat_list_eq_equiv}
 use Rattle.std.specs.FinMap as map
+use Rattle.std.specs.BTreeMap.{is_at}
+use Rattle.std.specs.Map.{lookup}
 use Rattle.std.specs.Option.{option_map}
 use Rattle.std.specs.Str.{bytes_eq}
 use Rattle.std.proofs.lemmas.List.{append-nil, append_assoc}
@@ -11,6 +13,7 @@ use Rattle.std.proofs.lemmas.List.Sorted.{IsPermutation-sym, Contains-permutatio
 use Rattle.link_tree.specs.declared.entry.Entry.{Entry}
 use Rattle.link_tree.specs.Trees.{Entries, path_cmp}
 use Rattle.link_tree.proofs.Changed.{same_bytes, at_bytes}
+use Rattle.link_tree.proofs.Maps.{get_entry, one_set}
 use Rattle.states.specs.declared.step.Step.{Step}
 use Rattle.states.specs.Dependencies.{step_at, turned, steps_of, ends_of}
 use Rattle.states.specs.Reaching.{EndMap, or_none, ends_at, with_step, AreEnds}
@@ -19,10 +22,20 @@ use Rattle.states.proofs.Members.{in_filter_map, of_filter_map}
 abbrev pub Links : Type 0
 Links = List (List ℕ × Entry)
 
--- what is set after it was removed is set
-pub set_again : {X : Type 0} (b : Bool) (x : X) (o : Option X) → cond b (Some x) (cond b None o) ≡ cond b (Some x) o
-set_again true x o = refl
-set_again false x o = refl
+-- a name is found by the order of bytes where it is found by its bytes
+lookup_same : {X : Type 0} (name : List ℕ) (es : List (List ℕ × X)) → lookup (is_at (path_cmp name)) es ≡ lookup (bytes_eq name) es
+lookup_same name [] = refl
+lookup_same name (e ∷ es) = (λ i. cond (at_bytes name e.0 i) (Some e.1) (lookup_same name es i))
+
+-- what the map that the entries make has at a name
+pub found_at : {X : Type 0} (es : List (List ℕ × X)) (name : List ℕ) → map.get (map.from_entries {R = path_cmp} es) name ≡ lookup (bytes_eq name) es
+found_at es name = get_entry es name ∙ lookup_same name es
+
+-- entries that differ at one name make maps that differ there
+pub one_name_set : {X : Type 0} (es fs : List (List ℕ × X)) (name : List ℕ) (new : X)
+    → ((q : List ℕ) → lookup (bytes_eq q) fs ≡ cond (bytes_eq name q) (Some new) (lookup (bytes_eq q) es)) → map.from_entries {R = path_cmp} fs ≡ map.insert (map.from_entries es) name new
+one_name_set es fs name new h = one_set es fs name new (λ q.
+    lookup_same q fs ∙ h q ∙ (λ i. cond (sym (at_bytes name q) i) (Some new) (sym (lookup_same q es) i)))
 
 -- one step more is an end more
 with_step-ends : (ends : EndMap) (step : Step) (name : List ℕ) → ends_at (with_step ends step) name ≡ ends_at ends name ++ ends_of (step ∷ []) name

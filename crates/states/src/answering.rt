@@ -1,10 +1,13 @@
 //! Outcomes of questions.
-ghost use Rattle.std.specs.Prelude.{◌≡◌, [], All, true, IfOk};
+ghost use Rattle.std.specs.Prelude.{◌≡◌, ◌∷◌, [], All, true, IfOk};
 ghost use Rattle.unit_paths.specs.Slots.{is_slot};
+ghost use Rattle.link_tree.specs.Trees.{Entries};
+ghost use Rattle.footprint.specs.declared.reading.Seen.TheVariants as sees;
+ghost use Rattle.footprint.specs.Keys.{seen};
 ghost use Rattle.footprint.specs.Readings.{reading_of};
 
-use footprint::{Answer, Changes, Keys, Outcome, Reading};
-use link_tree::Tree;
+use footprint::{Answer, Changes, Key, Keys, Outcome, Reading};
+use link_tree::{Tree, TreePart};
 use std::alloc::{AllocError, Global};
 
 /// What a question comes to: an answer and no change, with the reading of the tree by the keys of what was looked at. Fails only where memory
@@ -22,5 +25,22 @@ pub(crate) fn answered(
         answer,
         changes: Changes::none(alloc),
         reading: Reading::of(alloc, tree, keys)?,
+    })
+}
+
+/// The same of one key, where the entries at which it looks are at hand.
+pub(crate) fn answered_by(
+    alloc: Global,
+    key: Key,
+    entries: TreePart,
+    answer: Answer,
+) -> Result<Outcome, AllocError>
+    ensures outcome { IfOk result (λ outcome. (t : Entries) → seen key t ≡ sees.Entries entries → outcome ≡ record { answer = answer; changes = []; reading = reading_of (key ∷ []) t }) }
+    ensures slots { IfOk result (λ outcome. All (λ change. is_slot change.path ≡ true) outcome.changes) }
+{
+    Ok(Outcome {
+        answer,
+        changes: Changes::none(alloc),
+        reading: Reading::of_entries(alloc, key, entries)?,
     })
 }

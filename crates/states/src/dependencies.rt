@@ -1,7 +1,7 @@
 //! list-dependencies.
-use crate::answering::answered;
+use crate::answering::answered_by;
 use crate::reaching::dependencies;
-use footprint::{Answer, Key, Keys, Operation, Outcome};
+use footprint::{Answer, Key, Operation, Outcome};
 use link_tree::Tree;
 use std::alloc::{AllocError, Global};
 use unit_name::UnitName;
@@ -28,10 +28,9 @@ impl Operation for Dependencies {
     ghost asks = { λ c. true };
 
     fn run(&self, alloc: Global, tree: &Tree) -> Result<Outcome, AllocError> {
-        let mut keys = Keys::none(alloc);
-        let links = keys.entries(alloc, tree, Key::Links)?;
+        let links = Key::Links.entries(alloc, tree)?;
         let names = dependencies(alloc, self.reverse, &self.unit, &links)?;
-        answered(alloc, tree, keys, Answer::Names(names))
+        answered_by(alloc, Key::Links, links, Answer::Names(names))
     }
 
     fn asks_only(&self) -> bool {

@@ -1,21 +1,21 @@
 //! Where steps lead, by the names from which they do.
-ghost use Rattle.std.specs.Prelude.{◌≡◌, IfOk, OnOk};
+ghost use Rattle.std.specs.Prelude.{◌≡◌, ◌∷◌, [], IfOk, OnOk};
 ghost use Rattle.std.specs.FinMap as map;
 ghost use Rattle.states.specs.Dependencies.{steps_of};
 ghost use Rattle.states.specs.Reaching.{ends_at, with_step, AreEnds};
 
 use crate::step::Step;
 use footprint::Units;
+use indexmap::IndexMap;
 use link_tree::TreePart;
 use std::alloc::{AllocError, Global};
-use std::collections::BTreeMap;
 use std::marker::Model;
 use unit_name::UnitName;
 
 /// The ends of steps, by the names from which they lead, so that each is found at once. Contracts see the finite map.
 #[derive(Drop)]
 pub(crate) struct Ends {
-    by_name: BTreeMap<UnitName, Units>,
+    by_name: IndexMap<UnitName, Units>,
 }
 
 impl Model for Ends {
@@ -37,20 +37,27 @@ impl Ends {
         ensures { result ≡ map.empty }
     {
         Ends {
-            by_name: BTreeMap::new(alloc),
+            by_name: IndexMap::new(alloc),
         }
     }
 
     /// One step more.
-    #[tactic(auto, unfolding(crate::specs::Reaching::with_step))]
     fn add(&mut self, alloc: Global, step: Step) -> Result<(), AllocError>
         ensures { OnOk result (self.new ≡ with_step self.old step) }
     {
         let Step { from, to } = step;
-        let mut ends = match self.by_name.remove(&from) {
-            Some(ends) => ends,
-            None => Units::none(alloc),
-        };
+        match self.by_name.get_mut(&from) {
+            Some(ends) => ends.push(to)?,
+            None => self.add_first(alloc, from, to)?,
+        }
+        Ok(())
+    }
+
+    /// The first step from a name.
+    fn add_first(&mut self, alloc: Global, from: UnitName, to: UnitName) -> Result<(), AllocError>
+        ensures { OnOk result (self.new ≡ map.insert self.old from (to ∷ [])) }
+    {
+        let mut ends = Units::none(alloc);
         ends.push(to)?;
         self.by_name.insert(from, ends)?;
         Ok(())

@@ -1,10 +1,11 @@
 //! The links by which units depend on one another.
-ghost use Rattle.std.specs.Prelude.{◌≡◌, IfOk};
+ghost use Rattle.std.specs.Prelude.{◌≡◌, IfOk, Some, None, if◌then◌else◌};
 ghost use Rattle.std.specs.Option.{option_copied};
+ghost use Rattle.unit_paths.specs.Paths.{is_root};
 ghost use Rattle.load_path.specs.RealNames.{named};
 ghost use Rattle.states.specs.Dependencies.{ending_of, named_step, step_from, is_other_link, step_at, turned};
 
-use link_tree::{Entry, Slot, TreePath, is_null_link};
+use link_tree::{Entry, Slot, TreePath, is_null_link, last_part};
 use std::alloc::{AllocError, Global};
 use unit_name::{NameError, UnitName};
 
@@ -51,19 +52,20 @@ fn named_step(alloc: Global, from: &[u8], to: &[u8]) -> Result<Option<Step>, All
     Ok(Some(Step { from, to }))
 }
 
-/// From the unit whose directory this is, by its name and this ending.
+/// From the unit in whose directory, which isn't the root, a link stands, by the directory's name and this ending.
+#[tactic(auto, unfolding(unit_paths::specs::Paths::name_at))]
 fn step_from(
     alloc: Global,
-    directory: Option<TreePath>,
+    directory: &[u8],
     ending: Option<&[u8]>,
     to: &[u8],
 ) -> Result<Option<Step>, AllocError>
-    ensures { IfOk result (λ step. step ≡ step_from directory (option_copied ending.entry) to.now) }
+    ensures { IfOk result (λ step. step ≡ step_from (if is_root directory.now then None else Some directory.now) (option_copied ending.entry) to.now) }
 {
-    let (Some(directory), Some(ending)) = (directory, ending) else {
+    let (Some(ending), [_, ..]) = (ending, directory) else {
         return Ok(None);
     };
-    let name = directory.file_name();
+    let name = last_part(directory);
     let len = name.len().saturating_sub(ending.len());
     named_step(alloc, &name[..len], to)
 }
@@ -92,10 +94,9 @@ impl Step {
         if !is_other_link(path, entry) {
             return Ok(None);
         }
-        let directory = path.copy()?.into_parent();
         step_from(
             alloc,
-            directory,
+            path.directory(),
             ending_of(Slot::of(path)),
             path.file_name(),
         )

@@ -93,16 +93,53 @@ fn made_on(
     })
 }
 
-/// What the steps from a tree to a new one come to, on a disk that holds that tree or another.
-fn between(
-    alloc: Global,
-    held: &Tree,
-    old: &Tree,
-    new: &Tree,
-    failing: Failing,
-) -> Result<Outcome, AllocError> {
-    let steps = steps_between(alloc, old, new)?;
-    made(alloc, held, new, &steps, failing)
+/// Texts of the tree that a disk holds, and of those between which the steps lead.
+#[derive(Clone, Copy, Debug)]
+struct Way {
+    held: &'static [u8],
+    old: &'static [u8],
+    new: &'static [u8],
+}
+
+const THERE: Way = Way {
+    held: OLD,
+    old: OLD,
+    new: NEW,
+};
+
+const BACK: Way = Way {
+    held: NEW,
+    old: NEW,
+    new: OLD,
+};
+
+const FROM_OTHER: Way = Way {
+    held: OTHER,
+    old: OLD,
+    new: NEW,
+};
+
+/// The steps of a way, once or twice.
+fn steps_of(alloc: Global, old: &Tree, new: &Tree, twice: bool) -> Result<Vec<Change>, AllocError> {
+    let mut steps = steps_between(alloc, old, new)?;
+    if twice {
+        let mut again = steps_between(alloc, old, new)?;
+        steps.append(&mut again)?;
+    }
+    Ok(steps)
+}
+
+/// What the steps of a way come to, made once or twice.
+fn between(alloc: Global, way: Way, failing: Failing, twice: bool) -> Result<Outcome, AllocError> {
+    let held = tree(alloc, way.held)?;
+    let old = tree(alloc, way.old)?;
+    let new = tree(alloc, way.new)?;
+    let steps = steps_of(alloc, &old, &new, twice)?;
+    made(alloc, &held, &new, &steps, failing)
+}
+
+fn outcome_of(alloc: Global, way: Way, failing: Failing) -> Result<Outcome, AllocError> {
+    ample!(between(alloc, way, failing, false), AllocError)
 }
 
 /// All steps are made, and no call failed.
@@ -152,44 +189,27 @@ fn step_of(call: u32) -> usize {
 
 #[test]
 fn steps_are_made(rt: HostRuntime) -> Result<(), Fail> {
-    let alloc = rt.alloc();
-    let old = tree(alloc, OLD)?;
-    let new = tree(alloc, NEW)?;
-    let there = ample!(between(alloc, &old, &old, &new, Failing::NEVER), AllocError)?;
-    assert_made(&rt, there);
-    let back = ample!(between(alloc, &new, &new, &old, Failing::NEVER), AllocError)?;
-    assert_made(&rt, back);
+    assert_made(&rt, outcome_of(rt.alloc(), THERE, Failing::NEVER)?);
+    assert_made(&rt, outcome_of(rt.alloc(), BACK, Failing::NEVER)?);
     Ok(())
 }
 
 /// One call fails, and the way back doesn't.
 #[test]
 fn steps_are_taken_back(rt: HostRuntime) -> Result<(), Fail> {
-    let alloc = rt.alloc();
-    let old = tree(alloc, OLD)?;
-    let new = tree(alloc, NEW)?;
     for call in 0..CALLS {
-        let failing = Failing::once(call);
-        let outcome = ample!(between(alloc, &old, &old, &new, failing), AllocError)?;
+        let outcome = outcome_of(rt.alloc(), THERE, Failing::once(call))?;
         assert_taken_back(&rt, outcome, step_of(call), StepError::Failed, 1);
     }
-    let outcome = ample!(
-        between(alloc, &old, &old, &new, Failing::once(CALLS)),
-        AllocError
-    )?;
-    assert_made(&rt, outcome);
+    assert_made(&rt, outcome_of(rt.alloc(), THERE, Failing::once(CALLS))?);
     Ok(())
 }
 
 /// One call fails, and all after it.
 #[test]
 fn half_done_is_told(rt: HostRuntime) -> Result<(), Fail> {
-    let alloc = rt.alloc();
-    let old = tree(alloc, OLD)?;
-    let new = tree(alloc, NEW)?;
     for call in 0..CALLS {
-        let failing = Failing::from(call);
-        let outcome = ample!(between(alloc, &old, &old, &new, failing), AllocError)?;
+        let outcome = outcome_of(rt.alloc(), THERE, Failing::from(call))?;
         let step = step_of(call);
         if call < STEPS || step == 0 {
             assert_taken_back(&rt, outcome, step, StepError::Failed, 1);
@@ -203,12 +223,9 @@ fn half_done_is_told(rt: HostRuntime) -> Result<(), Fail> {
 /// One call fails, and one more on the way back: what was taken back until then stays so.
 #[test]
 fn half_done_is_told_where_it_stops(rt: HostRuntime) -> Result<(), Fail> {
-    let alloc = rt.alloc();
-    let old = tree(alloc, OLD)?;
-    let new = tree(alloc, NEW)?;
     for back in 0..STEPS * 2 {
         let failing = Failing::twice(CALLS - 1, CALLS + back);
-        let outcome = ample!(between(alloc, &old, &old, &new, failing), AllocError)?;
+        let outcome = outcome_of(rt.alloc(), THERE, failing)?;
         match back {
             0 | 1 => assert_half_done(&rt, outcome, 2, 2),
             2 | 3 => assert_half_done(&rt, outcome, 2, 1),
@@ -221,52 +238,35 @@ fn half_done_is_told_where_it_stops(rt: HostRuntime) -> Result<(), Fail> {
 /// What the last step is from doesn't stand there: nothing is changed meanwhile.
 #[test]
 fn all_is_looked_at_first(rt: HostRuntime) -> Result<(), Fail> {
-    let alloc = rt.alloc();
-    let held = tree(alloc, OTHER)?;
-    let old = tree(alloc, OLD)?;
-    let new = tree(alloc, NEW)?;
-    let outcome = ample!(
-        between(alloc, &held, &old, &new, Failing::NEVER),
-        AllocError
-    )?;
+    let outcome = outcome_of(rt.alloc(), FROM_OTHER, Failing::NEVER)?;
     assert_taken_back(&rt, outcome, 2, StepError::Changed, 0);
     assert_eq!(rt; outcome.changes, 0);
     Ok(())
 }
 
-fn twice(alloc: Global, old: &Tree, new: &Tree) -> Result<Outcome, AllocError> {
-    let mut steps = steps_between(alloc, old, new)?;
-    let mut again = steps_between(alloc, old, new)?;
-    steps.append(&mut again)?;
-    made(alloc, old, new, &steps, Failing::NEVER)
-}
-
 /// A step that is no more due when its turn comes: the first three are taken back.
 #[test]
 fn each_is_looked_at_again(rt: HostRuntime) -> Result<(), Fail> {
-    let alloc = rt.alloc();
-    let old = tree(alloc, OLD)?;
-    let new = tree(alloc, NEW)?;
-    let outcome = ample!(twice(alloc, &old, &new), AllocError)?;
+    let outcome = ample!(between(rt.alloc(), THERE, Failing::NEVER, true), AllocError)?;
     assert_taken_back(&rt, outcome, 3, StepError::Changed, 0);
     assert_eq!(rt; outcome.changes, 6);
     Ok(())
 }
 
-fn in_place_of_odd(alloc: Global, old: &Tree, new: &Tree) -> Result<Outcome, AllocError> {
-    let steps = steps_between(alloc, old, new)?;
+/// A directory stands wherever the disk has no entry.
+fn among_directories(alloc: Global) -> Result<Outcome, AllocError> {
+    let old = tree(alloc, OLD)?;
+    let new = tree(alloc, NEW)?;
+    let steps = steps_between(alloc, &old, &new)?;
     let mut disk = Fake::new(old.share()?, Failing::NEVER);
     disk.odd = Some(Oddity::Directory);
-    made_on(alloc, disk, old, new, &steps)
+    made_on(alloc, disk, &old, &new, &steps)
 }
 
 /// A directory where a file is to come.
 #[test]
 fn nothing_is_put_in_place_of_something_odd(rt: HostRuntime) -> Result<(), Fail> {
-    let alloc = rt.alloc();
-    let old = tree(alloc, OLD)?;
-    let new = tree(alloc, NEW)?;
-    let outcome = ample!(in_place_of_odd(alloc, &old, &new), AllocError)?;
+    let outcome = ample!(among_directories(rt.alloc()), AllocError)?;
     assert_taken_back(&rt, outcome, 0, StepError::Odd, 0);
     assert_eq!(rt; outcome.changes, 0);
     Ok(())

@@ -129,8 +129,9 @@ enum Strange {
     Beneath(&'static [u8]),
 }
 
-fn root(alloc: Global, whole: &Tree, strange: Strange) -> Result<Root, Fail> {
-    let mut root = Root::new(ample!(whole.share(), AllocError)?, Failing::NEVER);
+/// A root that holds a tree with something strange.
+fn root(alloc: Global, whole: &[u8], strange: Strange) -> Result<Root, AllocError> {
+    let mut root = Root::new(tree(alloc, whole)?, Failing::NEVER);
     match strange {
         Strange::Nothing => {}
         Strange::Odd(at) => root.odd = Some(path(alloc, at)?),
@@ -140,6 +141,14 @@ fn root(alloc: Global, whole: &Tree, strange: Strange) -> Result<Root, Fail> {
     Ok(root)
 }
 
+/// What comes of a capture of such a root, and how many calls failed.
+fn captured(alloc: Global, whole: &[u8], strange: Strange) -> Result<(Came, u64), AllocError> {
+    let mut root = root(alloc, whole, strange)?;
+    let wanted = tree(alloc, CAPTURED)?;
+    let came = capture_on(alloc, &mut root, &[], &wanted)?;
+    Ok((came, root.failures))
+}
+
 fn assert_comes(
     rt: &impl Abort,
     alloc: Global,
@@ -147,12 +156,10 @@ fn assert_comes(
     strange: Strange,
     wanted: Came,
 ) -> Result<(), Fail> {
-    let whole = tree(alloc, whole)?;
-    let captured = tree(alloc, CAPTURED)?;
-    let mut root = root(alloc, &whole, strange)?;
-    let got = ample!(capture_on(alloc, &mut root, &[], &captured), AllocError)?;
-    assert_eq!(rt; got, wanted);
-    assert_eq!(rt; root.failures, 0);
+    assert_eq!(rt;
+        ample!(captured(alloc, whole, strange), AllocError)?,
+        (wanted, 0)
+    );
     Ok(())
 }
 
@@ -201,48 +208,51 @@ fn entries_beneath_others_are_told(rt: HostRuntime) -> Result<(), Fail> {
     assert_comes(&rt, rt.alloc(), THROUGH, beneath, Came::BadShape)
 }
 
+/// What comes of a capture with a file that is asked for, and one that isn't there.
+fn captured_with_more(alloc: Global) -> Result<Came, AllocError> {
+    let mut root = root(alloc, WHOLE, Strange::Nothing)?;
+    let wanted = tree(alloc, CAPTURED)?;
+    let also = [path(alloc, ASKED)?, path(alloc, b"/srv/nothing")?];
+    capture_on(alloc, &mut root, &also, &wanted)
+}
+
 #[test]
 fn what_is_asked_for_is_captured(rt: HostRuntime) -> Result<(), Fail> {
-    let alloc = rt.alloc();
-    let whole = tree(alloc, WHOLE)?;
-    let captured = tree(alloc, CAPTURED)?;
-    let mut root = root(alloc, &whole, Strange::Nothing)?;
-    let also = [path(alloc, ASKED)?, path(alloc, b"/srv/nothing")?];
-    let got = ample!(capture_on(alloc, &mut root, &also, &captured), AllocError)?;
-    assert_eq!(rt; got, Came::Other(18));
+    assert_eq!(rt;
+        ample!(captured_with_more(rt.alloc()), AllocError)?,
+        Came::Other(18)
+    );
     Ok(())
 }
 
-/// What comes of a capture of which one call fails, how often it failed, and whether there was such a call.
-fn capture_failing(
-    alloc: Global,
-    whole: &Tree,
-    captured: &Tree,
-    call: u32,
-) -> Result<(Came, u64, bool), AllocError> {
+/// Whether a capture of which one call fails tells so, and failed once; where there is no such call, whether all is captured.
+fn is_told(alloc: Global, whole: &Tree, wanted: &Tree, call: u32) -> Result<bool, AllocError> {
     let mut root = Root::new(whole.share()?, Failing::once(call));
-    let came = capture_on(alloc, &mut root, &[], captured)?;
-    Ok((came, root.failures, call < root.calls))
+    let came = capture_on(alloc, &mut root, &[], wanted)?;
+    let has_failed = call < root.calls;
+    let expected = if has_failed {
+        Came::Failed
+    } else {
+        Came::Equal
+    };
+    Ok(came == expected && root.failures == u64::from(has_failed))
+}
+
+/// The first of so many calls whose failure isn't told, if there is one.
+fn untold(alloc: Global, calls: u32) -> Result<Option<u32>, AllocError> {
+    let whole = tree(alloc, WHOLE)?;
+    let wanted = tree(alloc, CAPTURED)?;
+    for call in 0..calls {
+        if !is_told(alloc, &whole, &wanted, call)? {
+            return Ok(Some(call));
+        }
+    }
+    Ok(None)
 }
 
 /// Each call fails in turn, and that is told.
 #[test]
 fn failures_are_told(rt: HostRuntime) -> Result<(), Fail> {
-    let alloc = rt.alloc();
-    let whole = tree(alloc, WHOLE)?;
-    let captured = tree(alloc, CAPTURED)?;
-    for call in 0..40 {
-        let got = ample!(capture_failing(alloc, &whole, &captured, call), AllocError)?;
-        let (came, failures, has_failed) = got;
-        assert_eq!(rt; failures, u64::from(has_failed));
-        assert_eq!(rt;
-            came,
-            if has_failed {
-                Came::Failed
-            } else {
-                Came::Equal
-            }
-        );
-    }
+    assert_eq!(rt; ample!(untold(rt.alloc(), 40), AllocError)?, None);
     Ok(())
 }

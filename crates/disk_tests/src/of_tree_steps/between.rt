@@ -1,5 +1,5 @@
 //! Changes and steps between small trees.
-use link_tree::{Change, Entry, FromRead, InventoryError, Tree, read_inventory};
+use link_tree::{Change, Entry, FromRead, Tree, read_inventory};
 use std::alloc::{AllocError, Global};
 use std::process::Abort;
 use std::test::Fail;
@@ -71,15 +71,13 @@ const ROWS: [Row; 4] = [
     },
 ];
 
-fn tree(alloc: Global, text: &[u8]) -> Result<Tree, InventoryError> {
+/// The tree of a text. A text of none counts as want of memory.
+fn tree(alloc: Global, text: &[u8]) -> Result<Tree, AllocError> {
     let mut bytes = text;
-    ample!(
-        {
-            bytes = text;
-            read_inventory(alloc, &mut FromRead::new(&mut bytes))
-        },
-        InventoryError::OutOfMemory
-    )
+    match read_inventory(alloc, &mut FromRead::new(&mut bytes)) {
+        Ok(tree) => Ok(tree),
+        Err(_) => Err(AllocError),
+    }
 }
 
 fn letter(entry: &Option<Entry>) -> u8 {
@@ -103,25 +101,47 @@ fn text_of(alloc: Global, changes: &[Change]) -> Result<Vec<u8>, AllocError> {
     Ok(text)
 }
 
-fn changes_text(alloc: Global, old: &Tree, new: &Tree) -> Result<Vec<u8>, AllocError> {
-    let changes = changes_between(alloc, old, new)?;
+fn changes_text(alloc: Global, row: &Row) -> Result<Vec<u8>, AllocError> {
+    let old = tree(alloc, row.old)?;
+    let new = tree(alloc, row.new)?;
+    let changes = changes_between(alloc, &old, &new)?;
     text_of(alloc, &changes)
 }
 
-fn steps_text(alloc: Global, old: &Tree, new: &Tree) -> Result<Vec<u8>, AllocError> {
-    let steps = steps_between(alloc, old, new)?;
+fn steps_text(alloc: Global, row: &Row) -> Result<Vec<u8>, AllocError> {
+    let old = tree(alloc, row.old)?;
+    let new = tree(alloc, row.new)?;
+    let steps = steps_between(alloc, &old, &new)?;
     text_of(alloc, &steps)
 }
 
-fn assert_row(rt: &impl Abort, alloc: Global, row: &Row) -> Result<(), Fail> {
+/// Whether the trees are the same, asked both ways.
+fn are_same_trees(alloc: Global, row: &Row) -> Result<(bool, bool), AllocError> {
     let old = tree(alloc, row.old)?;
     let new = tree(alloc, row.new)?;
-    let changes = ample!(changes_text(alloc, &old, &new), AllocError)?;
+    Ok((are_same(&old, &new), are_same(&new, &old)))
+}
+
+fn assert_changes(rt: &impl Abort, alloc: Global, row: &Row) -> Result<(), Fail> {
+    let changes = ample!(changes_text(alloc, row), AllocError)?;
     assert_eq!(rt; changes.as_slice(), row.changes);
-    let steps = ample!(steps_text(alloc, &old, &new), AllocError)?;
+    Ok(())
+}
+
+fn assert_steps(rt: &impl Abort, alloc: Global, row: &Row) -> Result<(), Fail> {
+    let steps = ample!(steps_text(alloc, row), AllocError)?;
     assert_eq!(rt; steps.as_slice(), row.steps);
-    assert_eq!(rt; are_same(&old, &new), row.steps.is_empty());
-    assert_eq!(rt; are_same(&new, &old), row.steps.is_empty());
+    Ok(())
+}
+
+fn assert_row(rt: &impl Abort, alloc: Global, row: &Row) -> Result<(), Fail> {
+    assert_changes(rt, alloc, row)?;
+    assert_steps(rt, alloc, row)?;
+    let same = row.steps.is_empty();
+    assert_eq!(rt;
+        ample!(are_same_trees(alloc, row), AllocError)?,
+        (same, same)
+    );
     Ok(())
 }
 

@@ -60,16 +60,6 @@ fn tree(alloc: Global, target: &[u8], with_files: bool) -> Result<Tree, AllocErr
     Ok(tree)
 }
 
-fn changes_len(alloc: Global, old: &Tree, new: &Tree) -> Result<usize, AllocError> {
-    Ok(changes_between(alloc, old, new)?.len())
-}
-
-/// How many steps there are, and how many of them put a file.
-fn steps_len(alloc: Global, old: &Tree, new: &Tree) -> Result<(usize, usize), AllocError> {
-    let steps = steps_between(alloc, old, new)?;
-    Ok((steps.len(), files_put(&steps)))
-}
-
 fn files_put(steps: &[Change]) -> usize {
     steps
         .iter()
@@ -77,23 +67,47 @@ fn files_put(steps: &[Change]) -> usize {
         .count()
 }
 
+/// How many changes and steps there are between two trees, how many of the steps put a file, and whether the trees are the same.
+fn counted(
+    alloc: Global,
+    old: &Tree,
+    new: &Tree,
+) -> Result<(usize, usize, usize, bool), AllocError> {
+    let changes = changes_between(alloc, old, new)?;
+    let steps = steps_between(alloc, old, new)?;
+    Ok((
+        changes.len(),
+        steps.len(),
+        files_put(&steps),
+        are_same(old, new),
+    ))
+}
+
+/// The same of two trees of links, or with files.
+fn counted_from(
+    alloc: Global,
+    old_has_files: bool,
+    target: &[u8],
+) -> Result<(usize, usize, usize, bool), AllocError> {
+    let old = tree(alloc, b"/dev/null", old_has_files)?;
+    let new = tree(alloc, target, true)?;
+    counted(alloc, &old, &new)
+}
+
 #[test]
 fn all_entries_change(rt: HostRuntime) -> Result<(), Fail> {
-    let alloc = rt.alloc();
-    let old = ample!(tree(alloc, b"/dev/null", false), AllocError)?;
-    let new = ample!(tree(alloc, b"a.service", true), AllocError)?;
-    assert_eq!(rt; changes_len(alloc, &old, &new)?, ENTRIES);
-    assert_eq!(rt; steps_len(alloc, &old, &new)?, (ENTRIES, 21_845));
-    assert!(rt; !are_same(&old, &new));
+    assert_eq!(rt;
+        ample!(counted_from(rt.alloc(), false, b"a.service"), AllocError)?,
+        (ENTRIES, ENTRIES, 21_845, false)
+    );
     Ok(())
 }
 
 #[test]
 fn no_entry_changes(rt: HostRuntime) -> Result<(), Fail> {
-    let alloc = rt.alloc();
-    let old = ample!(tree(alloc, b"/dev/null", true), AllocError)?;
-    let new = ample!(tree(alloc, b"/dev/null", true), AllocError)?;
-    assert_eq!(rt; steps_len(alloc, &old, &new)?, (0, 0));
-    assert!(rt; are_same(&old, &new));
+    assert_eq!(rt;
+        ample!(counted_from(rt.alloc(), true, b"/dev/null"), AllocError)?,
+        (0, 0, 0, true)
+    );
     Ok(())
 }

@@ -23,18 +23,27 @@ fn issue(desk: &mut Desk, letter: u8) -> Result<u8, AllocError> {
     }
 }
 
-/// What is said of an operator's answer: `k` that it is taken, `u` that the job is unknown, `d` that it is the second.
-fn accept(desk: &mut Desk, letter: u8, number: u8) -> Result<u8, AllocError> {
-    let answer = Answered {
+/// An operator's answer to a job.
+fn answer(letter: u8, number: u8) -> Result<Answered, AllocError> {
+    Ok(Answered {
         number: u64::from(number.wrapping_sub(b'0')),
         operator: named(letter)?,
         reply: RowReply::Undid(7),
-    };
-    match desk.accept(&answer) {
-        Ok(()) => Ok(b'k'),
-        Err(AcceptError::UnknownJob) => Ok(b'u'),
-        Err(AcceptError::Double) => Ok(b'd'),
+    })
+}
+
+/// What is said of an answer: `k` that it is taken, `u` that the job is unknown, `d` that it is the second.
+fn letter_of(accepted: Result<(), AcceptError>) -> u8 {
+    match accepted {
+        Ok(()) => b'k',
+        Err(AcceptError::UnknownJob) => b'u',
+        Err(AcceptError::Double) => b'd',
     }
+}
+
+fn accept(desk: &mut Desk, letter: u8, number: u8) -> Result<u8, AllocError> {
+    let answer = answer(letter, number)?;
+    Ok(letter_of(desk.accept(&answer)))
 }
 
 /// What the desk says to a word: `iB` issues a job to bob, `B1` is his answer to job 1, `s-` shuts the desk, and `o-` asks how many jobs are

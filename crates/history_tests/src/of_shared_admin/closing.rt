@@ -24,8 +24,8 @@ fn exists(alloc: Global, unit: u8) -> Result<Refusal, AllocError> {
     }
 }
 
-/// The reply of two bytes: `k-` that it was done, `ra` that something stands at the slot of a, `s-` a question's, `U1` that row 1 was undone, and
-/// `n-` that there is no such row.
+/// The reply of two bytes: `k-` that it was done, `ra` that something stands at the slot of a, `s-` a question's, `U` and a row's digit that the
+/// row was undone, and `n-` that there is no such row.
 fn reply(alloc: Global, what: u8, which: u8) -> Result<RowReply, AllocError> {
     match what {
         b'k' => Ok(RowReply::Answered(Answer::Done(Notices::none(alloc)))),
