@@ -1,11 +1,17 @@
-//! Tests of `history`, `shared_admin` and `sessions`, from outside: with tests of its own a crate would be proved twice.
+//! Tests of `history`, from outside: with tests of its own a crate would be proved twice.
 #![tactic(auto)]
 
 #[cfg(test)]
-mod of_history;
+mod bench;
 #[cfg(test)]
-mod of_sessions;
+mod copies;
 #[cfg(test)]
-mod of_shared_admin;
+mod index;
 #[cfg(test)]
-mod steps;
+mod kinds;
+#[cfg(test)]
+mod large;
+#[cfg(test)]
+mod scripts;
+#[cfg(test)]
+mod watching;

@@ -1,0 +1,255 @@
+//! Calls on a shared history, one after another on one thread.
+
+use history::{CallError, Operator, Plan};
+use link_tree::{FromRead, Tree, read_inventory};
+use sample_steps::{Step, digit, named, number, operator, reply_text, step, unit_at};
+use shared_admin::{
+    MAX_SESSIONS, NewRow, OpenError, Operators, Settled, SharedAdmin, Snapshot, plan,
+};
+use std::alloc::{AllocError, Global};
+use std::process::Abort;
+use std::sync::Wait;
+use std::test::Fail;
+use unit_name::ample;
+
+/// A shared history, a snapshot and a plan, and what was said, in three bytes a word.
+#[derive(Drop)]
+pub(crate) struct Bench {
+    pub(crate) admin: SharedAdmin<Step>,
+    pub(crate) snapshot: Snapshot,
+    pub(crate) plan: Option<Plan<Step>>,
+    pub(crate) said: Vec<u8>,
+}
+
+/// What made no row in a history that isn't full wanted memory.
+fn unless_full(why: CallError) -> AllocError {
+    match why {
+        CallError::OutOfMemory | CallError::Full => AllocError,
+    }
+}
+
+/// The operators of these letters.
+fn operators(alloc: Global, letters: &[u8]) -> Result<Operators, AllocError> {
+    let mut operators = Operators::none(alloc);
+    for letter in letters {
+        operators.push(named(*letter)?)?;
+    }
+    Ok(operators)
+}
+
+/// A tree with one entry, at the slot of c.
+const FIRST: &[u8] = b"unitadm-inventory 1\nF\t0\t/etc/systemd/system/c.service\n\nend\n";
+
+pub(crate) fn first_tree(alloc: Global) -> Result<Tree, AllocError> {
+    let mut bytes = FIRST;
+    match read_inventory(alloc, &mut FromRead::new(&mut bytes)) {
+        Ok(tree) => Ok(tree),
+        Err(_) => Err(AllocError),
+    }
+}
+
+/// A history of that tree, shared by the operators of these letters.
+pub(crate) fn shared(alloc: Global, letters: &[u8]) -> Result<SharedAdmin<Step>, OpenError> {
+    match (first_tree(alloc), operators(alloc, letters)) {
+        (Ok(tree), Ok(operators)) => SharedAdmin::new(alloc, tree, operators),
+        _ => Err(OpenError::OutOfMemory),
+    }
+}
+
+fn begun(alloc: Global, rt: &impl Wait, letters: &[u8]) -> Result<Bench, AllocError> {
+    let Ok(admin) = shared(alloc, letters) else {
+        return Err(AllocError);
+    };
+    let snapshot = admin.snapshot(rt)?;
+    Ok(Bench {
+        admin,
+        snapshot,
+        plan: None,
+        said: Vec::new(alloc),
+    })
+}
+
+/// Three bytes for a row: its number and its reply.
+fn of_row(row: &NewRow) -> [u8; 3] {
+    let [what, which] = reply_text(&row.reply);
+    [digit(row.number), what, which]
+}
+
+impl Bench {
+    /// A snapshot: how many rows there are, and how many entries.
+    fn snap(&mut self, rt: &impl Wait) -> Result<[u8; 3], AllocError> {
+        self.snapshot = self.admin.snapshot(rt)?;
+        let entries = u32::try_from(self.snapshot.tree.len()).unwrap_or(99);
+        Ok([b't', digit(self.snapshot.front), digit(entries)])
+    }
+
+    fn plan(&mut self, alloc: Global, step: Step) -> Result<[u8; 3], AllocError> {
+        match plan(alloc, &self.snapshot, step) {
+            Ok(plan) => {
+                self.plan = Some(plan);
+                Ok(*b"p--")
+            }
+            Err(unrun) => Err(unless_full(unrun.why)),
+        }
+    }
+
+    /// Commits the plan. One that is stale is kept.
+    fn commit(&mut self, rt: &impl Wait, operator: Operator) -> Result<[u8; 3], AllocError> {
+        let Some(plan) = self.plan.take() else {
+            return Ok(*b"n--");
+        };
+        match self.admin.commit(rt, operator, plan) {
+            Ok(Settled::Committed(row)) => Ok(of_row(&row)),
+            Ok(Settled::Stale { plan, at }) => {
+                self.plan = Some(plan);
+                Ok([b's', unit_at(&at), b'-'])
+            }
+            Err(left) => Err(unless_full(left.why)),
+        }
+    }
+
+    fn call(
+        &self,
+        rt: &impl Wait,
+        alloc: Global,
+        operator: Operator,
+        step: Step,
+    ) -> Result<[u8; 3], AllocError> {
+        match self.admin.call(rt, alloc, operator, step) {
+            Ok(row) => Ok(of_row(&row)),
+            Err(unrun) => Err(unless_full(unrun.why)),
+        }
+    }
+
+    fn undo(
+        &self,
+        rt: &impl Wait,
+        alloc: Global,
+        operator: Operator,
+        n: u32,
+    ) -> Result<[u8; 3], AllocError> {
+        match self.admin.undo(rt, alloc, operator, n) {
+            Ok(row) => Ok(of_row(&row)),
+            Err(why) => Err(unless_full(why)),
+        }
+    }
+
+    /// What the word `s` says, a snapshot; `p+a`, a plan of the step `+a` on it; `Ac`, which commits it for alice; `B+a`, bob's call; `Bu1`, his
+    /// undo of row 1.
+    fn answer(
+        &mut self,
+        rt: &impl Wait,
+        alloc: Global,
+        word: &[u8],
+    ) -> Result<[u8; 3], AllocError> {
+        match word {
+            b"s" => self.snap(rt),
+            [b'p', how, unit] => self.plan(alloc, step(alloc, *how, *unit)?),
+            [who, b'c'] => self.commit(rt, named(*who)?),
+            [who, b'u', n] => self.undo(rt, alloc, named(*who)?, number(*n)),
+            [who, how, unit] => self.call(rt, alloc, named(*who)?, step(alloc, *how, *unit)?),
+            _ => Err(AllocError),
+        }
+    }
+
+    fn next(&mut self, rt: &impl Wait, alloc: Global, word: &[u8]) -> Result<(), AllocError> {
+        let said = self.answer(rt, alloc, word)?;
+        Ok(self.said.extend_from_slice(&said)?)
+    }
+}
+
+/// What is left of a script on that tree, which alice and bob share.
+pub(crate) fn run(alloc: Global, rt: &impl Wait, script: &[u8]) -> Result<Bench, AllocError> {
+    let mut bench = begun(alloc, rt, b"AB")?;
+    for word in script.split(|b| *b == b' ') {
+        bench.next(rt, alloc, word)?;
+    }
+    Ok(bench)
+}
+
+fn said(alloc: Global, rt: &impl Wait, script: &[u8]) -> Result<Vec<u8>, AllocError> {
+    let Bench {
+        admin: _,
+        snapshot: _,
+        plan: _,
+        said,
+    } = run(alloc, rt, script)?;
+    Ok(said)
+}
+
+/// A script, and what it says.
+type Said = (&'static [u8], &'static [u8]);
+
+const CALLS: [Said; 5] = [
+    // bob comes first, so alice's plan is stale; made again on a new snapshot it is refused, in row 2; after bob's undo a third is accepted
+    (
+        b"s p+a B+a Ac s p+a Ac Bu1 s p+a Ac",
+        b"t01p--1k-sa-t12p--2r-3U1t31p--4k-",
+    ),
+    // a plan that is stale comes back, and commits once the tree agrees again
+    (b"s p+a B+a Ac Bu1 Ac Ac", b"t01p--1k-sa-2U13k-n--"),
+    // the snapshot stays as it was while others call, so each plan on it is stale
+    (
+        b"s B+a p+a Ac p-a Ac p?a Ac p+b Ac",
+        b"t011k-p--sa-p--sa-p--sa-p--2k-",
+    ),
+    // the replies are those of the rows
+    (b"A+a A+a A?a A-b B+b", b"1k-2r-3s-4r-5k-"),
+    (
+        b"A+a Au9 Au1 Au1 Au2 A+a B=a Au6",
+        b"1k-2n-3U14a35c-6k-7k-8b7",
+    ),
+];
+
+fn assert_said(rt: &(impl Abort + Wait), alloc: Global, wanted: &Said) -> Result<(), Fail> {
+    let said = ample!(said(alloc, rt, wanted.0), AllocError)?;
+    assert_eq!(rt; said.as_slice(), wanted.1);
+    Ok(())
+}
+
+#[test]
+fn each_call_is_one_step(rt: HostRuntime) -> Result<(), Fail> {
+    for wanted in &CALLS {
+        assert_said(&rt, rt.alloc(), wanted)?;
+    }
+    Ok(())
+}
+
+/// Operators `o0`, `o1` and so on, as many of them, and then the last of them once more, if so wanted.
+fn numbered(alloc: Global, count: usize, again: bool) -> Result<Operators, AllocError> {
+    let mut operators = Operators::none(alloc);
+    let mut letter = b'a';
+    for _ in 0..count {
+        operators.push(operator(&[b'o', letter])?)?;
+        letter = letter.wrapping_add(1);
+    }
+    if again {
+        operators.push(operator(b"oa")?)?;
+    }
+    Ok(operators)
+}
+
+fn shared_by(alloc: Global, count: usize, again: bool) -> Result<SharedAdmin<Step>, OpenError> {
+    match (Tree::empty(alloc), numbered(alloc, count, again)) {
+        (Ok(tree), Ok(operators)) => SharedAdmin::new(alloc, tree, operators),
+        _ => Err(OpenError::OutOfMemory),
+    }
+}
+
+/// What comes of so many operators, the first of which may be there again at the end.
+fn opened(alloc: Global, count: usize, again: bool) -> Result<(), OpenError> {
+    let _admin = ample!(shared_by(alloc, count, again), OpenError::OutOfMemory)?;
+    Ok(())
+}
+
+#[test]
+fn at_most_sixteen_operators_each_once(rt: HostRuntime) {
+    let alloc = rt.alloc();
+    assert_eq!(&rt; opened(alloc, 0, false), Ok(()));
+    assert_eq!(&rt; opened(alloc, 2, false), Ok(()));
+    assert_eq!(&rt; opened(alloc, MAX_SESSIONS, false), Ok(()));
+    assert_eq!(&rt; opened(alloc, 17, false), Err(OpenError::TooManySessions));
+    assert_eq!(&rt; opened(alloc, 16, true), Err(OpenError::TooManySessions));
+    assert_eq!(&rt; opened(alloc, 15, true), Err(OpenError::SameOperator));
+    assert_eq!(&rt; opened(alloc, 1, true), Err(OpenError::SameOperator));
+}

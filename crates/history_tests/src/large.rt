@@ -1,0 +1,45 @@
+//! A hundred random histories, in which what is looked up is compared with what a walk over all rows finds.
+
+use crate::bench::Bench;
+use crate::index::agrees;
+use std::alloc::{AllocError, Global};
+use std::test::Fail;
+
+const WORDS: [&[u8]; 16] = [
+    b"+a", b"-a", b"=a", b"?a", b"+b", b"-b", b"=b", b"?b", b"u1", b"u2", b"u3", b"u4", b"u5",
+    b"u6", b"u7", b"u8",
+];
+
+fn next(random: u32) -> u32 {
+    random.wrapping_mul(1_664_525).wrapping_add(1_013_904_223)
+}
+
+/// The word that a random number chooses.
+fn word(random: u32) -> &'static [u8] {
+    WORDS[(random >> 28) as usize]
+}
+
+/// Nine random calls, and after how many of them a walk finds the same.
+fn play(alloc: Global, bench: &mut Bench, random: &mut u32) -> Result<u32, AllocError> {
+    let mut agreed = 0u32;
+    for _ in 0..9 {
+        *random = next(*random);
+        let _said = bench.answer(alloc, word(*random))?;
+        agreed = agreed.wrapping_add(u32::from(agrees(alloc, &bench.history)?));
+    }
+    Ok(agreed)
+}
+
+fn played(alloc: Global, random: &mut u32) -> Result<u32, AllocError> {
+    let mut bench = Bench::new(alloc, false)?;
+    play(alloc, &mut bench, random)
+}
+
+#[test]
+fn what_is_looked_up_is_what_a_walk_finds(rt: HostRuntime) -> Result<(), Fail> {
+    let mut random = 1;
+    for _ in 0..100 {
+        assert_eq!(rt; played(rt.alloc(), &mut random)?, 9);
+    }
+    Ok(())
+}

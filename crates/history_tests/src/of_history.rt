@@ -1,7 +1,0 @@
-mod committing;
-mod indexed;
-mod kinds;
-mod large;
-mod replies;
-mod undoing;
-mod watching;

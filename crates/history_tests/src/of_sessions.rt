@@ -1,6 +1,0 @@
-mod checking;
-mod desk;
-mod large;
-mod running;
-mod scripts;
-mod serving;

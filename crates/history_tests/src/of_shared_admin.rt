@@ -1,6 +1,0 @@
-mod closing;
-mod events;
-mod full;
-mod large;
-mod sharing;
-mod texts;

@@ -1,0 +1,117 @@
+//! Runs that are long, or in which one session waits for another: `tools/each-growth` leaves them out.
+
+use crate::running::{text_of_feed, text_of_run};
+use crate::scripts::Open;
+use history::Operator;
+use sessions::Gate;
+use std::alloc::{AllocError, Global};
+use std::process::Abort;
+use std::sync::Wait;
+use std::sync::atomic::{AtomicU64, Ordering};
+use std::test::Fail;
+use std::thread;
+use std::thread::Threads;
+use std::time::{Clock, Duration};
+
+/// Holds alice's first call up until bob's second comes, and bob's first until alice's first comes, ten seconds at most.
+#[derive(Drop)]
+struct Meeting<'a, R: Clock> {
+    rt: &'a R,
+    alice_came: &'a AtomicU64,
+    bob_came: &'a AtomicU64,
+}
+
+fn wait_for<R: Clock>(rt: &R, came: &AtomicU64) {
+    for _ in 0..10_000 {
+        if came.load(Ordering::SeqCst) > 0 {
+            return;
+        }
+        thread::sleep(rt, Duration::from_millis(1));
+    }
+}
+
+impl<'a, R: Clock> Gate for Meeting<'a, R> {
+    fn between(&self, operator: Operator, call: u64, _attempt: u8) {
+        match (operator.text(), call) {
+            (b"alice", 1) => {
+                self.alice_came.fetch_add(1, Ordering::SeqCst);
+                wait_for(self.rt, self.bob_came);
+            }
+            (b"bob", 1) => wait_for(self.rt, self.alice_came),
+            (b"bob", 2) => {
+                self.bob_came.fetch_add(1, Ordering::SeqCst);
+            }
+            _ => {}
+        }
+    }
+}
+
+/// Bob's first call is accepted; alice's, planned before it and made again, is refused; bob's second comes before that or after it.
+fn assert_bob_came_first(rt: &impl Abort, text: &[u8], alice_came: u64) {
+    assert!(rt; text == b"2bk-bk-ar-".as_slice() || text == b"2bk-ar-bk-".as_slice());
+    assert_eq!(rt; alice_came, 2);
+}
+
+#[test]
+fn gate_two_sessions(rt: HostRuntime) -> Result<(), Fail> {
+    let alice_came = AtomicU64::new(0);
+    let bob_came = AtomicU64::new(0);
+    let gate = Meeting {
+        rt: &rt,
+        alice_came: &alice_came,
+        bob_came: &bob_came,
+    };
+    let text = text_of_run(&rt, rt.alloc(), b"A +a/B +a +b", &gate)?;
+    assert_bob_came_first(&rt, &text, alice_came.load(Ordering::SeqCst));
+    Ok(())
+}
+
+#[test]
+fn gate_desk(rt: HostRuntime) -> Result<(), Fail> {
+    let alice_came = AtomicU64::new(0);
+    let bob_came = AtomicU64::new(0);
+    let gate = Meeting {
+        rt: &rt,
+        alice_came: &alice_came,
+        bob_came: &bob_came,
+    };
+    let text = text_of_feed(&rt, rt.alloc(), (b"AB", b"A+a B+a B+b", 1), &gate)?;
+    assert_bob_came_first(&rt, &text, alice_came.load(Ordering::SeqCst));
+    Ok(())
+}
+
+/// Works of sixteen operators with twenty requests each: a file is put at one slot, and taken away.
+fn script_of_many(alloc: Global) -> Result<Vec<u8>, AllocError> {
+    let mut script = Vec::new(alloc);
+    for letter in b"ABcdefghijklmnop" {
+        if !script.is_empty() {
+            script.push(b'/')?;
+        }
+        script.push(*letter)?;
+        for _ in 0..10 {
+            script.extend_from_slice(b" +a -a")?;
+        }
+    }
+    Ok(script)
+}
+
+/// A text of so many logs and rows.
+fn assert_counts(rt: &impl Abort, text: &[u8], logs: u8, rows: usize) {
+    assert_eq!(rt; text.first().copied(), Some(b'0'.wrapping_add(logs)));
+    assert_eq!(rt; text.len(), rows.wrapping_mul(3).wrapping_add(1));
+}
+
+#[test]
+fn sixteen_sessions_of_twenty_calls(rt: HostRuntime) -> Result<(), Fail> {
+    let script = script_of_many(rt.alloc())?;
+    let text = text_of_run(&rt, rt.alloc(), &script, &Open)?;
+    assert_counts(&rt, &text, 16, 320);
+    Ok(())
+}
+
+#[test]
+fn two_operators_are_fed_forty_calls_each(rt: HostRuntime) -> Result<(), Fail> {
+    let text = text_of_feed(&rt, rt.alloc(), (b"AB", b"A+a B-a", 40), &Open)?;
+    assert_counts(&rt, &text, 2, 80);
+    Ok(())
+}
