@@ -272,7 +272,8 @@ impl Plain {
     /// Adds the rows, and how many files stand, to what was said of the events.
     fn say_rows(&mut self) -> Result<(), AllocError> {
         for row in &self.rows {
-            self.said.extend_from_slice(&[row.who, row.said[0], row.said[1]])?;
+            self.said
+                .extend_from_slice(&[row.who, row.said[0], row.said[1]])?;
         }
         let standing = standing(&self.rows);
         self.said.push(digit(standing.count_ones()))?;

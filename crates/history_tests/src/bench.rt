@@ -204,12 +204,7 @@ fn committed(
 }
 
 /// Says that the step came back of a sign and a unit.
-fn came_back(
-    alloc: Global,
-    operation: &Step,
-    sign: u8,
-    unit: u8,
-) -> Result<[u8; 2], AllocError> {
+fn came_back(alloc: Global, operation: &Step, sign: u8, unit: u8) -> Result<[u8; 2], AllocError> {
     let expected = step(alloc, sign, unit)?;
     Ok(if operation.same(&expected) {
         [b'f', unit]

@@ -69,19 +69,19 @@ fn watch(
 }
 
 /// Looks by a key of a kind and a name.
-fn looking(
-    alloc: Global,
-    kind: Watched,
-    of: &[u8],
-    slot: &[u8],
-) -> Result<Watch, AllocError> {
+fn looking(alloc: Global, kind: Watched, of: &[u8], slot: &[u8]) -> Result<Watch, AllocError> {
     watch(alloc, key(alloc, kind, of)?, slot, None)
 }
 
 /// Looks by the cell of `b.service`, and tells of a unit.
 fn telling(alloc: Global, slot: &[u8], unit: &[u8]) -> Result<Watch, AllocError> {
     let told = name(alloc, unit)?;
-    watch(alloc, key(alloc, Watched::Cell, b"b.service")?, slot, Some(told))
+    watch(
+        alloc,
+        key(alloc, Watched::Cell, b"b.service")?,
+        slot,
+        Some(told),
+    )
 }
 
 /// The call of a watch. Where memory runs out, the operation that came back is run.
@@ -130,7 +130,11 @@ fn looked(
     slot: &[u8],
     later: Watch,
 ) -> Result<(usize, bool), AllocError> {
-    call(alloc, history, looking(alloc, Watched::Cell, b"y.service", slot)?)?;
+    call(
+        alloc,
+        history,
+        looking(alloc, Watched::Cell, b"y.service", slot)?,
+    )?;
     call(alloc, history, later)?;
     let readers = readers_of_the_first(alloc, history)?;
     undo(alloc, history, 1)?;

@@ -1,161 +1,138 @@
-//! Actions.
+//! Copies of actions.
 
-use footprint::{Answer, Operation, Outcome, Units};
-use install_commands::{Disable, Enable, Preset, Reenable};
-use link_tree::{Scope, Tree};
-use slot_commands::{Mask, Unmask};
-use states::{Dependencies, GetDefault, IsEnabled};
+use crate::lines;
+use footprint::{Answer, Operation, Outcome};
+use link_tree::Tree;
 use std::alloc::{AllocError, Global};
 use std::process::Abort;
 use std::test::Fail;
-use unit_name::{NameError, UnitName, ample};
+use unit_name::ample;
 use unit_script::Action;
 
-fn name(alloc: Global, text: &[u8]) -> Result<UnitName, NameError> {
-    ample!(UnitName::parse(alloc, text), NameError::OutOfMemory)
-}
-
-fn only(alloc: Global, name: &UnitName) -> Result<Units, AllocError> {
-    let mut units = Units::none(alloc);
-    units.push(name.copy()?)?;
-    Ok(units)
-}
-
-pub(crate) fn units(alloc: Global, text: &[u8]) -> Result<Units, NameError> {
-    let name = name(alloc, text)?;
-    match ample!(only(alloc, &name), AllocError) {
-        Ok(units) => Ok(units),
-        Err(AllocError) => Err(NameError::OutOfMemory),
-    }
-}
-
-/// What the action's copy comes to on an empty tree.
-fn outcome(alloc: Global, action: &Action) -> Result<Outcome, AllocError> {
-    let tree = Tree::empty(alloc)?;
-    let copy = action.copy()?;
-    copy.run(alloc, &tree)
-}
-
-/// How many changes the action's copy makes on an empty tree.
-fn changes_of(alloc: Global, action: &Action) -> Result<usize, AllocError> {
-    let outcome = ample!(outcome(alloc, action), AllocError)?;
+/// How many changes there are, or `REFUSED` of what isn't done.
+fn count(outcome: &Outcome) -> usize {
     match outcome.answer {
-        Answer::Done(_) => Ok(outcome.changes.as_slice().len()),
-        _ => Ok(usize::MAX),
+        Answer::Done(_) => outcome.changes.as_slice().len(),
+        _ => REFUSED,
     }
 }
 
-/// Whether an action is the same as its copy, isn't the same as the other, and asks for more than an answer.
-fn is_alike(alloc: Global, action: &Action, other: &Action) -> Result<bool, AllocError> {
-    let copy = ample!(action.copy(), AllocError)?;
-    Ok(action.same(&copy) && !action.same(other) && !action.asks_only())
+const REFUSED: usize = 99;
+
+/// How many changes an action makes on the empty tree.
+fn changes_of(alloc: Global, action: &Action) -> Result<usize, AllocError> {
+    let outcome = action.run(alloc, &Tree::empty(alloc)?)?;
+    Ok(count(&outcome))
 }
 
-/// Two actions make so many changes each, and are told apart.
-fn assert_apart(
-    rt: &impl Abort,
-    alloc: Global,
-    (one, changes): (&Action, usize),
-    (other, other_changes): (&Action, usize),
-) -> Result<(), AllocError> {
-    assert_eq!(rt; changes_of(alloc, one), Ok(changes));
-    assert_eq!(rt; changes_of(alloc, other), Ok(other_changes));
-    assert!(rt; is_alike(alloc, one, other)? && is_alike(alloc, other, one)?);
+/// Whether the copy of a line's action is the same as that and not as another line's, whether it asks only, and how many changes it makes on the
+/// empty tree.
+fn told(alloc: Global, line: &[u8], other: &[u8]) -> Result<(bool, bool, usize), AllocError> {
+    let action = lines::action(alloc, line)?;
+    let other = lines::action(alloc, other)?;
+    let copy = action.copy()?;
+    let is_told_apart = copy.same(&action) && !copy.same(&other);
+    Ok((is_told_apart, copy.asks_only(), changes_of(alloc, &copy)?))
+}
+
+/// The lines of two actions, whether they ask only, and how many changes the first makes on the empty tree.
+type Row = (&'static [u8], &'static [u8], bool, usize);
+
+fn assert_told(rt: &impl Abort, alloc: Global, row: &Row) -> Result<(), Fail> {
+    let told = ample!(told(alloc, row.0, row.1), AllocError)?;
+    assert_eq!(rt; told, (true, row.2, row.3));
     Ok(())
 }
+
+fn assert_all_told(rt: &impl Abort, alloc: Global, rows: &[Row]) -> Result<(), Fail> {
+    for row in rows {
+        assert_told(rt, alloc, row)?;
+    }
+    Ok(())
+}
+
+const COMMANDS: [Row; 11] = [
+    // there is no such unit, which refuses what looks one up
+    (
+        b"a enable x.service",
+        b"a disable x.service",
+        false,
+        REFUSED,
+    ),
+    (b"a disable x.service", b"a disable y.service", false, 0),
+    (
+        b"a reenable x.service",
+        b"a enable x.service",
+        false,
+        REFUSED,
+    ),
+    (
+        b"a preset x.service",
+        b"a preset --runtime x.service",
+        false,
+        REFUSED,
+    ),
+    (b"a mask x.service", b"a unmask x.service", false, 1),
+    (
+        b"a unmask x.service",
+        b"a unmask --runtime x.service",
+        false,
+        0,
+    ),
+    (b"a link /x.service", b"a link /y.service", false, REFUSED),
+    (
+        b"a add-wants x.target y.service",
+        b"a add-requires x.target y.service",
+        false,
+        REFUSED,
+    ),
+    (
+        b"a set-default x.target",
+        b"a set-default y.target",
+        false,
+        REFUSED,
+    ),
+    (
+        b"a place /etc/systemd/system/x.service file a",
+        b"a place /etc/systemd/system/x.service file b",
+        false,
+        1,
+    ),
+    (
+        b"a remove /etc/systemd/system/x.service",
+        b"a remove /etc/systemd/system/y.service",
+        false,
+        REFUSED,
+    ),
+];
 
 #[test]
 fn a_copy_does_the_same(rt: HostRuntime) -> Result<(), Fail> {
-    let scope = Scope::Etc;
-    let units_of_mask = units(rt.alloc(), b"x.service")?;
-    let mask = Action::Mask(Mask {
-        scope,
-        units: units_of_mask,
-    });
-    let units = units(rt.alloc(), b"x.service")?;
-    let unmask = Action::Unmask(Unmask { scope, units });
-    assert_apart(&rt, rt.alloc(), (&mask, 1), (&unmask, 0))?;
-    Ok(())
+    assert_all_told(&rt, rt.alloc(), &COMMANDS)
 }
+
+const QUESTIONS: [Row; 3] = [
+    (
+        b"a is-enabled x.service",
+        b"a is-enabled y.service",
+        true,
+        REFUSED,
+    ),
+    (
+        b"a get-default",
+        b"a is-enabled default.target",
+        true,
+        REFUSED,
+    ),
+    (
+        b"a dependencies x.service",
+        b"a dependencies --reverse x.service",
+        true,
+        REFUSED,
+    ),
+];
 
 #[test]
-fn a_copy_enables_or_disables_too(rt: HostRuntime) -> Result<(), Fail> {
-    let scope = Scope::Etc;
-    let units_of_enable = units(rt.alloc(), b"x.service")?;
-    let enable = Action::Enable(Enable {
-        scope,
-        units: units_of_enable,
-    });
-    let units = units(rt.alloc(), b"x.service")?;
-    let disable = Action::Disable(Disable { scope, units });
-    // there is no such unit, which refuses an enable alone
-    assert_apart(&rt, rt.alloc(), (&enable, usize::MAX), (&disable, 0))?;
-    Ok(())
-}
-
-#[test]
-fn a_copy_reenables_or_presets_too(rt: HostRuntime) -> Result<(), Fail> {
-    let scope = Scope::Run;
-    let units_of_reenable = units(rt.alloc(), b"x.service")?;
-    let reenable = Action::Reenable(Reenable {
-        scope,
-        units: units_of_reenable,
-    });
-    let units = units(rt.alloc(), b"x.service")?;
-    let preset = Action::Preset(Preset { scope, units });
-    // there is no such unit, which refuses both
-    assert_apart(
-        &rt,
-        rt.alloc(),
-        (&reenable, usize::MAX),
-        (&preset, usize::MAX),
-    )?;
-    Ok(())
-}
-
-/// A question is the same as its copy, isn't the same as the other, and asks only.
-fn is_question(action: &Action, other: &Action) -> Result<bool, AllocError> {
-    let copy = ample!(action.copy(), AllocError)?;
-    Ok(action.same(&copy) && !action.same(other) && action.asks_only())
-}
-
-/// Two questions are told apart.
-fn assert_questions(rt: &impl Abort, one: &Action, other: &Action) -> Result<(), AllocError> {
-    assert!(rt; is_question(one, other)?);
-    assert!(rt; is_question(other, one)?);
-    Ok(())
-}
-
-fn state_of(alloc: Global, text: &[u8]) -> Result<Action, NameError> {
-    let unit = name(alloc, text)?;
-    Ok(Action::IsEnabled(IsEnabled { unit }))
-}
-
-fn dependencies_of(alloc: Global, reverse: bool) -> Result<Action, NameError> {
-    let unit = name(alloc, b"x.service")?;
-    Ok(Action::Dependencies(Dependencies { unit, reverse }))
-}
-
-#[test]
-fn a_copy_asks_for_the_state_too(rt: HostRuntime) -> Result<(), Fail> {
-    let one = state_of(rt.alloc(), b"x.service")?;
-    let other = state_of(rt.alloc(), b"y.service")?;
-    assert_questions(&rt, &one, &other)?;
-    Ok(())
-}
-
-#[test]
-fn a_copy_asks_for_the_default_too(rt: HostRuntime) -> Result<(), Fail> {
-    let default = Action::GetDefault(GetDefault {});
-    let other = state_of(rt.alloc(), b"default.target")?;
-    assert_questions(&rt, &default, &other)?;
-    Ok(())
-}
-
-#[test]
-fn a_copy_asks_for_dependencies_too(rt: HostRuntime) -> Result<(), Fail> {
-    let back = dependencies_of(rt.alloc(), true)?;
-    let forth = dependencies_of(rt.alloc(), false)?;
-    assert_questions(&rt, &back, &forth)?;
-    Ok(())
+fn a_copy_asks_the_same(rt: HostRuntime) -> Result<(), Fail> {
+    assert_all_told(&rt, rt.alloc(), &QUESTIONS)
 }

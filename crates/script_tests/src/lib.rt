@@ -7,6 +7,8 @@ mod actions;
 #[cfg(test)]
 mod faults;
 #[cfg(test)]
+mod lines;
+#[cfg(test)]
 mod plans;
 #[cfg(test)]
 mod refusals;

@@ -2,16 +2,15 @@
 ghost use Rattle.std.specs.Prelude.{◌<◌, All, IfOk, OnOk};
 ghost use Rattle.shared_admin.specs.Events.{HasSlot};
 
-use crate::streams::Faulty;
+use crate::lines;
 use footprint::Key;
 use history::{History, MAX_ROWS, Operator, Request};
-use link_tree::{Tree, read_inventory};
 use shared_admin::{Event, EventReply, drive};
 use std::alloc::{AllocError, Global};
 use std::process::Abort;
 use std::test::Fail;
 use unit_name::ample;
-use unit_script::{Action, Call, push_rows, read_script};
+use unit_script::{Action, Call, push_rows};
 
 /// The inventory of one unit, which wants two links.
 const SSH: &[u8] = b"unitadm-inventory 1\n\
@@ -19,27 +18,14 @@ const SSH: &[u8] = b"unitadm-inventory 1\n\
     [Install]\nWantedBy=multi-user.target\nAlias=sshd.service\n\n\
     end\n";
 
-/// More bytes than any of these texts has.
-const ALL: usize = 1000;
-
 /// What is to happen: `s` takes a snapshot in slot 0, `p` plans what the line asks for on it, alice commits that by `c`, and `k` is the line's
 /// own call.
 type Happening = (u8, &'static [u8]);
 
-fn tree(alloc: Global) -> Result<Tree, AllocError> {
-    match read_inventory(alloc, &mut Faulty::new(SSH, ALL, 0)) {
-        Ok(tree) => Ok(tree),
-        Err(_) => Err(AllocError),
-    }
-}
-
 /// The call of a line, none of an empty one.
 fn read(alloc: Global, line: &[u8]) -> Result<Option<Call>, AllocError> {
-    let mut script = Vec::new(alloc);
-    script.extend_from_slice(b"== calls\n")?;
-    script.extend_from_slice(line)?;
-    match read_script(alloc, &mut Faulty::new(&script, ALL, 0)) {
-        Ok(mut calls) => Ok(calls.pop()),
+    match lines::call(alloc, line) {
+        Ok(call) => Ok(call),
         Err(_) => Err(AllocError),
     }
 }
@@ -117,29 +103,31 @@ fn push_reply(out: &mut Vec<u8>, reply: &EventReply) -> Result<(), AllocError> {
     }
 }
 
-/// A line for each reply, then the lines of all rows.
-fn text_of(
-    alloc: Global,
-    history: &History<Action>,
-    replies: &[EventReply],
-) -> Result<Vec<u8>, AllocError> {
-    let mut out = Vec::new(alloc);
+fn push_replies(out: &mut Vec<u8>, replies: &[EventReply]) -> Result<(), AllocError> {
     for reply in replies {
-        push_reply(&mut out, reply)?;
+        push_reply(out, reply)?;
     }
-    let rows = history.rows();
-    if rows.len() <= MAX_ROWS {
-        push_rows(&mut out, rows)?;
-    }
-    Ok(out)
+    Ok(())
 }
 
-/// What comes of events on the unit's inventory, and how many entries the tree has then.
-fn said(alloc: Global, given: &[Happening]) -> Result<(Vec<u8>, usize), AllocError> {
+/// The lines of all rows, then how many entries the tree has.
+fn push_history(out: &mut Vec<u8>, history: &History<Action>) -> Result<(), AllocError> {
+    let rows = history.rows();
+    if rows.len() <= MAX_ROWS {
+        push_rows(out, rows)?;
+    }
+    let entries = u8::try_from(history.tree().len()).map_or(b'?', |n| b'0'.wrapping_add(n));
+    push_line(out, &[entries], b" entries")
+}
+
+/// What comes of events on the unit's inventory: a line for each reply, and the history.
+fn said(alloc: Global, given: &[Happening]) -> Result<Vec<u8>, AllocError> {
+    let mut out = Vec::new(alloc);
     let events = events(alloc, given)?;
-    let (history, replies) = drive(alloc, tree(alloc)?, events)?;
-    let entries = history.tree().len();
-    Ok((text_of(alloc, &history, &replies)?, entries))
+    let (history, replies) = drive(alloc, lines::tree(alloc, SSH)?, events)?;
+    push_replies(&mut out, &replies)?;
+    push_history(&mut out, &history)?;
+    Ok(out)
 }
 
 fn assert_said(
@@ -147,11 +135,9 @@ fn assert_said(
     alloc: Global,
     given: &[Happening],
     text: &[u8],
-    entries: usize,
 ) -> Result<(), Fail> {
     let said = ample!(said(alloc, given), AllocError)?;
-    assert_eq!(rt; said.0.as_slice(), text);
-    assert_eq!(rt; said.1, entries);
+    assert_eq!(rt; said.as_slice(), text);
     Ok(())
 }
 
@@ -173,8 +159,8 @@ fn an_enable_is_stale_after_a_mask(rt: HostRuntime) -> Result<(), Fail> {
         taken\nplanned\nrow 2\nrow 3\n\
         1 bob ok\n  + /etc/systemd/system/ssh.service -> /dev/null\n\
         2 alice refused: ssh.service is masked\n\
-        3 bob undid 1\n  - /etc/systemd/system/ssh.service -> /dev/null\n";
-    assert_said(&rt, rt.alloc(), &AFTER_A_MASK, text, 1)
+        3 bob undid 1\n  - /etc/systemd/system/ssh.service -> /dev/null\n1 entries\n";
+    assert_said(&rt, rt.alloc(), &AFTER_A_MASK, text)
 }
 
 const BESIDE_A_MASK: [Happening; 4] = [
@@ -190,8 +176,8 @@ fn an_enable_is_committed_beside_a_mask(rt: HostRuntime) -> Result<(), Fail> {
         1 bob ok\n  + /etc/systemd/system/x.service -> /dev/null\n\
         2 alice ok\n  \
           + /etc/systemd/system/multi-user.target.wants/ssh.service -> /usr/lib/systemd/system/ssh.service\n  \
-          + /etc/systemd/system/sshd.service -> /usr/lib/systemd/system/ssh.service\n";
-    assert_said(&rt, rt.alloc(), &BESIDE_A_MASK, text, 4)
+          + /etc/systemd/system/sshd.service -> /usr/lib/systemd/system/ssh.service\n4 entries\n";
+    assert_said(&rt, rt.alloc(), &BESIDE_A_MASK, text)
 }
 
 /// The tree agrees again once the mask is undone.
@@ -210,8 +196,8 @@ fn an_enable_is_committed_once_the_mask_is_undone(rt: HostRuntime) -> Result<(),
         2 bob undid 1\n  - /etc/systemd/system/ssh.service -> /dev/null\n\
         3 alice ok\n  \
           + /etc/systemd/system/multi-user.target.wants/ssh.service -> /usr/lib/systemd/system/ssh.service\n  \
-          + /etc/systemd/system/sshd.service -> /usr/lib/systemd/system/ssh.service\n";
-    assert_said(&rt, rt.alloc(), &AFTER_AN_UNDO, text, 3)
+          + /etc/systemd/system/sshd.service -> /usr/lib/systemd/system/ssh.service\n3 entries\n";
+    assert_said(&rt, rt.alloc(), &AFTER_AN_UNDO, text)
 }
 
 /// A plan that was stale is in its slot no longer.
@@ -226,6 +212,6 @@ const COMMITTED_TWICE: [Happening; 5] = [
 #[test]
 fn a_stale_enable_is_gone(rt: HostRuntime) -> Result<(), Fail> {
     let text = b"taken\nplanned\nrow 1\nstale at /etc/systemd/system/ssh.service\nnothing\n\
-        1 bob ok\n  + /etc/systemd/system/ssh.service -> /dev/null\n";
-    assert_said(&rt, rt.alloc(), &COMMITTED_TWICE, text, 2)
+        1 bob ok\n  + /etc/systemd/system/ssh.service -> /dev/null\n2 entries\n";
+    assert_said(&rt, rt.alloc(), &COMMITTED_TWICE, text)
 }

@@ -1,81 +1,56 @@
 //! The lines of changes and rows.
 
-use crate::actions::units;
-use crate::streams::Faulty;
-use history::{CallError, History, MAX_ROWS, Operator};
-use install_commands::{Disable, Enable};
-use link_tree::{
-    Change, Entry, FileError, InventoryError, Scope, Slot, TargetError, Tree, TreePath,
-    read_inventory,
-};
-use slot_commands::Unmask;
+use crate::lines;
+use history::{History, MAX_ROWS, Operator, Request};
+use link_tree::{Change, Entry, Tree, TreePath};
 use std::alloc::{AllocError, Global};
 use std::process::Abort;
 use std::test::Fail;
-use unit_name::{NameError, UnitName, ample};
-use unit_script::{Action, push_changes, push_rows};
+use unit_name::ample;
+use unit_script::{Action, Call, push_changes, push_rows};
 
-fn file(alloc: Global, bytes: &[u8]) -> Result<Entry, FileError> {
-    ample!(Entry::file(alloc, bytes), FileError::OutOfMemory)
-}
-
-fn text_of_changes(alloc: Global, changes: &[Change]) -> Result<Vec<u8>, AllocError> {
-    let mut out = Vec::new(alloc);
-    push_changes(&mut out, changes)?;
-    Ok(out)
-}
-
-fn text_of_rows(alloc: Global, history: &History<Action>) -> Result<Vec<u8>, AllocError> {
-    let mut out = Vec::new(alloc);
-    let rows = history.rows();
-    if rows.len() <= MAX_ROWS {
-        push_rows(&mut out, rows)?;
+fn path(alloc: Global, text: &[u8]) -> Result<TreePath, AllocError> {
+    match TreePath::parse(alloc, text) {
+        Ok(path) => Ok(path),
+        Err(_) => Err(AllocError),
     }
-    Ok(out)
 }
 
-fn slot(alloc: Global, name: &[u8]) -> Result<TreePath, Fail> {
-    let name = ample!(UnitName::parse(alloc, name), NameError::OutOfMemory)?;
-    Ok(ample!(Scope::Etc.place().slot(alloc, &name), AllocError)?)
-}
-
-/// A tree with an empty file at the slot of `e.service`.
-fn tree(alloc: Global, slot: &TreePath) -> Result<Tree, AllocError> {
-    let Ok(entry) = Entry::file(alloc, b"") else {
-        return Err(AllocError);
-    };
-    let mut tree = Tree::empty(alloc)?;
-    if Slot::of(slot).is_some() {
-        tree.set(slot, Some(entry))?;
+fn file(alloc: Global, bytes: &[u8]) -> Result<Entry, AllocError> {
+    match Entry::file(alloc, bytes) {
+        Ok(file) => Ok(file),
+        Err(_) => Err(AllocError),
     }
-    Ok(tree)
 }
 
-fn null(alloc: Global) -> Result<Entry, TargetError> {
-    ample!(Entry::link(alloc, b"/dev/null"), TargetError::OutOfMemory)
+fn link(alloc: Global, target: &[u8]) -> Result<Entry, AllocError> {
+    match Entry::link(alloc, target) {
+        Ok(link) => Ok(link),
+        Err(_) => Err(AllocError),
+    }
 }
 
 /// A change of a file into a link to `/dev/null`.
-fn mask_of_file(alloc: Global, bytes: &[u8]) -> Result<Change, Fail> {
-    let path = slot(alloc, b"x.service")?;
+fn mask_of_file(alloc: Global, bytes: &[u8]) -> Result<Change, AllocError> {
     let before = file(alloc, bytes)?;
-    let link = null(alloc)?;
+    let after = link(alloc, b"/dev/null")?;
     Ok(Change {
-        path,
+        path: path(alloc, b"/etc/systemd/system/x.service")?,
         before: Some(before),
-        after: Some(link),
+        after: Some(after),
     })
 }
 
-/// The text of the change of a file into a link to `/dev/null`.
-fn text_of_mask(alloc: Global, bytes: &[u8]) -> Result<Vec<u8>, Fail> {
-    let changes = [mask_of_file(alloc, bytes)?];
-    Ok(ample!(text_of_changes(alloc, &changes), AllocError)?)
+/// The text of that change.
+fn text_of_mask(alloc: Global, bytes: &[u8]) -> Result<Vec<u8>, AllocError> {
+    let mut out = Vec::new(alloc);
+    push_changes(&mut out, &[mask_of_file(alloc, bytes)?])?;
+    Ok(out)
 }
 
 #[test]
 fn a_file_is_told_by_its_length(rt: HostRuntime) -> Result<(), Fail> {
-    let text = text_of_mask(rt.alloc(), b"[Unit]\nA=b\n")?;
+    let text = ample!(text_of_mask(rt.alloc(), b"[Unit]\nA=b\n"), AllocError)?;
     assert_eq!(rt;
         text.as_slice(),
         b"  - /etc/systemd/system/x.service file 11\n  \
@@ -85,62 +60,94 @@ fn a_file_is_told_by_its_length(rt: HostRuntime) -> Result<(), Fail> {
     Ok(())
 }
 
-fn unmask(alloc: Global, names: &[u8]) -> Result<Action, Fail> {
-    let units = units(alloc, names)?;
-    Ok(Action::Unmask(Unmask {
-        scope: Scope::Etc,
-        units,
-    }))
-}
-
-/// A history of a tree with an empty file at a slot.
-fn begun(alloc: Global, slot: &TreePath) -> Result<History<Action>, AllocError> {
-    History::new(alloc, tree(alloc, slot)?)
-}
-
-fn history(alloc: Global) -> Result<History<Action>, Fail> {
-    let slot = slot(alloc, b"e.service")?;
-    Ok(ample!(begun(alloc, &slot), AllocError)?)
-}
-
-/// A call. Where memory was wanted, the operation that came back is run.
-fn call(
+/// Runs an action. Where memory runs out, the one that came back is run.
+fn run(
     alloc: Global,
     history: &mut History<Action>,
     operator: Operator,
     action: Action,
-) -> Result<u32, CallError> {
-    let called = match history.call(alloc, operator, action) {
+) -> Result<u32, AllocError> {
+    let ran = match history.call(alloc, operator, action) {
         Err(unrun) => history.call(alloc, operator, unrun.operation),
         answer => answer,
     };
-    match called {
+    match ran {
         Ok(row) => Ok(row),
-        Err(unrun) => Err(unrun.why),
+        Err(_) => Err(AllocError),
     }
 }
 
-fn unmasked(alloc: Global, history: &mut History<Action>, names: &[u8]) -> Result<u32, Fail> {
-    let operator = Operator::parse(b"alice")?;
-    let action = unmask(alloc, names)?;
-    Ok(call(alloc, history, operator, action)?)
-}
-
-fn undone(alloc: Global, history: &mut History<Action>, row: u32) -> Result<u32, Fail> {
-    let operator = Operator::parse(b"alice")?;
-    Ok(ample!(history.undo(alloc, operator, row), CallError::OutOfMemory)?)
-}
-
-fn assert_told(
-    rt: &impl Abort,
+fn undo(
     alloc: Global,
-    history: &History<Action>,
-    told: &[u8],
-) -> Result<(), Fail> {
-    let text = ample!(text_of_rows(alloc, history), AllocError)?;
-    assert_eq!(rt; text.as_slice(), told);
+    history: &mut History<Action>,
+    operator: Operator,
+    n: u32,
+) -> Result<u32, AllocError> {
+    match history.undo(alloc, operator, n) {
+        Ok(row) => Ok(row),
+        Err(_) => Err(AllocError),
+    }
+}
+
+fn make(alloc: Global, history: &mut History<Action>, call: Call) -> Result<u32, AllocError> {
+    let Call { operator, request } = call;
+    match request {
+        Request::Do(action) => run(alloc, history, operator, action),
+        Request::Undo(n) => undo(alloc, history, operator, n),
+    }
+}
+
+/// Makes the call of a line.
+fn make_line(alloc: Global, history: &mut History<Action>, line: &[u8]) -> Result<u32, AllocError> {
+    match lines::call(alloc, line) {
+        Ok(Some(call)) => make(alloc, history, call),
+        _ => Err(AllocError),
+    }
+}
+
+/// Makes the calls of lines, and tells all rows.
+fn push_made(
+    alloc: Global,
+    history: &mut History<Action>,
+    script: &[u8],
+    out: &mut Vec<u8>,
+) -> Result<(), AllocError> {
+    for line in script.split(|b| *b == b'\n') {
+        make_line(alloc, history, line)?;
+    }
+    let rows = history.rows();
+    if rows.len() <= MAX_ROWS {
+        push_rows(out, rows)?;
+    }
     Ok(())
 }
+
+fn begun(alloc: Global, inventory: &[u8]) -> Result<History<Action>, AllocError> {
+    let tree: Tree = lines::tree(alloc, inventory)?;
+    History::new(alloc, tree)
+}
+
+/// The rows that the lines make on an inventory.
+fn rows(alloc: Global, inventory: &[u8], script: &[u8]) -> Result<Vec<u8>, AllocError> {
+    let mut out = Vec::new(alloc);
+    let mut history = begun(alloc, inventory)?;
+    push_made(alloc, &mut history, script, &mut out)?;
+    Ok(out)
+}
+
+fn assert_rows(
+    rt: &impl Abort,
+    alloc: Global,
+    inventory: &[u8],
+    script: &[u8],
+    told: &[u8],
+) -> Result<(), Fail> {
+    let rows = ample!(rows(alloc, inventory, script), AllocError)?;
+    assert_eq!(rt; rows.as_slice(), told);
+    Ok(())
+}
+
+const EMPTY_FILE: &[u8] = b"unitadm-inventory 1\nF\t0\t/etc/systemd/system/e.service\n\nend\n";
 
 /// The rows of an unmask and its undo.
 const UNDONE: &[u8] = b"1 alice ok\n  \
@@ -148,17 +155,10 @@ const UNDONE: &[u8] = b"1 alice ok\n  \
     2 alice undid 1\n  \
       + /etc/systemd/system/e.service file 0\n";
 
-fn unmask_and_undo(alloc: Global, history: &mut History<Action>) -> Result<(), Fail> {
-    unmasked(alloc, history, b"e.service")?;
-    undone(alloc, history, 1)?;
-    Ok(())
-}
-
 #[test]
 fn an_empty_file_is_taken_away_and_put_back(rt: HostRuntime) -> Result<(), Fail> {
-    let mut history = history(rt.alloc())?;
-    unmask_and_undo(rt.alloc(), &mut history)?;
-    assert_told(&rt, rt.alloc(), &history, UNDONE)
+    let script = b"alice unmask e.service\nalice undo 1";
+    assert_rows(&rt, rt.alloc(), EMPTY_FILE, script, UNDONE)
 }
 
 /// A unit with words that ask for nothing, for each reason that a word can have.
@@ -193,60 +193,8 @@ const SKIPPED: &[u8] = b"1 a ok\n  \
       ! u.service: Also x: bad name\n\
     3 a refused: n.service is masked\n";
 
-fn tree_of_unit(alloc: Global) -> Result<Tree, InventoryError> {
-    ample!(
-        read_inventory(alloc, &mut Faulty::new(UNIT, UNIT.len(), 0)),
-        InventoryError::OutOfMemory
-    )
-}
-
-fn begun_with(alloc: Global, tree: &Tree) -> Result<History<Action>, AllocError> {
-    History::new(alloc, tree.copy()?)
-}
-
-fn history_of_unit(alloc: Global) -> Result<History<Action>, Fail> {
-    let tree = tree_of_unit(alloc)?;
-    Ok(ample!(begun_with(alloc, &tree), AllocError)?)
-}
-
-fn enable(alloc: Global, names: &[u8]) -> Result<Action, Fail> {
-    let units = units(alloc, names)?;
-    Ok(Action::Enable(Enable {
-        scope: Scope::Etc,
-        units,
-    }))
-}
-
-fn disable(alloc: Global, names: &[u8]) -> Result<Action, Fail> {
-    let units = units(alloc, names)?;
-    Ok(Action::Disable(Disable {
-        scope: Scope::Etc,
-        units,
-    }))
-}
-
-fn enabled(alloc: Global, history: &mut History<Action>, names: &[u8]) -> Result<u32, Fail> {
-    let operator = Operator::parse(b"a")?;
-    let action = enable(alloc, names)?;
-    Ok(call(alloc, history, operator, action)?)
-}
-
-fn disabled(alloc: Global, history: &mut History<Action>, names: &[u8]) -> Result<u32, Fail> {
-    let operator = Operator::parse(b"a")?;
-    let action = disable(alloc, names)?;
-    Ok(call(alloc, history, operator, action)?)
-}
-
-fn enable_and_disable(alloc: Global, history: &mut History<Action>) -> Result<(), Fail> {
-    enabled(alloc, history, b"u.service")?;
-    disabled(alloc, history, b"u.service")?;
-    enabled(alloc, history, b"n.service")?;
-    Ok(())
-}
-
 #[test]
 fn skipped_words_are_told_behind_the_changes(rt: HostRuntime) -> Result<(), Fail> {
-    let mut history = history_of_unit(rt.alloc())?;
-    enable_and_disable(rt.alloc(), &mut history)?;
-    assert_told(&rt, rt.alloc(), &history, SKIPPED)
+    let script = b"a enable u.service\na disable u.service\na enable n.service";
+    assert_rows(&rt, rt.alloc(), UNIT, script, SKIPPED)
 }

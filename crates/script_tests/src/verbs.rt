@@ -1,6 +1,6 @@
 //! Lines of scripts: what each verb asks for, and why a line is refused.
 
-use crate::streams::Faulty;
+use crate::lines::call;
 use byte_streams::ReadError;
 use footprint::{Operation, Units};
 use history::Request;
@@ -10,34 +10,7 @@ use states::Dependencies;
 use std::alloc::{AllocError, Global};
 use std::process::Abort;
 use unit_name::ample;
-use unit_script::{Action, Call, Reason, ScriptFault, read_script};
-
-/// More bytes than any of these scripts has.
-const ALL: usize = 1000;
-
-/// The script of one line.
-fn script_of(alloc: Global, line: &[u8]) -> Result<Vec<u8>, AllocError> {
-    let mut script = Vec::new(alloc);
-    script.extend_from_slice(b"== calls\n")?;
-    script.extend_from_slice(line)?;
-    Ok(script)
-}
-
-/// The calls of a script.
-fn calls(alloc: Global, script: &[u8]) -> Result<Vec<Call>, ReadError<ScriptFault>> {
-    ample!(
-        read_script(alloc, &mut Faulty::new(script, ALL, 0)),
-        ReadError::OutOfMemory
-    )
-}
-
-/// The call of a line, if it isn't skipped.
-fn read(alloc: Global, line: &[u8]) -> Result<Option<Call>, ReadError<ScriptFault>> {
-    match ample!(script_of(alloc, line), AllocError) {
-        Ok(script) => Ok(calls(alloc, &script)?.pop()),
-        Err(AllocError) => Err(ReadError::OutOfMemory),
-    }
-}
+use unit_script::{Action, Call, Reason, ScriptFault};
 
 /// A word, in brackets that show where it ends.
 fn push_word(out: &mut Vec<u8>, word: &[u8]) -> Result<(), AllocError> {
@@ -155,30 +128,27 @@ fn push_call(out: &mut Vec<u8>, call: &Option<Call>) -> Result<(), AllocError> {
     }
 }
 
-fn text_of(alloc: Global, call: &Option<Call>) -> Result<Vec<u8>, AllocError> {
+/// What a line asks for.
+fn asked(alloc: Global, line: &[u8]) -> Result<Vec<u8>, ReadError<ScriptFault>> {
     let mut out = Vec::new(alloc);
-    push_call(&mut out, call)?;
+    push_call(&mut out, &call(alloc, line)?)?;
     Ok(out)
-}
-
-/// A call asks for this.
-fn assert_asks(rt: &impl Abort, alloc: Global, call: &Option<Call>, asks: &[u8]) {
-    match ample!(text_of(alloc, call), AllocError) {
-        Ok(text) => assert_eq!(rt; text.as_slice(), asks),
-        Err(AllocError) => panic!(rt; "out of memory"),
-    }
 }
 
 /// A line, and what it asks for.
 type Row = (&'static [u8], &'static [u8]);
 
+fn assert_asked(rt: &impl Abort, alloc: Global, row: &Row) {
+    match ample!(asked(alloc, row.0), ReadError::OutOfMemory) {
+        Ok(text) => assert_eq!(rt; text.as_slice(), row.1),
+        Err(_) => panic!(rt; "refused"),
+    }
+}
+
 /// Each line asks for what stands beside it.
-fn assert_read(rt: &impl Abort, alloc: Global, rows: &[Row]) {
-    for (line, asks) in rows {
-        match read(alloc, line) {
-            Ok(call) => assert_asks(rt, alloc, &call, asks),
-            Err(_) => panic!(rt; "refused"),
-        }
+fn assert_all_asked(rt: &impl Abort, alloc: Global, rows: &[Row]) {
+    for row in rows {
+        assert_asked(rt, alloc, row);
     }
 }
 
@@ -194,7 +164,7 @@ const QUESTIONS: [Row; 4] = [
 
 #[test]
 fn questions_are_read(rt: HostRuntime) {
-    assert_read(&rt, rt.alloc(), &QUESTIONS);
+    assert_all_asked(&rt, rt.alloc(), &QUESTIONS);
 }
 
 const VERBS: [Row; 27] = [
@@ -256,7 +226,7 @@ const VERBS: [Row; 27] = [
 
 #[test]
 fn each_verb_is_read(rt: HostRuntime) {
-    assert_read(&rt, rt.alloc(), &VERBS);
+    assert_all_asked(&rt, rt.alloc(), &VERBS);
 }
 
 const ESCAPES: [Row; 6] = [
@@ -273,11 +243,11 @@ const ESCAPES: [Row; 6] = [
 
 #[test]
 fn texts_are_escaped(rt: HostRuntime) {
-    assert_read(&rt, rt.alloc(), &ESCAPES);
+    assert_all_asked(&rt, rt.alloc(), &ESCAPES);
 }
 
 fn error(alloc: Global, line: &[u8]) -> Option<ReadError<ScriptFault>> {
-    match read(alloc, line) {
+    match ample!(call(alloc, line), ReadError::OutOfMemory) {
         Ok(_) => None,
         Err(e) => Some(e),
     }

@@ -1,0 +1,48 @@
+//! Calls and trees by their texts.
+
+use crate::streams::Faulty;
+use byte_streams::ReadError;
+use history::Request;
+use link_tree::{Tree, read_inventory};
+use std::alloc::{AllocError, Global};
+use unit_script::{Action, Call, ScriptFault, read_script};
+
+/// More bytes than any of these texts has.
+pub(crate) const ALL: usize = 2000;
+
+/// The script of one line.
+fn script_of(alloc: Global, line: &[u8]) -> Result<Vec<u8>, AllocError> {
+    let mut script = Vec::new(alloc);
+    script.extend_from_slice(b"== calls\n")?;
+    script.extend_from_slice(line)?;
+    Ok(script)
+}
+
+/// The call of a line, if it isn't skipped.
+pub(crate) fn call(alloc: Global, line: &[u8]) -> Result<Option<Call>, ReadError<ScriptFault>> {
+    let script = script_of(alloc, line)?;
+    Ok(read_script(alloc, &mut Faulty::new(&script, ALL, 0))?.pop())
+}
+
+/// The command or the question of a line.
+pub(crate) fn action(alloc: Global, line: &[u8]) -> Result<Action, AllocError> {
+    match call(alloc, line) {
+        Ok(
+            Some(
+                Call {
+                    operator: _,
+                    request: Request::Do(action),
+                },
+            ),
+        ) => Ok(action),
+        _ => Err(AllocError),
+    }
+}
+
+/// The tree of an inventory.
+pub(crate) fn tree(alloc: Global, inventory: &[u8]) -> Result<Tree, AllocError> {
+    match read_inventory(alloc, &mut Faulty::new(inventory, ALL, 0)) {
+        Ok(tree) => Ok(tree),
+        Err(_) => Err(AllocError),
+    }
+}
