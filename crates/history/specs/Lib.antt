@@ -5,4 +5,3 @@ pub mod Indexes
 pub mod Logs
 pub mod Plans
 pub mod Laws
-pub mod Samples

@@ -1,7 +1,7 @@
 //! An operation that looks by a key of any kind, tells of a word, and links a file.
 ghost use Rattle.std.specs.Prelude.{◌≡◌, ◌↔◌, IfOk, IsTrue};
 ghost use Rattle.footprint.specs.Edits.{Carries};
-ghost use Rattle.history.specs.Samples.{told_of, watch_command};
+ghost use Rattle.sample_steps.specs.Samples.{told_of, watch_command};
 
 use footprint::{
     Edit, Key, Keys, Notice, NoticeKey, Notices, Operation, Outcome, Reason, Refusal, link_at,
@@ -74,7 +74,7 @@ impl Operation for Watch {
     ghost use Rattle.std.specs.Prelude.{false};
     ghost use Rattle.footprint.proofs.Carried.{laws_of};
     ghost use Rattle.footprint.specs.Commands.{carried_out};
-    ghost use Rattle.history.specs.Samples.{watch_command};
+    ghost use Rattle.sample_steps.specs.Samples.{watch_command};
 
     ghost meaning = { λ c. carried_out (watch_command c.key c.told c.file c.slot) };
 

@@ -3,7 +3,7 @@ ghost use Rattle.std.specs.Prelude.{◌≡◌, ◌∷◌, [], IfOk};
 ghost use Rattle.std.specs.FinMap as map;
 ghost use Rattle.footprint.specs.declared.key.Key.TheVariants.{Cell};
 ghost use Rattle.footprint.specs.Readings.{reading_of};
-ghost use Rattle.history.specs.Samples.{left};
+ghost use Rattle.sample_steps.specs.Samples.{left};
 
 use footprint::{
     Answer, Changes, Edit, Key, Keys, Notices, Operation, Outcome, Reading, Refusal, StateWord,
@@ -47,7 +47,7 @@ impl Step {
 }
 
 impl Operation for Step {
-    ghost use Rattle.history.specs.Samples.{step_meaning, step_laws};
+    ghost use Rattle.sample_steps.specs.Samples.{step_meaning, step_laws};
 
     ghost meaning = { λ step. step_meaning step.asks step.puts step.slot };
 

@@ -1,4 +1,4 @@
--- What the operations mean that the tests run.
+-- What the operations mean that the tests run: a step, and one that looks by a key of any kind, tells of a word, and links a file.
 use Rattle.std.specs.Prelude.{◌≡◌, ◌≢◌, ℕ, Bool, true, false, if◌then◌else◌, List, [], ◌∷◌, All, Contains, Option, Some, None, Ok, Err, refl}
 use Rattle.std.specs.List.Sorted.{IsStrictlySortedBy}
 use Rattle.std.proofs.Common.{sym}
