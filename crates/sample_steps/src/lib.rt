@@ -1,10 +1,10 @@
 //! Operations on one slot, for tests of what runs operations: how they are called in a few bytes, and what rows say in a few bytes.
 #![tactic(auto)]
 
+mod operation;
 mod replies;
-mod step;
 mod words;
 
+pub use operation::Step;
 pub use replies::{digit, push_row, reply_text, unit_at};
-pub use step::Step;
 pub use words::{named, number, operator, slot_of, step};

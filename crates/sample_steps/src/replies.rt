@@ -1,6 +1,6 @@
 //! What rows and keys say, in a few bytes.
 
-use crate::step::Step;
+use crate::operation::Step;
 use crate::words::slot_of;
 use footprint::{Answer, Key};
 use history::{Row, RowReply, UndoRefusal};

@@ -1,6 +1,6 @@
 //! What letters and digits stand for.
 
-use crate::step::Step;
+use crate::operation::Step;
 use history::Operator;
 use link_tree::TreePath;
 use std::alloc::{AllocError, Global};
