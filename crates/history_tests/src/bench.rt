@@ -161,17 +161,35 @@ impl Bench {
         }
     }
 
-    /// What comes of the words of a script, of which `i` tells what is looked up of all rows.
-    fn play(&mut self, alloc: Global, script: &[u8], said: &mut Vec<u8>) -> Result<(), AllocError> {
+    /// Adds what comes of the words of a script, of which `i` tells what is looked up of all rows.
+    fn play(&mut self, alloc: Global, script: &[u8], out: &mut Vec<u8>) -> Result<(), AllocError> {
         for word in script.split(|b| *b == b' ') {
             if matches!(word, [b'i']) {
-                push_index(alloc, &self.history, said)?;
+                push_index(alloc, &self.history, out)?;
             } else {
-                said.extend_from_slice(&self.answer(alloc, word)?)?;
+                out.extend_from_slice(&self.answer(alloc, word)?)?;
             }
         }
         Ok(())
     }
+
+    /// What comes of a script, and then how many entries the first tree and the last one have, each as a digit.
+    fn said(&mut self, alloc: Global, script: &[u8]) -> Result<Vec<u8>, AllocError> {
+        let mut out = Vec::new(alloc);
+        self.play(alloc, script, &mut out)?;
+        let counts = [
+            b' ',
+            count(self.history.first()),
+            count(self.history.tree()),
+        ];
+        out.extend_from_slice(&counts)?;
+        Ok(out)
+    }
+}
+
+/// How many entries a tree has, as a digit.
+fn count(tree: &Tree) -> u8 {
+    digit(u32::try_from(tree.len()).unwrap_or(99))
 }
 
 /// A plan. Where memory runs out, it is made of the operation that came back.
@@ -214,17 +232,7 @@ fn came_back(alloc: Global, operation: &Step, sign: u8, unit: u8) -> Result<[u8;
 }
 
 /// What comes of a script on a history of the empty tree, and how many entries the first tree and the last one have.
-pub(crate) fn said(
-    alloc: Global,
-    is_small: bool,
-    script: &[u8],
-) -> Result<(Vec<u8>, usize, usize), AllocError> {
-    let mut said = Vec::new(alloc);
+pub(crate) fn said(alloc: Global, is_small: bool, script: &[u8]) -> Result<Vec<u8>, AllocError> {
     let mut bench = Bench::new(alloc, is_small)?;
-    bench.play(alloc, script, &mut said)?;
-    Ok((
-        said,
-        bench.history.first().len(),
-        bench.history.tree().len(),
-    ))
+    bench.said(alloc, script)
 }
