@@ -1,11 +1,13 @@
 //! Logs of a shared history's operators, and whether they tell its rows.
 
-use crate::sharing::{Bench, first_tree, run};
+use crate::sharing::{first_tree, run};
 use footprint::{Answer, Notices, Refusal, StateWord};
 use history::{History, Operator, Request, RowReply, UndoRefusal};
 use link_tree::{Tree, TreePath};
 use sample_steps::{Step, digit, named, number, push_row, slot_of, step};
-use shared_admin::{CloseFault, LogEntries, LogEntry, SessionLog, SessionLogs, run_fault};
+use shared_admin::{
+    CloseFault, LogEntries, LogEntry, SessionLog, SessionLogs, SharedAdmin, Unclosed, run_fault,
+};
 use std::alloc::{AllocError, Global};
 use std::process::Abort;
 use std::sync::Wait;
@@ -38,12 +40,16 @@ fn request(alloc: Global, how: u8, unit: u8) -> Result<Request<Step>, AllocError
     }
 }
 
-/// The entry of a word: the step `+a` or the undo `u1`, how many rows were seen, the row, and its reply.
-fn entry(alloc: Global, word: &[u8]) -> Result<LogEntry<Step>, AllocError> {
+/// Adds the entry of a word: the step `+a` or the undo `u1`, how many rows were seen, the row, and its reply.
+fn push_entry(
+    alloc: Global,
+    word: &[u8],
+    entries: &mut LogEntries<Step>,
+) -> Result<(), AllocError> {
     let [how, unit, seen, row, what, which] = word else {
         return Err(AllocError);
     };
-    Ok(LogEntry {
+    entries.push(LogEntry {
         request: request(alloc, *how, *unit)?,
         seen: number(*seen),
         row: number(*row),
@@ -51,28 +57,40 @@ fn entry(alloc: Global, word: &[u8]) -> Result<LogEntry<Step>, AllocError> {
     })
 }
 
-/// The log of a text: the operator's letter, then a word for each entry.
-fn log(alloc: Global, text: &[u8]) -> Result<SessionLog<Step>, AllocError> {
-    let mut entries = LogEntries::none(alloc);
-    let mut words = text.split(|b| *b == b' ');
-    let operator = match words.next() {
-        Some([letter]) => named(*letter)?,
-        _ => return Err(AllocError),
-    };
-    for word in words {
-        entries.push(entry(alloc, word)?)?;
+/// Adds the entries of words.
+fn push_entries(
+    alloc: Global,
+    words: &[u8],
+    entries: &mut LogEntries<Step>,
+) -> Result<(), AllocError> {
+    for word in words.split(|b| *b == b' ') {
+        if !word.is_empty() {
+            push_entry(alloc, word, entries)?;
+        }
     }
-    Ok(SessionLog { operator, entries })
+    Ok(())
+}
+
+/// Adds the log of a text: the operator's letter, then a word for each entry.
+fn push_log(alloc: Global, text: &[u8], logs: &mut SessionLogs<Step>) -> Result<(), AllocError> {
+    let [letter, words @ ..] = text else {
+        return Err(AllocError);
+    };
+    let mut entries = LogEntries::none(alloc);
+    push_entries(alloc, words, &mut entries)?;
+    logs.push(SessionLog {
+        operator: named(*letter)?,
+        entries,
+    })
 }
 
 /// The logs of a text, with `/` between them; there may be none.
 fn logs(alloc: Global, text: &[u8]) -> Result<SessionLogs<Step>, AllocError> {
     let mut logs = SessionLogs::none(alloc);
-    if text.is_empty() {
-        return Ok(logs);
-    }
     for one in text.split(|b| *b == b'/') {
-        logs.push(log(alloc, one)?)?;
+        if !one.is_empty() {
+            push_log(alloc, one, &mut logs)?;
+        }
     }
     Ok(logs)
 }
@@ -107,25 +125,33 @@ fn push_back(
     Ok(())
 }
 
-fn closed(alloc: Global, bench: Bench, given: SessionLogs<Step>) -> Result<Vec<u8>, AllocError> {
-    let Bench {
-        admin,
-        snapshot: _,
-        plan: _,
-        said: _,
-    } = bench;
-    let mut said = Vec::new(alloc);
-    match admin.close(given) {
-        Ok((history, logs)) => push_back(&mut said, *b"ok-", &history, &logs)?,
-        Err(left) => push_back(&mut said, of_fault(&left.fault), &left.history, &left.logs)?,
+/// What closing with logs comes to.
+type Closed = Result<
+    (History<Step>, SessionLogs<Step>),
+    Unclosed<History<Step>, SessionLogs<Step>>,
+>;
+
+fn closed(
+    alloc: Global,
+    admin: Box<SharedAdmin<Step>>,
+    logs: SessionLogs<Step>,
+) -> Result<Box<Closed>, AllocError> {
+    Ok(Box::new(alloc, Box::into_inner(admin).close(logs))?)
+}
+
+fn push_closed(out: &mut Vec<u8>, closed: &Closed) -> Result<(), AllocError> {
+    match closed {
+        Ok((history, logs)) => push_back(out, *b"ok-", history, logs),
+        Err(left) => push_back(out, of_fault(&left.fault), &left.history, &left.logs),
     }
-    Ok(said)
 }
 
 fn said(alloc: Global, rt: &impl Wait, script: &[u8], text: &[u8]) -> Result<Vec<u8>, AllocError> {
-    let bench = run(alloc, rt, script)?;
-    let logs = logs(alloc, text)?;
-    closed(alloc, bench, logs)
+    let mut out = Vec::new(alloc);
+    let bench = run(alloc, rt, script, &mut out)?;
+    out.clear();
+    push_closed(&mut out, &*closed(alloc, bench.admin, logs(alloc, text)?)?)?;
+    Ok(out)
 }
 
 /// Calls on a history that alice and bob share, the logs, and what the close says.
@@ -217,23 +243,19 @@ fn each_log_tells_its_rows(rt: HostRuntime) -> Result<(), Fail> {
     assert_all_close(&rt, rt.alloc(), &MISMATCHES)
 }
 
-/// What is wrong with a history of the empty tree without rows that was to begin with a given tree.
-fn said_of_tree(alloc: Global, given: &Tree) -> Result<[u8; 3], AllocError> {
-    let history = History::<Step>::new(alloc, Tree::empty(alloc)?)?;
-    match run_fault(given, &[], &[], &history) {
+/// What is wrong with a history of the empty tree without rows that was to begin with a tree of one entry.
+fn said_of_another_tree(alloc: Global) -> Result<[u8; 3], AllocError> {
+    let given = Box::new(alloc, first_tree(alloc)?)?;
+    let history = Box::new(alloc, History::<Step>::new(alloc, Tree::empty(alloc)?)?)?;
+    match run_fault(&given, &[], &[], &history) {
         Some(fault) => Ok(of_fault(&fault)),
         None => Ok(*b"ok-"),
     }
 }
 
-fn said_of_one_entry(alloc: Global) -> Result<[u8; 3], AllocError> {
-    let given = first_tree(alloc)?;
-    said_of_tree(alloc, &given)
-}
-
 #[test]
 fn another_first_tree_is_told(rt: HostRuntime) -> Result<(), Fail> {
-    let said = ample!(said_of_one_entry(rt.alloc()), AllocError)?;
+    let said = ample!(said_of_another_tree(rt.alloc()), AllocError)?;
     assert_eq!(&rt; said.as_slice(), b"O--".as_slice());
     Ok(())
 }

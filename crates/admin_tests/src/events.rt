@@ -84,13 +84,21 @@ fn push_history(out: &mut Vec<u8>, history: &History<Step>) -> Result<(), AllocE
     Ok(out.push(digit(entries))?)
 }
 
-/// What comes of the events of a script on the empty tree: two bytes for each event, then the history.
+/// What is left of the events of a script on the empty tree, and the replies.
+type Driven = (History<Step>, Vec<EventReply>);
+
+fn driven(alloc: Global, script: &[u8]) -> Result<Box<Driven>, AllocError> {
+    let events = events(alloc, script)?;
+    let driven = drive(alloc, Tree::empty(alloc)?, events)?;
+    Ok(Box::new(alloc, driven)?)
+}
+
+/// Two bytes for each event of a script, then the history.
 pub(crate) fn said(alloc: Global, script: &[u8]) -> Result<Vec<u8>, AllocError> {
     let mut out = Vec::new(alloc);
-    let events = events(alloc, script)?;
-    let (history, replies) = drive(alloc, Tree::empty(alloc)?, events)?;
-    push_replies(&mut out, &replies)?;
-    push_history(&mut out, &history)?;
+    let driven = driven(alloc, script)?;
+    push_replies(&mut out, &driven.1)?;
+    push_history(&mut out, &driven.0)?;
     Ok(out)
 }
 
@@ -187,10 +195,16 @@ fn push_all(
     push_history(out, history)
 }
 
-/// What comes of the events of a script on an empty tree, with room for one row.
+/// A history of the empty tree, with room for one row.
+fn begun(alloc: Global) -> Result<Box<History<Step>>, AllocError> {
+    let history = History::with_limit(alloc, Tree::empty(alloc)?, 1)?;
+    Ok(Box::new(alloc, history)?)
+}
+
+/// What comes of the events of a script on it.
 fn said_in_one_row(alloc: Global, script: &[u8]) -> Result<Vec<u8>, AllocError> {
     let mut out = Vec::new(alloc);
-    let mut history = History::with_limit(alloc, Tree::empty(alloc)?, 1)?;
+    let mut history = begun(alloc)?;
     push_all(alloc, &mut history, script, &mut out)?;
     Ok(out)
 }

@@ -12,13 +12,12 @@ use std::sync::Wait;
 use std::test::Fail;
 use unit_name::ample;
 
-/// A shared history, a snapshot and a plan, and what was said, in three bytes a word.
+/// A shared history, a snapshot and a plan.
 #[derive(Drop)]
 pub(crate) struct Bench {
-    pub(crate) admin: SharedAdmin<Step>,
-    pub(crate) snapshot: Snapshot,
-    pub(crate) plan: Option<Plan<Step>>,
-    pub(crate) said: Vec<u8>,
+    pub(crate) admin: Box<SharedAdmin<Step>>,
+    snapshot: Box<Snapshot>,
+    plan: Option<Box<Plan<Step>>>,
 }
 
 /// What made no row in a history that isn't full wanted memory.
@@ -48,24 +47,21 @@ pub(crate) fn first_tree(alloc: Global) -> Result<Tree, AllocError> {
     }
 }
 
-/// A history of that tree, shared by the operators of these letters.
-pub(crate) fn shared(alloc: Global, letters: &[u8]) -> Result<SharedAdmin<Step>, OpenError> {
-    match (first_tree(alloc), operators(alloc, letters)) {
-        (Ok(tree), Ok(operators)) => SharedAdmin::new(alloc, tree, operators),
-        _ => Err(OpenError::OutOfMemory),
+/// A history of that tree, shared by alice and bob.
+fn shared(alloc: Global) -> Result<Box<SharedAdmin<Step>>, AllocError> {
+    match SharedAdmin::new(alloc, first_tree(alloc)?, operators(alloc, b"AB")?) {
+        Ok(admin) => Ok(Box::new(alloc, admin)?),
+        Err(_) => Err(AllocError),
     }
 }
 
-fn begun(alloc: Global, rt: &impl Wait, letters: &[u8]) -> Result<Bench, AllocError> {
-    let Ok(admin) = shared(alloc, letters) else {
-        return Err(AllocError);
-    };
-    let snapshot = admin.snapshot(rt)?;
+fn begun(alloc: Global, rt: &impl Wait) -> Result<Bench, AllocError> {
+    let admin = shared(alloc)?;
+    let snapshot = Box::new(alloc, admin.snapshot(rt)?)?;
     Ok(Bench {
         admin,
         snapshot,
         plan: None,
-        said: Vec::new(alloc),
     })
 }
 
@@ -77,33 +73,42 @@ fn of_row(row: &NewRow) -> [u8; 3] {
 
 impl Bench {
     /// A snapshot: how many rows there are, and how many entries.
-    fn snap(&mut self, rt: &impl Wait) -> Result<[u8; 3], AllocError> {
-        self.snapshot = self.admin.snapshot(rt)?;
+    fn snap(&mut self, alloc: Global, rt: &impl Wait) -> Result<[u8; 3], AllocError> {
+        self.snapshot = Box::new(alloc, self.admin.snapshot(rt)?)?;
         let entries = u32::try_from(self.snapshot.tree.len()).unwrap_or(99);
         Ok([b't', digit(self.snapshot.front), digit(entries)])
     }
 
     fn plan(&mut self, alloc: Global, step: Step) -> Result<[u8; 3], AllocError> {
         match plan(alloc, &self.snapshot, step) {
-            Ok(plan) => {
-                self.plan = Some(plan);
-                Ok(*b"p--")
-            }
+            Ok(plan) => self.keep(alloc, plan, *b"p--"),
             Err(unrun) => Err(unless_full(unrun.why)),
         }
     }
 
+    fn keep(
+        &mut self,
+        alloc: Global,
+        plan: Plan<Step>,
+        said: [u8; 3],
+    ) -> Result<[u8; 3], AllocError> {
+        self.plan = Some(Box::new(alloc, plan)?);
+        Ok(said)
+    }
+
     /// Commits the plan. One that is stale is kept.
-    fn commit(&mut self, rt: &impl Wait, operator: Operator) -> Result<[u8; 3], AllocError> {
+    fn commit(
+        &mut self,
+        alloc: Global,
+        rt: &impl Wait,
+        operator: Operator,
+    ) -> Result<[u8; 3], AllocError> {
         let Some(plan) = self.plan.take() else {
             return Ok(*b"n--");
         };
-        match self.admin.commit(rt, operator, plan) {
+        match self.admin.commit(rt, operator, Box::into_inner(plan)) {
             Ok(Settled::Committed(row)) => Ok(of_row(&row)),
-            Ok(Settled::Stale { plan, at }) => {
-                self.plan = Some(plan);
-                Ok([b's', unit_at(&at), b'-'])
-            }
+            Ok(Settled::Stale { plan, at }) => self.keep(alloc, plan, [b's', unit_at(&at), b'-']),
             Err(left) => Err(unless_full(left.why)),
         }
     }
@@ -143,38 +148,46 @@ impl Bench {
         word: &[u8],
     ) -> Result<[u8; 3], AllocError> {
         match word {
-            b"s" => self.snap(rt),
+            [b's'] => self.snap(alloc, rt),
             [b'p', how, unit] => self.plan(alloc, step(alloc, *how, *unit)?),
-            [who, b'c'] => self.commit(rt, named(*who)?),
+            [who, b'c'] => self.commit(alloc, rt, named(*who)?),
             [who, b'u', n] => self.undo(rt, alloc, named(*who)?, number(*n)),
             [who, how, unit] => self.call(rt, alloc, named(*who)?, step(alloc, *how, *unit)?),
             _ => Err(AllocError),
         }
     }
 
-    fn next(&mut self, rt: &impl Wait, alloc: Global, word: &[u8]) -> Result<(), AllocError> {
-        let said = self.answer(rt, alloc, word)?;
-        Ok(self.said.extend_from_slice(&said)?)
+    /// Makes what the words of a script ask for, and adds what they say.
+    fn play(
+        &mut self,
+        rt: &impl Wait,
+        alloc: Global,
+        script: &[u8],
+        out: &mut Vec<u8>,
+    ) -> Result<(), AllocError> {
+        for word in script.split(|b| *b == b' ') {
+            out.extend_from_slice(&self.answer(rt, alloc, word)?)?;
+        }
+        Ok(())
     }
 }
 
-/// What is left of a script on that tree, which alice and bob share.
-pub(crate) fn run(alloc: Global, rt: &impl Wait, script: &[u8]) -> Result<Bench, AllocError> {
-    let mut bench = begun(alloc, rt, b"AB")?;
-    for word in script.split(|b| *b == b' ') {
-        bench.next(rt, alloc, word)?;
-    }
+/// What is left of a script on that tree; what it says is added.
+pub(crate) fn run(
+    alloc: Global,
+    rt: &impl Wait,
+    script: &[u8],
+    out: &mut Vec<u8>,
+) -> Result<Bench, AllocError> {
+    let mut bench = begun(alloc, rt)?;
+    bench.play(rt, alloc, script, out)?;
     Ok(bench)
 }
 
 fn said(alloc: Global, rt: &impl Wait, script: &[u8]) -> Result<Vec<u8>, AllocError> {
-    let Bench {
-        admin: _,
-        snapshot: _,
-        plan: _,
-        said,
-    } = run(alloc, rt, script)?;
-    Ok(said)
+    let mut out = Vec::new(alloc);
+    run(alloc, rt, script, &mut out)?;
+    Ok(out)
 }
 
 /// A script, and what it says.
@@ -238,18 +251,31 @@ fn shared_by(alloc: Global, count: usize, again: bool) -> Result<SharedAdmin<Ste
 
 /// What comes of so many operators, the first of which may be there again at the end.
 fn opened(alloc: Global, count: usize, again: bool) -> Result<(), OpenError> {
-    let _admin = ample!(shared_by(alloc, count, again), OpenError::OutOfMemory)?;
-    Ok(())
+    match shared_by(alloc, count, again) {
+        Ok(_) => Ok(()),
+        Err(why) => Err(why),
+    }
 }
+
+/// So many operators, whether the first is there again, and what comes of them.
+type Opened = (usize, bool, Result<(), OpenError>);
+
+const OPENED: [Opened; 7] = [
+    (0, false, Ok(())),
+    (2, false, Ok(())),
+    (MAX_SESSIONS, false, Ok(())),
+    (17, false, Err(OpenError::TooManySessions)),
+    (16, true, Err(OpenError::TooManySessions)),
+    (15, true, Err(OpenError::SameOperator)),
+    (1, true, Err(OpenError::SameOperator)),
+];
 
 #[test]
 fn at_most_sixteen_operators_each_once(rt: HostRuntime) {
-    let alloc = rt.alloc();
-    assert_eq!(&rt; opened(alloc, 0, false), Ok(()));
-    assert_eq!(&rt; opened(alloc, 2, false), Ok(()));
-    assert_eq!(&rt; opened(alloc, MAX_SESSIONS, false), Ok(()));
-    assert_eq!(&rt; opened(alloc, 17, false), Err(OpenError::TooManySessions));
-    assert_eq!(&rt; opened(alloc, 16, true), Err(OpenError::TooManySessions));
-    assert_eq!(&rt; opened(alloc, 15, true), Err(OpenError::SameOperator));
-    assert_eq!(&rt; opened(alloc, 1, true), Err(OpenError::SameOperator));
+    for (count, again, expected) in &OPENED {
+        assert_eq!(&rt;
+            ample!(opened(rt.alloc(), *count, *again), OpenError::OutOfMemory),
+            *expected
+        );
+    }
 }

@@ -9,8 +9,17 @@ use std::alloc::{AllocError, Global};
 
 #[derive(Drop)]
 pub(crate) struct Bench {
-    pub(crate) history: History<Step>,
-    plan: Option<Plan<Step>>,
+    pub(crate) history: Box<History<Step>>,
+    plan: Option<Box<Plan<Step>>>,
+}
+
+/// A history of the empty tree.
+fn begun(alloc: Global, limit: usize) -> Result<Box<History<Step>>, AllocError>
+    requires some { 1 ≤ limit }
+    requires few { limit ≤ 1000000 }
+{
+    let history = History::with_limit(alloc, Tree::empty(alloc)?, limit)?;
+    Ok(Box::new(alloc, history)?)
 }
 
 impl Bench {
@@ -18,7 +27,7 @@ impl Bench {
     pub(crate) fn new(alloc: Global, is_small: bool) -> Result<Bench, AllocError> {
         let limit = if is_small { 1 } else { MAX_ROWS };
         Ok(Bench {
-            history: History::with_limit(alloc, Tree::empty(alloc)?, limit)?,
+            history: begun(alloc, limit)?,
             plan: None,
         })
     }
@@ -108,24 +117,29 @@ impl Bench {
     }
 
     /// Keeps a plan that makes no row.
-    fn keep(&mut self, plan: Plan<Step>, said: [u8; 2]) -> Result<[u8; 2], AllocError> {
-        self.plan = Some(plan);
+    fn keep(
+        &mut self,
+        alloc: Global,
+        plan: Plan<Step>,
+        said: [u8; 2],
+    ) -> Result<[u8; 2], AllocError> {
+        self.plan = Some(Box::new(alloc, plan)?);
         Ok(said)
     }
 
-    fn commit(&mut self, committer: Operator) -> Result<[u8; 2], AllocError> {
+    fn commit(&mut self, alloc: Global, committer: Operator) -> Result<[u8; 2], AllocError> {
         let Some(plan) = self.plan.take() else {
             return Ok(*b"n-");
         };
         match committed(&mut self.history, committer, plan) {
             Ok(Commit::Committed(n)) => Ok([b'k', digit(n)]),
-            Ok(Commit::Stale { plan, at }) => self.keep(plan, [b's', unit_at(&at)]),
+            Ok(Commit::Stale { plan, at }) => self.keep(alloc, plan, [b's', unit_at(&at)]),
             Err(
                 Uncommitted {
                     plan,
                     why: CallError::Full,
                 },
-            ) => self.keep(plan, *b"f-"),
+            ) => self.keep(alloc, plan, *b"f-"),
             Err(_) => Err(AllocError),
         }
     }
@@ -142,7 +156,7 @@ impl Bench {
     /// Takes the plan apart, which is of a step of a sign and a unit.
     fn take_apart(&mut self, alloc: Global, sign: u8, unit: u8) -> Result<[u8; 2], AllocError> {
         match self.plan.take() {
-            Some(plan) => came_back(alloc, &plan.into_op(), sign, unit),
+            Some(plan) => came_back(alloc, &Box::into_inner(plan).into_op(), sign, unit),
             None => Ok(*b"n-"),
         }
     }
@@ -151,7 +165,7 @@ impl Bench {
     /// `c` commits it for bob; `?` asks what the plan answered, and `o+a` takes apart a plan of the step `+a`.
     pub(crate) fn answer(&mut self, alloc: Global, word: &[u8]) -> Result<[u8; 2], AllocError> {
         match word {
-            [b'c'] => self.commit(operator(b"bob")?),
+            [b'c'] => self.commit(alloc, operator(b"bob")?),
             [b'?'] => Ok(self.answered()),
             [b'u', n] => self.undo(alloc, operator(b"alice")?, number(*n)),
             [sign, unit] => self.call(alloc, operator(b"alice")?, [*sign, *unit]),
@@ -193,13 +207,13 @@ fn count(tree: &Tree) -> u8 {
 }
 
 /// A plan. Where memory runs out, it is made of the operation that came back.
-fn planned(alloc: Global, tree: &Tree, step: Step) -> Result<Plan<Step>, AllocError> {
+fn planned(alloc: Global, tree: &Tree, step: Step) -> Result<Box<Plan<Step>>, AllocError> {
     let made = match Plan::make(alloc, step, tree) {
         Err(unrun) => Plan::make(alloc, unrun.operation, tree),
         plan => plan,
     };
     match made {
-        Ok(plan) => Ok(plan),
+        Ok(plan) => Ok(Box::new(alloc, plan)?),
         Err(_) => Err(AllocError),
     }
 }
@@ -208,9 +222,9 @@ fn planned(alloc: Global, tree: &Tree, step: Step) -> Result<Plan<Step>, AllocEr
 fn committed(
     history: &mut History<Step>,
     committer: Operator,
-    plan: Plan<Step>,
+    plan: Box<Plan<Step>>,
 ) -> Result<Commit<Plan<Step>>, Uncommitted<Plan<Step>>> {
-    match history.commit(committer, plan) {
+    match history.commit(committer, Box::into_inner(plan)) {
         Err(
             Uncommitted {
                 plan,

@@ -57,37 +57,30 @@ fn watch(
     key: Key,
     slot: &[u8],
     told: Option<UnitName>,
-) -> Result<Watch, AllocError> {
-    let file = path(alloc, FILE)?;
-    let slot = path(alloc, slot)?;
-    Ok(Watch {
+) -> Result<Box<Watch>, AllocError> {
+    let watch = Watch {
         key,
         told,
-        file,
-        slot,
-    })
+        file: path(alloc, FILE)?,
+        slot: path(alloc, slot)?,
+    };
+    Ok(Box::new(alloc, watch)?)
 }
 
 /// Looks by a key of a kind and a name.
-fn looking(alloc: Global, kind: Watched, of: &[u8], slot: &[u8]) -> Result<Watch, AllocError> {
+fn looking(alloc: Global, kind: Watched, of: &[u8], slot: &[u8]) -> Result<Box<Watch>, AllocError> {
     watch(alloc, key(alloc, kind, of)?, slot, None)
 }
 
-/// Looks by the cell of `b.service`, and tells of a unit.
-fn telling(alloc: Global, slot: &[u8], unit: &[u8]) -> Result<Watch, AllocError> {
-    let told = name(alloc, unit)?;
-    watch(
-        alloc,
-        key(alloc, Watched::Cell, b"b.service")?,
-        slot,
-        Some(told),
-    )
+/// Looks by the presets, and tells of a unit.
+fn telling(alloc: Global, slot: &[u8], unit: &[u8]) -> Result<Box<Watch>, AllocError> {
+    watch(alloc, Key::Presets, slot, Some(name(alloc, unit)?))
 }
 
 /// The call of a watch. Where memory runs out, the operation that came back is run.
-fn call(alloc: Global, history: &mut History<Watch>, watch: Watch) -> Result<u32, AllocError> {
+fn call(alloc: Global, history: &mut History<Watch>, watch: Box<Watch>) -> Result<u32, AllocError> {
     let alice = operator(b"alice")?;
-    let called = match history.call(alloc, alice, watch) {
+    let called = match history.call(alloc, alice, Box::into_inner(watch)) {
         Err(unrun) => history.call(alloc, alice, unrun.operation),
         answer => answer,
     };
@@ -128,7 +121,7 @@ fn looked(
     alloc: Global,
     history: &mut History<Watch>,
     slot: &[u8],
-    later: Watch,
+    later: Box<Watch>,
 ) -> Result<(usize, bool), AllocError> {
     call(
         alloc,
@@ -141,6 +134,12 @@ fn looked(
     Ok((readers, is_refused_for_the_second(history)))
 }
 
+/// A history of the empty tree.
+fn begun(alloc: Global) -> Result<Box<History<Watch>>, AllocError> {
+    let history = History::new(alloc, Tree::empty(alloc)?)?;
+    Ok(Box::new(alloc, history)?)
+}
+
 /// The same of a key of a kind and a name, in a history of its own.
 fn looked_by(
     alloc: Global,
@@ -149,7 +148,7 @@ fn looked_by(
     of: &[u8],
 ) -> Result<(usize, bool), AllocError> {
     let later = looking(alloc, kind, of, b"/run/systemd/system/z.service")?;
-    let mut history = History::new(alloc, Tree::empty(alloc)?)?;
+    let mut history = begun(alloc)?;
     looked(alloc, &mut history, slot, later)
 }
 
@@ -225,11 +224,31 @@ fn text_of(alloc: Global, outcome: &Outcome) -> Result<Vec<u8>, AllocError> {
 /// A slot, and the unit that an operation tells of.
 type Telling = (&'static [u8], &'static [u8]);
 
-/// What two operations that tell of a unit each say as one, on the empty tree.
-fn said(alloc: Global, first: Telling, second: Telling) -> Result<Vec<u8>, AllocError> {
+/// Two operations in one.
+fn both(
+    alloc: Global,
+    first: Telling,
+    second: Telling,
+) -> Result<Box<Then<Watch, Watch>>, AllocError> {
     let first = telling(alloc, first.0, first.1)?;
     let second = telling(alloc, second.0, second.1)?;
-    let outcome = Then { first, second }.run(alloc, &Tree::empty(alloc)?)?;
+    let both = Then {
+        first: Box::into_inner(first),
+        second: Box::into_inner(second),
+    };
+    Ok(Box::new(alloc, both)?)
+}
+
+/// What an operation comes to on the empty tree.
+fn outcome<O: Operation>(alloc: Global, operation: &O) -> Result<Box<Outcome>, AllocError> {
+    let tree = Box::new(alloc, Tree::empty(alloc)?)?;
+    Ok(Box::new(alloc, operation.run(alloc, &tree)?)?)
+}
+
+/// What two operations that tell of a unit each say as one.
+fn said(alloc: Global, first: Telling, second: Telling) -> Result<Vec<u8>, AllocError> {
+    let both = both(alloc, first, second)?;
+    let outcome = outcome(alloc, &*both)?;
     text_of(alloc, &outcome)
 }
 
@@ -268,9 +287,11 @@ fn two_operations_tell_what_both_tell(rt: HostRuntime) -> Result<(), Fail> {
 
 /// Whether two steps in one ask only.
 fn ask_only(alloc: Global, first: u8, second: u8) -> Result<bool, AllocError> {
-    let first = step(alloc, first, b'a')?;
-    let second = step(alloc, second, b'a')?;
-    Ok(Then { first, second }.asks_only())
+    let both = Then {
+        first: step(alloc, first, b'a')?,
+        second: step(alloc, second, b'a')?,
+    };
+    Ok(both.asks_only())
 }
 
 #[test]
@@ -285,17 +306,14 @@ fn two_questions_ask_only(rt: HostRuntime) -> Result<(), Fail> {
 }
 
 /// Whether a copy is the same, and no question.
-fn is_copied(watch: &Watch) -> Result<bool, AllocError> {
-    let copy = watch.copy()?;
-    Ok(copy.same(watch) && !copy.asks_only())
-}
-
-fn is_telling_copied(alloc: Global) -> Result<bool, AllocError> {
-    is_copied(&telling(alloc, UNIT, b"a.service")?)
+fn is_copied(alloc: Global) -> Result<bool, AllocError> {
+    let watch = telling(alloc, UNIT, b"a.service")?;
+    let copy = Box::new(alloc, watch.copy()?)?;
+    Ok(copy.same(&watch) && !copy.asks_only())
 }
 
 #[test]
 fn watches_are_copied(rt: HostRuntime) -> Result<(), Fail> {
-    assert!(rt; ample!(is_telling_copied(rt.alloc()), AllocError)?);
+    assert!(rt; ample!(is_copied(rt.alloc()), AllocError)?);
     Ok(())
 }
