@@ -12,16 +12,21 @@ use std::sync::Wait;
 use std::test::Fail;
 use unit_name::ample;
 
-/// A run with the log of a session. With `with_job` the desk has a job of alice's without an answer.
-fn fed(alloc: Global, session: Session<Step>, with_job: bool) -> Result<Fed<Step>, AllocError> {
+/// A desk, which has a job of alice's without an answer where that is wanted.
+fn desk(alloc: Global, with_job: bool) -> Result<Desk, AllocError> {
     let mut desk = Desk::new(alloc);
     if with_job {
         if let Err(_) = desk.issue(operator(b"alice")?, Request::<Step>::Undo(1)) {
             return Err(AllocError);
         }
     }
+    Ok(desk)
+}
+
+/// A run with the log of a session.
+fn fed(alloc: Global, session: Box<Session<Step>>, desk: Desk) -> Result<Fed<Step>, AllocError> {
     let mut logs = SessionLogs::none(alloc);
-    logs.push(session.into_log())?;
+    logs.push(Box::into_inner(session).into_log())?;
     Ok(Fed {
         desk,
         logs,
@@ -36,9 +41,10 @@ type Asked = (&'static [u8], usize, bool, Option<u32>);
 fn told(rt: &impl Wait, alloc: Global, asked: &Asked) -> Result<Option<u32>, AllocError> {
     let admin = shared(alloc, b"A")?;
     let session = session_told(rt, alloc, &admin, 0)?;
-    let fed = fed(alloc, session, asked.2)?;
     let asks = asks(alloc, asked.0, asked.1)?;
-    match close_fed(admin, fed, asks.as_slice()) {
+    let fed = fed(alloc, session, desk(alloc, asked.2)?)?;
+    let closed = close_fed(Box::into_inner(admin), fed, asks.as_slice());
+    match &*Box::new(alloc, closed)? {
         Ok(_) => Ok(None),
         Err(left) => Ok(Some(place_in(&left.fault))),
     }

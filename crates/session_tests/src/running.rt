@@ -2,7 +2,7 @@
 
 use crate::scripts::{Open, Ran, asks, operators, push_run, works};
 use link_tree::Tree;
-use sessions::{Gate, RunError, run_desk, run_sessions};
+use sessions::{Gate, run_desk, run_sessions};
 use std::alloc::{AllocError, Global};
 use std::process::Abort;
 use std::sync::Wait;
@@ -16,9 +16,10 @@ fn ran<R: Threads + Wait + Sync, G: Gate + Sync>(
     alloc: Global,
     script: &[u8],
     gate: &G,
-) -> Ran {
+) -> Result<Box<Ran>, AllocError> {
     let works = works(alloc, script)?;
-    run_sessions(rt, alloc, Tree::empty(alloc)?, works, gate)
+    let ran = run_sessions(rt, alloc, Tree::empty(alloc)?, works, gate);
+    Ok(Box::new(alloc, ran)?)
 }
 
 /// What a run of works comes to.
@@ -29,7 +30,7 @@ pub(crate) fn text_of_run<R: Threads + Wait + Sync, G: Gate + Sync>(
     gate: &G,
 ) -> Result<Vec<u8>, AllocError> {
     let mut out = Vec::new(alloc);
-    push_run(&ran(rt, alloc, script, gate), &mut out)?;
+    push_run(&*ran(rt, alloc, script, gate)?, &mut out)?;
     Ok(out)
 }
 
@@ -42,14 +43,14 @@ fn fed<R: Threads + Wait + Sync, G: Gate + Sync>(
     alloc: Global,
     (letters, script, times): Feed<'_>,
     gate: &G,
-) -> Ran {
+) -> Result<Box<Ran>, AllocError> {
     let operators = operators(alloc, letters)?;
     let asks = asks(alloc, script, times)?;
-    if asks.are_of(operators.as_slice()) {
-        run_desk(rt, alloc, Tree::empty(alloc)?, operators, asks, gate)
-    } else {
-        Err(RunError::OutOfMemory)
+    if !asks.are_of(operators.as_slice()) {
+        return Err(AllocError);
     }
+    let ran = run_desk(rt, alloc, Tree::empty(alloc)?, operators, asks, gate);
+    Ok(Box::new(alloc, ran)?)
 }
 
 /// What comes of feeding operators.
@@ -60,7 +61,7 @@ pub(crate) fn text_of_feed<R: Threads + Wait + Sync, G: Gate + Sync>(
     gate: &G,
 ) -> Result<Vec<u8>, AllocError> {
     let mut out = Vec::new(alloc);
-    push_run(&fed(rt, alloc, feed, gate), &mut out)?;
+    push_run(&*fed(rt, alloc, feed, gate)?, &mut out)?;
     Ok(out)
 }
 

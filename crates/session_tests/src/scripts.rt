@@ -31,35 +31,48 @@ pub(crate) fn request(alloc: Global, word: &[u8]) -> Result<Request<Step>, Alloc
     }
 }
 
-/// The work of a line: the operator's letter, then a word for each request.
-fn work(alloc: Global, line: &[u8]) -> Result<Work<Step>, AllocError> {
-    let mut requests = Requests::none(alloc);
-    let mut words = line.split(|b| *b == b' ');
-    let operator = match words.next() {
-        Some([letter]) => named(*letter)?,
-        _ => return Err(AllocError),
-    };
-    for word in words {
-        requests.push(request(alloc, word)?)?;
+/// Adds the requests of words.
+fn push_requests(
+    alloc: Global,
+    words: &[u8],
+    requests: &mut Requests<Step>,
+) -> Result<(), AllocError> {
+    for word in words.split(|b| *b == b' ') {
+        if !word.is_empty() {
+            requests.push(request(alloc, word)?)?;
+        }
     }
-    Ok(Work { operator, requests })
+    Ok(())
+}
+
+/// Adds the work of a line: the operator's letter, then a word for each request.
+fn push_work(alloc: Global, line: &[u8], works: &mut Works<Step>) -> Result<(), AllocError> {
+    let [letter, words @ ..] = line else {
+        return Err(AllocError);
+    };
+    let mut requests = Requests::none(alloc);
+    push_requests(alloc, words, &mut requests)?;
+    works.push(Work {
+        operator: named(*letter)?,
+        requests,
+    })
 }
 
 /// The works of lines with `/` between them.
 pub(crate) fn works(alloc: Global, script: &[u8]) -> Result<Works<Step>, AllocError> {
     let mut works = Works::none(alloc);
     for line in script.split(|b| *b == b'/') {
-        works.push(work(alloc, line)?)?;
+        push_work(alloc, line, &mut works)?;
     }
     Ok(works)
 }
 
-/// The ask of a word: the operator's letter, then the request.
-fn ask(alloc: Global, word: &[u8]) -> Result<Ask<Step>, AllocError> {
+/// Adds the ask of a word: the operator's letter, then the request.
+fn push_ask(alloc: Global, word: &[u8], asks: &mut Asks<Step>) -> Result<(), AllocError> {
     let [letter, rest @ ..] = word else {
         return Err(AllocError);
     };
-    Ok(Ask {
+    asks.push(Ask {
         operator: named(*letter)?,
         request: request(alloc, rest)?,
     })
@@ -70,7 +83,7 @@ pub(crate) fn asks(alloc: Global, script: &[u8], times: usize) -> Result<Asks<St
     let mut asks = Asks::none(alloc);
     for _ in 0..times {
         for word in script.split(|b| *b == b' ') {
-            asks.push(ask(alloc, word)?)?;
+            push_ask(alloc, word, &mut asks)?;
         }
     }
     Ok(asks)

@@ -13,9 +13,9 @@ use std::test::Fail;
 use unit_name::ample;
 
 /// An empty tree, which the operators of these letters share.
-pub(crate) fn shared(alloc: Global, letters: &[u8]) -> Result<SharedAdmin<Step>, AllocError> {
+pub(crate) fn shared(alloc: Global, letters: &[u8]) -> Result<Box<SharedAdmin<Step>>, AllocError> {
     match SharedAdmin::new(alloc, Tree::empty(alloc)?, operators(alloc, letters)?) {
-        Ok(admin) => Ok(admin),
+        Ok(admin) => Ok(Box::new(alloc, admin)?),
         Err(_) => Err(AllocError),
     }
 }
@@ -78,6 +78,11 @@ fn last_of(session: &Session<Step>) -> (u32, u32, [u8; 2]) {
     }
 }
 
+/// The session of an operator.
+fn opened(alloc: Global, name: &[u8]) -> Result<Box<Session<Step>>, AllocError> {
+    Ok(Box::new(alloc, Session::open(alloc, operator(name)?))?)
+}
+
 /// The attempts at alice's call, and what is told of it.
 fn meddled(rt: &impl Wait, alloc: Global) -> Result<(u64, (u32, u32, [u8; 2])), AllocError> {
     let admin = shared(alloc, b"AB")?;
@@ -88,7 +93,7 @@ fn meddled(rt: &impl Wait, alloc: Global) -> Result<(u64, (u32, u32, [u8; 2])), 
         admin: &admin,
         seen: &seen,
     };
-    let mut session = Session::open(alloc, operator(b"alice")?);
+    let mut session = opened(alloc, b"alice")?;
     call(rt, alloc, &mut session, &admin, &gate, b"+a")?;
     Ok((seen.load(Ordering::SeqCst), last_of(&session)))
 }
@@ -107,8 +112,8 @@ pub(crate) fn session_told(
     alloc: Global,
     admin: &SharedAdmin<Step>,
     front: u32,
-) -> Result<Session<Step>, AllocError> {
-    let mut session = Session::open(alloc, operator(b"alice")?);
+) -> Result<Box<Session<Step>>, AllocError> {
+    let mut session = opened(alloc, b"alice")?;
     session.tell(front);
     session.tell(0);
     call(rt, alloc, &mut session, admin, &Open, b"+a")?;
@@ -124,11 +129,18 @@ pub(crate) fn place_in(fault: &CloseFault) -> u32 {
     }
 }
 
-/// How closing goes: the place of the first entry that doesn't tell its row, if there is one.
-fn closed(admin: SharedAdmin<Step>, logs: SessionLogs<Step>) -> Option<u32> {
-    match admin.close(logs) {
-        Ok(_) => None,
-        Err(left) => Some(place_in(&left.fault)),
+/// How closing goes with the log of one session: the place of the first entry that doesn't tell its row, if there is one.
+fn closed(
+    alloc: Global,
+    admin: Box<SharedAdmin<Step>>,
+    session: Box<Session<Step>>,
+) -> Result<Option<u32>, AllocError> {
+    let mut logs = SessionLogs::none(alloc);
+    logs.push(Box::into_inner(session).into_log())?;
+    let closed = Box::new(alloc, Box::into_inner(admin).close(logs))?;
+    match &*closed {
+        Ok(_) => Ok(None),
+        Err(left) => Ok(Some(place_in(&left.fault))),
     }
 }
 
@@ -141,9 +153,7 @@ fn told(
     let admin = shared(alloc, b"A")?;
     let session = session_told(rt, alloc, &admin, front)?;
     let last = last_of(&session);
-    let mut logs = SessionLogs::none(alloc);
-    logs.push(session.into_log())?;
-    Ok((last, closed(admin, logs)))
+    Ok((last, closed(alloc, admin, session)?))
 }
 
 #[test]
