@@ -21,7 +21,8 @@ const REFUSED: usize = 99;
 
 /// How many changes an action makes on the empty tree.
 fn changes_of(alloc: Global, action: &Action) -> Result<usize, AllocError> {
-    let outcome = action.run(alloc, &Tree::empty(alloc)?)?;
+    let tree = Box::new(alloc, Tree::empty(alloc)?)?;
+    let outcome = Box::new(alloc, action.run(alloc, &tree)?)?;
     Ok(count(&outcome))
 }
 
@@ -30,7 +31,7 @@ fn changes_of(alloc: Global, action: &Action) -> Result<usize, AllocError> {
 fn told(alloc: Global, line: &[u8], other: &[u8]) -> Result<(bool, bool, usize), AllocError> {
     let action = lines::action(alloc, line)?;
     let other = lines::action(alloc, other)?;
-    let copy = action.copy()?;
+    let copy = Box::new(alloc, action.copy()?)?;
     let is_told_apart = copy.same(&action) && !copy.same(&other);
     Ok((is_told_apart, copy.asks_only(), changes_of(alloc, &copy)?))
 }

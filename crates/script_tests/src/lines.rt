@@ -19,23 +19,31 @@ fn script_of(alloc: Global, line: &[u8]) -> Result<Vec<u8>, AllocError> {
 }
 
 /// The call of a line, if it isn't skipped.
-pub(crate) fn call(alloc: Global, line: &[u8]) -> Result<Option<Call>, ReadError<ScriptFault>> {
+pub(crate) fn call(
+    alloc: Global,
+    line: &[u8],
+) -> Result<Box<Option<Call>>, ReadError<ScriptFault>> {
     let script = script_of(alloc, line)?;
-    Ok(read_script(alloc, &mut Faulty::new(&script, ALL, 0))?.pop())
+    let mut calls = read_script(alloc, &mut Faulty::new(&script, ALL, 0))?;
+    Ok(Box::new(alloc, calls.pop())?)
+}
+
+/// The call of a line that is one.
+pub(crate) fn whole_call(alloc: Global, line: &[u8]) -> Result<Box<Call>, AllocError> {
+    let Ok(call) = call(alloc, line) else {
+        return Err(AllocError);
+    };
+    match Box::into_inner(call) {
+        Some(call) => Ok(Box::new(alloc, call)?),
+        None => Err(AllocError),
+    }
 }
 
 /// The command or the question of a line.
-pub(crate) fn action(alloc: Global, line: &[u8]) -> Result<Action, AllocError> {
-    match call(alloc, line) {
-        Ok(
-            Some(
-                Call {
-                    operator: _,
-                    request: Request::Do(action),
-                },
-            ),
-        ) => Ok(action),
-        _ => Err(AllocError),
+pub(crate) fn action(alloc: Global, line: &[u8]) -> Result<Box<Action>, AllocError> {
+    match Box::into_inner(whole_call(alloc, line)?).request {
+        Request::Do(action) => Ok(Box::new(alloc, action)?),
+        Request::Undo(_) => Err(AllocError),
     }
 }
 

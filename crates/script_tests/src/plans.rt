@@ -22,44 +22,6 @@ const SSH: &[u8] = b"unitadm-inventory 1\n\
 /// own call.
 type Happening = (u8, &'static [u8]);
 
-/// The call of a line, none of an empty one.
-fn read(alloc: Global, line: &[u8]) -> Result<Option<Call>, AllocError> {
-    match lines::call(alloc, line) {
-        Ok(call) => Ok(call),
-        Err(_) => Err(AllocError),
-    }
-}
-
-fn called(call: Call) -> Event<Action>
-    ensures { HasSlot result }
-{
-    let Call { operator, request } = call;
-    match request {
-        Request::Do(action) => Event::Call(operator, action),
-        Request::Undo(n) => Event::Undo(operator, n),
-    }
-}
-
-fn planned(call: Call) -> Result<Event<Action>, AllocError>
-    ensures { IfOk result (HasSlot {O = Action}) }
-{
-    match call.request {
-        Request::Do(action) => Ok(Event::Plan(0, action)),
-        Request::Undo(_) => Err(AllocError),
-    }
-}
-
-fn event(how: u8, call: Option<Call>, alice: Operator) -> Result<Event<Action>, AllocError>
-    ensures { IfOk result (HasSlot {O = Action}) }
-{
-    match call {
-        None if how == b's' => Ok(Event::Snap(0)),
-        None => Ok(Event::Commit(0, alice)),
-        Some(call) if how == b'p' => planned(call),
-        Some(call) => Ok(called(call)),
-    }
-}
-
 /// One event more.
 fn add(events: &mut Vec<Event<Action>>, event: Event<Action>) -> Result<(), AllocError>
     requires before { All (HasSlot {O = Action}) events.old.items }
@@ -69,15 +31,51 @@ fn add(events: &mut Vec<Event<Action>>, event: Event<Action>) -> Result<(), Allo
     Ok(events.push(event)?)
 }
 
+/// The line's own call.
+fn add_call(alloc: Global, line: &[u8], events: &mut Vec<Event<Action>>) -> Result<(), AllocError>
+    requires before { All (HasSlot {O = Action}) events.old.items }
+    ensures ok { OnOk result (All (HasSlot {O = Action}) events.new.items) }
+{
+    let Call { operator, request } = Box::into_inner(lines::whole_call(alloc, line)?);
+    match request {
+        Request::Do(action) => add(events, Event::Call(operator, action)),
+        Request::Undo(n) => add(events, Event::Undo(operator, n)),
+    }
+}
+
+fn add_happening(
+    alloc: Global,
+    happening: Happening,
+    events: &mut Vec<Event<Action>>,
+) -> Result<(), AllocError>
+    requires before { All (HasSlot {O = Action}) events.old.items }
+    ensures ok { OnOk result (All (HasSlot {O = Action}) events.new.items) }
+{
+    let (how, line) = happening;
+    match how {
+        b's' => add(events, Event::Snap(0)),
+        b'c' => add(events, Event::Commit(0, alice()?)),
+        b'p' => add(
+            events,
+            Event::Plan(0, Box::into_inner(lines::action(alloc, line)?)),
+        ),
+        _ => add_call(alloc, line, events),
+    }
+}
+
+fn alice() -> Result<Operator, AllocError> {
+    match Operator::parse(b"alice") {
+        Ok(alice) => Ok(alice),
+        Err(_) => Err(AllocError),
+    }
+}
+
 fn events(alloc: Global, given: &[Happening]) -> Result<Vec<Event<Action>>, AllocError>
     ensures { IfOk result (λ events. All (HasSlot {O = Action}) events.items) }
 {
-    let Ok(alice) = Operator::parse(b"alice") else {
-        return Err(AllocError);
-    };
     let mut events = Vec::new(alloc);
-    for (how, line) in given {
-        add(&mut events, event(*how, read(alloc, line)?, alice)?)?;
+    for happening in given {
+        add_happening(alloc, *happening, &mut events)?;
     }
     Ok(events)
 }
@@ -120,13 +118,21 @@ fn push_history(out: &mut Vec<u8>, history: &History<Action>) -> Result<(), Allo
     push_line(out, &[entries], b" entries")
 }
 
-/// What comes of events on the unit's inventory: a line for each reply, and the history.
+/// What is left of events on the unit's inventory, and the replies.
+type Driven = (History<Action>, Vec<EventReply>);
+
+fn driven(alloc: Global, given: &[Happening]) -> Result<Box<Driven>, AllocError> {
+    let events = events(alloc, given)?;
+    let driven = drive(alloc, lines::tree(alloc, SSH)?, events)?;
+    Ok(Box::new(alloc, driven)?)
+}
+
+/// A line for each reply, then the history.
 fn said(alloc: Global, given: &[Happening]) -> Result<Vec<u8>, AllocError> {
     let mut out = Vec::new(alloc);
-    let events = events(alloc, given)?;
-    let (history, replies) = drive(alloc, lines::tree(alloc, SSH)?, events)?;
-    push_replies(&mut out, &replies)?;
-    push_history(&mut out, &history)?;
+    let driven = driven(alloc, given)?;
+    push_replies(&mut out, &driven.1)?;
+    push_history(&mut out, &driven.0)?;
     Ok(out)
 }
 

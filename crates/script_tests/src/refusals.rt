@@ -62,26 +62,25 @@ fn of_path(path: TreePath, number: usize) -> Refusal {
 }
 
 /// The refusal of which this line of `SAID` is said.
-fn refusal(alloc: Global, number: usize) -> Result<Refusal, AllocError> {
-    match number {
-        0 | 2 | 5 | 7 => Ok(of_unit(unit(alloc)?, number)),
-        11 => Ok(Refusal::IsAlias {
+fn refusal(alloc: Global, number: usize) -> Result<Box<Refusal>, AllocError> {
+    let refusal = match number {
+        0 | 2 | 5 | 7 => of_unit(unit(alloc)?, number),
+        11 => Refusal::IsAlias {
             unit: unit(alloc)?,
             real: unit(alloc)?,
-        }),
-        12 => Ok(Refusal::TooMany),
-        _ => Ok(of_path(path(alloc)?, number)),
-    }
-}
-
-fn push_copy(out: &mut Vec<u8>, refusal: &Refusal) -> Result<(), AllocError> {
-    push_refusal(out, &refusal.copy()?)
+        },
+        12 => Refusal::TooMany,
+        _ => of_path(path(alloc)?, number),
+    };
+    Ok(Box::new(alloc, refusal)?)
 }
 
 /// What is said of the copy of a refusal.
 fn said(alloc: Global, number: usize) -> Result<Vec<u8>, AllocError> {
     let mut out = Vec::new(alloc);
-    push_copy(&mut out, &refusal(alloc, number)?)?;
+    let refusal = refusal(alloc, number)?;
+    let copy = Box::new(alloc, refusal.copy()?)?;
+    push_refusal(&mut out, &copy)?;
     Ok(out)
 }
 

@@ -2,7 +2,7 @@
 
 use crate::lines;
 use history::{History, MAX_ROWS, Operator, Request};
-use link_tree::{Change, Entry, Tree, TreePath};
+use link_tree::{Change, Entry, TreePath};
 use std::alloc::{AllocError, Global};
 use std::process::Abort;
 use std::test::Fail;
@@ -31,20 +31,19 @@ fn link(alloc: Global, target: &[u8]) -> Result<Entry, AllocError> {
 }
 
 /// A change of a file into a link to `/dev/null`.
-fn mask_of_file(alloc: Global, bytes: &[u8]) -> Result<Change, AllocError> {
-    let before = file(alloc, bytes)?;
-    let after = link(alloc, b"/dev/null")?;
-    Ok(Change {
+fn mask_of_file(alloc: Global, bytes: &[u8]) -> Result<Box<[Change; 1]>, AllocError> {
+    let change = Change {
         path: path(alloc, b"/etc/systemd/system/x.service")?,
-        before: Some(before),
-        after: Some(after),
-    })
+        before: Some(file(alloc, bytes)?),
+        after: Some(link(alloc, b"/dev/null")?),
+    };
+    Ok(Box::new(alloc, [change])?)
 }
 
 /// The text of that change.
 fn text_of_mask(alloc: Global, bytes: &[u8]) -> Result<Vec<u8>, AllocError> {
     let mut out = Vec::new(alloc);
-    push_changes(&mut out, &[mask_of_file(alloc, bytes)?])?;
+    push_changes(&mut out, mask_of_file(alloc, bytes)?.as_slice())?;
     Ok(out)
 }
 
@@ -89,19 +88,12 @@ fn undo(
     }
 }
 
-fn make(alloc: Global, history: &mut History<Action>, call: Call) -> Result<u32, AllocError> {
-    let Call { operator, request } = call;
+/// Makes the call of a line.
+fn make(alloc: Global, history: &mut History<Action>, line: &[u8]) -> Result<u32, AllocError> {
+    let Call { operator, request } = Box::into_inner(lines::whole_call(alloc, line)?);
     match request {
         Request::Do(action) => run(alloc, history, operator, action),
         Request::Undo(n) => undo(alloc, history, operator, n),
-    }
-}
-
-/// Makes the call of a line.
-fn make_line(alloc: Global, history: &mut History<Action>, line: &[u8]) -> Result<u32, AllocError> {
-    match lines::call(alloc, line) {
-        Ok(Some(call)) => make(alloc, history, call),
-        _ => Err(AllocError),
     }
 }
 
@@ -113,7 +105,7 @@ fn push_made(
     out: &mut Vec<u8>,
 ) -> Result<(), AllocError> {
     for line in script.split(|b| *b == b'\n') {
-        make_line(alloc, history, line)?;
+        make(alloc, history, line)?;
     }
     let rows = history.rows();
     if rows.len() <= MAX_ROWS {
@@ -122,9 +114,9 @@ fn push_made(
     Ok(())
 }
 
-fn begun(alloc: Global, inventory: &[u8]) -> Result<History<Action>, AllocError> {
-    let tree: Tree = lines::tree(alloc, inventory)?;
-    History::new(alloc, tree)
+fn begun(alloc: Global, inventory: &[u8]) -> Result<Box<History<Action>>, AllocError> {
+    let history = History::new(alloc, lines::tree(alloc, inventory)?)?;
+    Ok(Box::new(alloc, history)?)
 }
 
 /// The rows that the lines make on an inventory.

@@ -112,16 +112,16 @@ fn push_action(out: &mut Vec<u8>, action: &Action) -> Result<(), AllocError> {
     }
 }
 
-fn push_copy(out: &mut Vec<u8>, action: &Action) -> Result<(), AllocError> {
-    let copy = action.copy()?;
+fn push_copy(alloc: Global, out: &mut Vec<u8>, action: &Action) -> Result<(), AllocError> {
+    let copy = Box::new(alloc, action.copy()?)?;
     push_action(out, &copy)
 }
 
 /// What a line asks for, by a copy of its action.
-fn push_call(out: &mut Vec<u8>, call: &Option<Call>) -> Result<(), AllocError> {
+fn push_call(alloc: Global, out: &mut Vec<u8>, call: &Option<Call>) -> Result<(), AllocError> {
     match call {
         Some(call) => match &call.request {
-            Request::Do(action) => push_copy(out, action),
+            Request::Do(action) => push_copy(alloc, out, action),
             Request::Undo(_) => out.extend_from_slice(b"undo"),
         },
         None => out.extend_from_slice(b"skipped"),
@@ -131,7 +131,8 @@ fn push_call(out: &mut Vec<u8>, call: &Option<Call>) -> Result<(), AllocError> {
 /// What a line asks for.
 fn asked(alloc: Global, line: &[u8]) -> Result<Vec<u8>, ReadError<ScriptFault>> {
     let mut out = Vec::new(alloc);
-    push_call(&mut out, &call(alloc, line)?)?;
+    let call = call(alloc, line)?;
+    push_call(alloc, &mut out, &call)?;
     Ok(out)
 }
 

@@ -3,5 +3,5 @@ use Rattle.shared_admin.specs.Events.{HasSlot}
 use Rattle.script_tests.proofs.plans.events.Given as goal
 
 -- the slots of the events so far
-abbrev pub invariant-loop-how : goal.invariant-loop-how
-invariant-loop-how l = All (λ event. HasSlot event) l.events.items
+abbrev pub invariant-loop-happening : goal.invariant-loop-happening
+invariant-loop-happening l = All (λ event. HasSlot event) l.events.items
