@@ -1,5 +1,7 @@
 //! A history and a plan, what words do with them, and what comes of each word, in two bytes.
 
+ghost use Rattle.std.specs.Prelude.{◌≤◌};
+
 use crate::index::{agrees, push_index};
 use footprint::{Answer, Operation};
 use history::{CallError, Commit, History, MAX_ROWS, Operator, Plan, Uncommitted, Unrun};
