@@ -116,7 +116,7 @@ fn outcome_text(alloc: Global, outcome: &Outcome) -> Result<Vec<u8>, AllocError>
 }
 
 fn told<O: Operation>(alloc: Global, operation: &O, tree: &Tree) -> Result<Vec<u8>, AllocError> {
-    let outcome = operation.run(alloc, tree)?;
+    let outcome = Box::new(alloc, operation.run(alloc, tree)?)?;
     outcome_text(alloc, &outcome)
 }
 
@@ -136,8 +136,7 @@ pub(crate) fn assert_comes_to<O: Operation>(
 /// A copy of a command is the same, and no question.
 fn assert_copied<O: Operation>(rt: &impl Abort, command: &O) -> Result<(), AllocError> {
     let copy = ample!(command.copy(), AllocError)?;
-    assert!(rt; copy.same(command));
-    assert!(rt; !copy.asks_only());
+    assert!(rt; copy.same(command) && !copy.asks_only());
     Ok(())
 }
 

@@ -6,11 +6,15 @@ use std::process::Abort;
 use std::test::Fail;
 use unit_name::{NameError, UnitName, ample};
 
-pub(crate) fn tree(alloc: Global, text: &[u8]) -> Result<Tree, InventoryError> {
-    ample!(
-        read_inventory(alloc, &mut FromRead::new(text)),
-        InventoryError::OutOfMemory
-    )
+fn read(alloc: Global, text: &[u8]) -> Result<Box<Tree>, InventoryError> {
+    match Box::new(alloc, read_inventory(alloc, &mut FromRead::new(text))?) {
+        Ok(tree) => Ok(tree),
+        Err(_) => Err(InventoryError::OutOfMemory),
+    }
+}
+
+pub(crate) fn tree(alloc: Global, text: &[u8]) -> Result<Box<Tree>, InventoryError> {
+    ample!(read(alloc, text), InventoryError::OutOfMemory)
 }
 
 pub(crate) fn name(alloc: Global, text: &[u8]) -> Result<UnitName, NameError> {
@@ -69,7 +73,7 @@ fn keys_of(alloc: Global, reading: &Reading) -> Result<Vec<u8>, AllocError> {
 }
 
 fn read_by<O: Operation>(alloc: Global, operation: &O, tree: &Tree) -> Result<Vec<u8>, AllocError> {
-    let outcome = operation.run(alloc, tree)?;
+    let outcome = Box::new(alloc, operation.run(alloc, tree)?)?;
     keys_of(alloc, &outcome.reading)
 }
 

@@ -129,9 +129,9 @@ fn unmasks_are_told_apart(rt: HostRuntime) -> Result<(), Fail> {
     Ok(())
 }
 
-fn run_on_empty(alloc: Global, mask: &Mask) -> Result<Outcome, AllocError> {
-    let tree = Tree::empty(alloc)?;
-    mask.run(alloc, &tree)
+fn run_on_empty(alloc: Global, mask: &Mask) -> Result<Box<Outcome>, AllocError> {
+    let tree = Box::new(alloc, Tree::empty(alloc)?)?;
+    Ok(Box::new(alloc, mask.run(alloc, &tree)?)?)
 }
 
 /// The key that a tree doesn't agree on, with a line end, or no text.

@@ -43,7 +43,7 @@ fn word_of(answer: &Answer) -> Option<StateWord> {
 }
 
 fn word(alloc: Global, question: &IsEnabled, tree: &Tree) -> Result<Option<StateWord>, AllocError> {
-    let outcome = question.run(alloc, tree)?;
+    let outcome = Box::new(alloc, question.run(alloc, tree)?)?;
     Ok(word_of(&outcome.answer))
 }
 
