@@ -5,3 +5,5 @@
 mod of_disk;
 #[cfg(test)]
 mod of_tree_steps;
+#[cfg(test)]
+mod values;

@@ -3,4 +3,3 @@ mod capturing;
 mod fake;
 mod large;
 mod root;
-mod values;

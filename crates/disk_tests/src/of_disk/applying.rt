@@ -1,6 +1,6 @@
 //! Steps on a disk that fails at each call in turn.
 use super::fake::{Failing, Fake};
-use super::values::tree;
+use crate::values::tree;
 use disk::{ApplyError, Oddity, StepError, apply};
 use link_tree::{Change, Tree};
 use std::alloc::{AllocError, Global};

@@ -1,7 +1,7 @@
 //! What is captured of roots.
 use super::fake::Failing;
 use super::root::Root;
-use super::values::{path, tree};
+use crate::values::{path, tree};
 use disk::{CaptureError, Oddity, capture};
 use link_tree::{Tree, TreePath};
 use std::alloc::{AllocError, Global};

@@ -1,5 +1,6 @@
 //! Changes and steps between small trees.
-use link_tree::{Change, Entry, FromRead, Tree, read_inventory};
+use crate::values::tree;
+use link_tree::{Change, Entry};
 use std::alloc::{AllocError, Global};
 use std::process::Abort;
 use std::test::Fail;
@@ -70,15 +71,6 @@ const ROWS: [Row; 4] = [
         steps: b"",
     },
 ];
-
-/// The tree of a text. A text of none counts as want of memory.
-fn tree(alloc: Global, text: &[u8]) -> Result<Tree, AllocError> {
-    let mut bytes = text;
-    match read_inventory(alloc, &mut FromRead::new(&mut bytes)) {
-        Ok(tree) => Ok(tree),
-        Err(_) => Err(AllocError),
-    }
-}
 
 fn letter(entry: &Option<Entry>) -> u8 {
     match entry {

@@ -83,8 +83,8 @@ fn counted(
     ))
 }
 
-/// The same of two trees of links, or with files. The new target is no unit's name: each link more to one name would copy the list of
-/// that name's links, sixty thousand times.
+/// The same of two trees of links, or with files. The new target is no unit's name, since each further link to one name copies the list of
+/// all links to it.
 fn counted_from(
     alloc: Global,
     old_has_files: bool,
