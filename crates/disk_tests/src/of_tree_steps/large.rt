@@ -25,8 +25,14 @@ fn slot(alloc: Global, number: u32) -> Result<TreePath, AllocError> {
     }
 }
 
-fn link(alloc: Global, target: &[u8]) -> Result<Entry, AllocError> {
-    match Entry::link(alloc, target) {
+/// A link to `/dev/null`, or to the file of the unit of this number.
+fn link(alloc: Global, number: u32, is_null: bool) -> Result<Entry, AllocError> {
+    let target = if is_null {
+        format!(in alloc; "/dev/null")?
+    } else {
+        format!(in alloc; "/opt/{number}.service")?
+    };
+    match Entry::link(alloc, target.as_bytes()) {
         Ok(link) => Ok(link),
         Err(_) => Err(AllocError),
     }
@@ -46,14 +52,15 @@ fn set(tree: &mut Tree, slot: &TreePath, entry: Entry) -> Result<(), AllocError>
     tree.set(slot, Some(entry))
 }
 
-/// Units that are links to one target, or every third of them a file.
-fn tree(alloc: Global, target: &[u8], with_files: bool) -> Result<Tree, AllocError> {
+/// Units that are links, of which every third may be a file. No two lead to the same file: each further link to one name would copy the
+/// list of all links to it.
+fn tree(alloc: Global, are_null: bool, with_files: bool) -> Result<Tree, AllocError> {
     let mut tree = Tree::empty(alloc)?;
     for number in FIRST..=LAST {
         let entry = if with_files && number % 3 == 0 {
             file(alloc)?
         } else {
-            link(alloc, target)?
+            link(alloc, number, are_null)?
         };
         set(&mut tree, &slot(alloc, number)?, entry)?;
     }
@@ -83,22 +90,21 @@ fn counted(
     ))
 }
 
-/// The same of two trees of links, or with files. The new target is no unit's name, since each further link to one name copies the list of
-/// all links to it.
+/// The same from a tree of links to `/dev/null`, which may have files, to one with files.
 fn counted_from(
     alloc: Global,
     old_has_files: bool,
-    target: &[u8],
+    are_null: bool,
 ) -> Result<(usize, usize, usize, bool), AllocError> {
-    let old = tree(alloc, b"/dev/null", old_has_files)?;
-    let new = tree(alloc, target, true)?;
+    let old = tree(alloc, true, old_has_files)?;
+    let new = tree(alloc, are_null, true)?;
     counted(alloc, &old, &new)
 }
 
 #[test]
 fn all_entries_change(rt: HostRuntime) -> Result<(), Fail> {
     assert_eq!(rt;
-        ample!(counted_from(rt.alloc(), false, b"/opt/a"), AllocError)?,
+        ample!(counted_from(rt.alloc(), false, false), AllocError)?,
         (ENTRIES, ENTRIES, 21_845, false)
     );
     Ok(())
@@ -107,7 +113,7 @@ fn all_entries_change(rt: HostRuntime) -> Result<(), Fail> {
 #[test]
 fn no_entry_changes(rt: HostRuntime) -> Result<(), Fail> {
     assert_eq!(rt;
-        ample!(counted_from(rt.alloc(), true, b"/dev/null"), AllocError)?,
+        ample!(counted_from(rt.alloc(), true, true), AllocError)?,
         (0, 0, 0, true)
     );
     Ok(())
