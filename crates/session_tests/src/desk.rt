@@ -46,7 +46,7 @@ fn accept(desk: &mut Desk, letter: u8, number: u8) -> Result<u8, AllocError> {
     Ok(letter_of(desk.accept(&answer)))
 }
 
-/// What the desk says to a word: `iB` issues a job to bob, `B1` is his answer to job 1, `s-` shuts the desk, and `o-` asks how many jobs are
+/// What the desk says to a word: `iB` issues a job to bob, `1B` is his answer to job 1, `s-` shuts the desk, and `o-` asks how many jobs are
 /// without an answer.
 fn said_to(desk: &mut Desk, word: &[u8]) -> Result<u8, AllocError> {
     match word {
@@ -56,7 +56,7 @@ fn said_to(desk: &mut Desk, word: &[u8]) -> Result<u8, AllocError> {
             Ok(b'-')
         }
         [b'i', letter] => issue(desk, *letter),
-        [letter, number] => accept(desk, *letter, *number),
+        [number, letter] => accept(desk, *letter, *number),
         _ => Err(AllocError),
     }
 }
@@ -71,7 +71,7 @@ fn said(alloc: Global, script: &[u8]) -> Result<Vec<u8>, AllocError> {
 }
 
 /// Jobs for bob and for alice. Answers to no job, to one of another operator's, and for the second time aren't taken.
-const SCRIPT: &[u8] = b"iB iA o- B0 B3 A1 B1 o- B1 A1 s- iB A2 o-";
+const SCRIPT: &[u8] = b"iB iA o- 0B 3B 1A 1B o- 1B 1A s- iB 2A o-";
 
 #[test]
 fn a_desk_takes_each_answer_once(rt: HostRuntime) -> Result<(), Fail> {

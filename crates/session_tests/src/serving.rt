@@ -159,8 +159,8 @@ fn told(
 #[test]
 fn a_row_comes_after_all_that_was_told(rt: HostRuntime) -> Result<(), Fail> {
     let nothing_told = ample!(told(&rt, rt.alloc(), 0), AllocError)?;
-    assert_eq!(rt; nothing_told, ((2, 1, *b"U1"), None));
+    assert_eq!(rt; nothing_told, ((2, 1, [b'U', b'1']), None));
     let nine_told = ample!(told(&rt, rt.alloc(), 9), AllocError)?;
-    assert_eq!(rt; nine_told, ((2, 1, *b"U1"), Some(1)));
+    assert_eq!(rt; nine_told, ((2, 1, [b'U', b'1']), Some(1)));
     Ok(())
 }
