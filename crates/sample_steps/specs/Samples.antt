@@ -1,27 +1,21 @@
 -- What the operations mean that the tests run: a step, and one that looks by a key of any kind, tells of a word, and links a file.
-use Rattle.std.specs.Prelude.{◌≡◌, ◌≢◌, ℕ, Bool, true, false, if◌then◌else◌, List, [], ◌∷◌, All, Contains, Option, Some, None, Ok, Err, refl}
-use Rattle.std.specs.List.Sorted.{IsStrictlySortedBy}
-use Rattle.std.proofs.Common.{sym}
-use Rattle.std.proofs.lemmas.Bool.{true≢false}
-use Rattle.std.proofs.lemmas.List.Elements.{All-nil}
+use Rattle.std.specs.Prelude.{ℕ, Bool, true, false, if◌then◌else◌, List, [], ◌∷◌, Option, Some, None, Ok, Err}
 use Rattle.std.specs.FinMap as map
 use Rattle.unit_file.specs.declared.notice.NoticeKey.TheVariants.{Also}
 use Rattle.unit_file.specs.declared.notice.Reason.TheVariants.{NotFound}
 use Rattle.unit_file.specs.Notices.{NoticeMap, with_notice}
 use Rattle.unit_paths.specs.Slots.{is_slot}
 use Rattle.link_tree.specs.declared.entry.Entry.TheVariants.{File}
-use Rattle.link_tree.specs.Trees.{Entries}
 use Rattle.footprint.specs.declared.answer.Answer.TheVariants.{State}
 use Rattle.footprint.specs.declared.answer.StateWord.TheVariants.{Static}
 use Rattle.footprint.specs.declared.key.Key.{Key}
 use Rattle.footprint.specs.declared.key.Key.TheVariants.{Cell}
 use Rattle.footprint.specs.declared.refusal.Refusal.TheVariants.{Exists, Absent, NotASlot}
 use Rattle.footprint.specs.Inquiry.{Inquiry, look, beside, giving, ◌>>=◌}
-use Rattle.footprint.specs.Operations.{Effect, AreChanges, OperationLaws, is_refused}
+use Rattle.footprint.specs.Operations.{Effect}
 use Rattle.footprint.specs.Rules.{Rule, link_at}
 use Rattle.footprint.specs.Commands.{Command, silent, telling, carried_out}
 use Rattle.footprint.specs.Steps.{Step as OneStep, refuse, ruled}
-use Rattle.footprint.proofs.Carried.{laws_of_steps}
 
 -- an empty file is put where nothing stands, or what stands there is taken away, or it is only looked at
 abbrev pub left : Option Bool → Rule
@@ -38,39 +32,6 @@ commanded how slot = carried_out (silent (ruled (left how) slot))
 abbrev pub step_meaning : Bool → Option Bool → List ℕ → Inquiry Effect
 step_meaning true how slot = giving (look (Cell slot)) (λ seen. record { answer = State Static; changes = [] })
 step_meaning false how slot = commanded how slot
-
-commanded_laws : OperationLaws {O = Option Bool × List ℕ} (λ c. false) (λ c. commanded c.0 c.1)
-commanded_laws = laws_of_steps (λ c. ruled (left c.0) c.1)
-
--- no changes are changes of any tree
-no_changes : (t : Entries) → AreChanges t []
-unfolding IsStrictlySortedBy
-no_changes t = record { from = tt; real = All-nil (λ change. change.before ≢ change.after); in_order = tt }
-
-confined : (asks : Bool) (how : Option Bool) (slot : List ℕ) (t : Entries)
-    → All (λ change. Contains ((step_meaning asks how slot).keys t) (Cell change.path)) ((step_meaning asks how slot).conclusion t).changes
-confined true how slot t = All-nil (λ change. Contains ((step_meaning true how slot).keys t) (Cell change.path))
-confined false how slot t = commanded_laws.confinement (how, slot) t
-
-changed : (asks : Bool) (how : Option Bool) (slot : List ℕ) (t : Entries) → AreChanges t ((step_meaning asks how slot).conclusion t).changes
-changed true how slot t = no_changes t
-changed false how slot t = commanded_laws.changes (how, slot) t
-
-refused : (asks : Bool) (how : Option Bool) (slot : List ℕ) (t : Entries) → is_refused ((step_meaning asks how slot).conclusion t).answer ≡ true → ((step_meaning asks how slot).conclusion t).changes ≡ []
-refused true how slot t h = refl
-refused false how slot t h = commanded_laws.refusal (how, slot) t h
-
-asked : (asks : Bool) (how : Option Bool) (slot : List ℕ) (t : Entries) → asks ≡ true → ((step_meaning asks how slot).conclusion t).changes ≡ []
-asked true how slot t h = refl
-asked false how slot t h = absurd (true≢false (sym h))
-
-pub step_laws : {O : Type 0} (asks : O → Bool) (how : O → Option Bool) (slot : O → List ℕ) → OperationLaws asks (λ c. step_meaning (asks c) (how c) (slot c))
-step_laws asks how slot = record {
-  confinement = λ c t. confined (asks c) (how c) (slot c) t;
-  changes = λ c t. changed (asks c) (how c) (slot c) t;
-  refusal = λ c t. refused (asks c) (how c) (slot c) t;
-  question = λ c t. asked (asks c) (how c) (slot c) t;
-}
 
 -- what is told of a word of a unit, if it is told
 abbrev pub told_of : Option (List ℕ) → NoticeMap

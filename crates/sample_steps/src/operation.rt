@@ -47,7 +47,8 @@ impl Step {
 }
 
 impl Operation for Step {
-    ghost use Rattle.sample_steps.specs.Samples.{step_meaning, step_laws};
+    ghost use Rattle.sample_steps.specs.Samples.{step_meaning};
+    ghost use Rattle.sample_steps.specs.SampleLaws.{step_laws};
 
     ghost meaning = { λ step. step_meaning step.asks step.puts step.slot };
 
