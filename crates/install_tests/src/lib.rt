@@ -5,3 +5,5 @@
 mod of_install_section;
 #[cfg(test)]
 mod of_preset_rules;
+#[cfg(test)]
+mod trees;

@@ -1,4 +1,4 @@
 mod files;
 mod lines;
 mod patterns;
-mod trees;
+mod verdicts;

@@ -1,6 +1,6 @@
 //! Which aliases units may have.
 use crate::of_install_section::links::assert_wanted;
-use crate::of_install_section::units::Row;
+use crate::trees::Row;
 use std::alloc::Global;
 use std::process::Abort;
 use std::test::Fail;

@@ -1,14 +1,14 @@
 //! Which units are enabled together.
-use crate::of_install_section::units::{Row, closure_text, named, names, tree};
-use install_section::{
-    Closed, Closure, ClosureError, ClosureFault, Members, closure, closure_into,
-};
+use crate::of_install_section::units::{closure_text, names};
+use crate::trees::{Row, UNITS, tree};
+use install_section::{Closed, Closure, ClosureFault, Members, closure, closure_into};
 use link_tree::Tree;
 use load_path::Cells;
+use sample_values::name;
 use std::alloc::{AllocError, Global};
 use std::process::Abort;
 use std::test::Fail;
-use unit_name::{NameError, UnitName, ample};
+use unit_name::{UnitName, ample};
 
 const A: Row = Row::File(
     b"a.service",
@@ -32,20 +32,32 @@ fn assert_closure(
     Ok(())
 }
 
+/// The closures of the given units, each line of the table for itself.
+fn assert_each_closure(
+    rt: &impl Abort,
+    alloc: Global,
+    rows: &[Row],
+    table: &[(&[u8], &[u8])],
+) -> Result<(), Fail> {
+    for (given, text) in table {
+        assert_closure(rt, alloc, rows, given, text)?;
+    }
+    Ok(())
+}
+
 #[test]
 fn units_that_name_one_another_are_there_once(rt: HostRuntime) -> Result<(), Fail> {
     let told: &[u8] = b"  ! a.service: Also none.service: not found\n";
     let first: &[u8] = b"a.service\nb.service\n  ! a.service: Also none.service: not found\n";
     let second: &[u8] = b"b.service\na.service\n  ! a.service: Also none.service: not found\n";
-    for (given, text) in [
+    assert!(rt; first.ends_with(told));
+    assert!(rt; second.ends_with(told));
+    let table = [
         (b"a.service".as_slice(), first),
-        (b"a.service b.service a.service".as_slice(), first),
-        (b"b.service".as_slice(), second),
-    ] {
-        assert!(rt; text.ends_with(told));
-        assert_closure(&rt, rt.alloc(), &[A, B], given, text)?;
-    }
-    Ok(())
+        (b"a.service b.service a.service", first),
+        (b"b.service", second),
+    ];
+    assert_each_closure(&rt, rt.alloc(), &[A, B], &table)
 }
 
 #[test]
@@ -84,10 +96,7 @@ fn words_are_expanded_with_the_identity(rt: HostRuntime) -> Result<(), Fail> {
         Row::File(b"h@.service", b"[Install]\n"),
         Row::File(b"w.socket", b"[Socket]\n"),
     ];
-    for (given, text) in EXPANDED {
-        assert_closure(&rt, rt.alloc(), &rows, given, text)?;
-    }
-    Ok(())
+    assert_each_closure(&rt, rt.alloc(), &rows, &EXPANDED)
 }
 
 #[test]
@@ -102,20 +111,14 @@ fn looks(alloc: Global, tree: &Tree, given: &[UnitName]) -> Result<usize, AllocE
     Ok(cells.as_slice().len())
 }
 
-fn looked(alloc: Global, tree: &Tree, given: &[UnitName]) -> Result<usize, AllocError> {
-    ample!(looks(alloc, tree, given), AllocError)
-}
-
-fn looks_for(alloc: Global, also: &[u8]) -> Result<usize, Fail> {
-    let tree = tree(
-        alloc,
-        &[
-            Row::File(b"a.service", also),
-            Row::File(b"b.service", b"[Install]\n"),
-        ],
-    )?;
+fn looks_for(alloc: Global, also: &[u8]) -> Result<usize, AllocError> {
+    let rows = [
+        Row::File(b"a.service", also),
+        Row::File(b"b.service", b"[Install]\n"),
+    ];
+    let tree = tree(alloc, UNITS, &rows)?;
     let given = names(alloc, b"a.service")?;
-    Ok(looked(alloc, &tree, &given)?)
+    ample!(looks(alloc, &tree, &given), AllocError)
 }
 
 const LOOKS: [(&[u8], usize); 4] = [
@@ -128,19 +131,10 @@ const LOOKS: [(&[u8], usize); 4] = [
 #[test]
 fn a_word_is_looked_up_as_often_as_it_stands(rt: HostRuntime) -> Result<(), Fail> {
     // A unit in the last directory is found by four paths, and for its words its file is looked at once more.
-    for (also, count) in LOOKS {
-        assert_eq!(rt; looks_for(rt.alloc(), also)?, count);
+    for (also, count) in &LOOKS {
+        assert_eq!(rt; looks_for(rt.alloc(), also)?, *count);
     }
     Ok(())
-}
-
-fn closed(
-    alloc: Global,
-    tree: &Tree,
-    given: &[UnitName],
-) -> Result<Result<Closed, ClosureFault>, AllocError> {
-    let mut cells = Cells::new(alloc);
-    closure_into(alloc, tree, given, &mut cells)
 }
 
 fn assert_members(rt: &impl Abort, members: &Members, one: &UnitName, none: &UnitName) {
@@ -152,11 +146,24 @@ fn assert_members(rt: &impl Abort, members: &Members, one: &UnitName, none: &Uni
     assert!(rt; members.get(2).is_none());
 }
 
-/// What is found for units that are given, of `A` and `B`.
-fn closed_of(alloc: Global, given: &[u8]) -> Result<Result<Closed, ClosureFault>, Fail> {
-    let tree = tree(alloc, &[A, B])?;
+/// What is found for units, where they are not too many.
+fn closed(
+    alloc: Global,
+    tree: &Tree,
+    given: &[UnitName],
+) -> Result<Option<Box<Closed>>, AllocError> {
+    let mut cells = Cells::new(alloc);
+    match closure_into(alloc, tree, given, &mut cells)? {
+        Ok(closed) => Ok(Some(Box::new(alloc, closed)?)),
+        Err(ClosureFault::TooMany) => Ok(None),
+    }
+}
+
+/// The same for units that are given, of `A` and `B`.
+fn closed_of(alloc: Global, given: &[u8]) -> Result<Option<Box<Closed>>, AllocError> {
+    let tree = tree(alloc, UNITS, &[A, B])?;
     let given = names(alloc, given)?;
-    Ok(ample!(closed(alloc, &tree, &given), AllocError)?)
+    ample!(closed(alloc, &tree, &given), AllocError)
 }
 
 fn assert_named(
@@ -165,9 +172,9 @@ fn assert_named(
     members: &Members,
     one: &[u8],
     none: &[u8],
-) -> Result<(), NameError> {
-    let one = named(alloc, one)?;
-    let none = named(alloc, none)?;
+) -> Result<(), AllocError> {
+    let one = name(alloc, one)?;
+    let none = name(alloc, none)?;
     assert_members(rt, members, &one, &none);
     Ok(())
 }
@@ -175,14 +182,14 @@ fn assert_named(
 #[test]
 fn members_are_found_by_name_and_place(rt: HostRuntime) -> Result<(), Fail> {
     match closed_of(rt.alloc(), b"a.service")? {
-        Ok(closed) => Ok(assert_named(
+        Some(closed) => Ok(assert_named(
             &rt,
             rt.alloc(),
             &closed.units,
             b"b.service",
             b"none.service",
         )?),
-        Err(ClosureFault::TooMany) => Err(Fail::from("too many")),
+        None => Err(Fail::from("too many")),
     }
 }
 
@@ -195,15 +202,18 @@ fn assert_cells(rt: &impl Abort, closure: &Closure, count: usize, last: &[u8]) {
     }
 }
 
-fn closure_again(alloc: Global, tree: &Tree, given: &[UnitName]) -> Result<Closure, ClosureError> {
-    ample!(closure(alloc, tree, given), ClosureError::OutOfMemory)
+fn boxed(alloc: Global, tree: &Tree, given: &[UnitName]) -> Result<Box<Closure>, AllocError> {
+    match closure(alloc, tree, given) {
+        Ok(closure) => Ok(Box::new(alloc, closure)?),
+        Err(_) => Err(AllocError),
+    }
 }
 
 /// The closure of units that are given, of `A` and `B`.
-fn closure_of(alloc: Global, given: &[u8]) -> Result<Closure, Fail> {
-    let tree = tree(alloc, &[A, B])?;
+fn closure_of(alloc: Global, given: &[u8]) -> Result<Box<Closure>, AllocError> {
+    let tree = tree(alloc, UNITS, &[A, B])?;
     let given = names(alloc, given)?;
-    Ok(closure_again(alloc, &tree, &given)?)
+    ample!(boxed(alloc, &tree, &given), AllocError)
 }
 
 #[test]

@@ -1,16 +1,13 @@
 //! As many units as there may be, and one more.
-use crate::of_install_section::units::{Row, named, names, tree};
-use install_section::{Closure, ClosureError, closure};
+use crate::of_install_section::units::{names, push_name};
+use crate::trees::{Row, UNITS, tree};
+use install_section::{ClosureError, closure};
 use link_tree::Tree;
 use std::alloc::{AllocError, Global};
 use std::test::Fail;
-use unit_name::{UnitName, ample};
+use unit_name::UnitName;
 
-fn closed(alloc: Global, tree: &Tree, given: &[UnitName]) -> Result<Closure, ClosureError> {
-    ample!(closure(alloc, tree, given), ClosureError::OutOfMemory)
-}
-
-fn push_number(text: &mut Vec<u8>, n: usize) -> Result<(), Fail> {
+fn push_number(text: &mut Vec<u8>, n: usize) -> Result<(), AllocError> {
     for digit in [n / 1000 % 10, n / 100 % 10, n / 10 % 10, n % 10] {
         text.push(b'0' + digit as u8)?;
     }
@@ -18,22 +15,20 @@ fn push_number(text: &mut Vec<u8>, n: usize) -> Result<(), Fail> {
 }
 
 /// `u@NNNN.service`
-fn push_numbered(text: &mut Vec<u8>, n: usize) -> Result<(), Fail> {
+fn push_numbered(text: &mut Vec<u8>, n: usize) -> Result<(), AllocError> {
     text.extend_from_slice(b"u@")?;
     push_number(text, n)?;
-    text.extend_from_slice(b".service")?;
-    Ok(())
+    text.extend_from_slice(b".service")
 }
 
-fn push_given(alloc: Global, given: &mut Vec<UnitName>, n: usize) -> Result<(), Fail> {
+fn push_given(alloc: Global, given: &mut Vec<UnitName>, n: usize) -> Result<(), AllocError> {
     let mut text = Vec::new(alloc);
     push_numbered(&mut text, n)?;
-    given.push(named(alloc, &text)?)?;
-    Ok(())
+    push_name(alloc, given, &text)
 }
 
 /// So many different units.
-fn numbered(alloc: Global, count: usize) -> Result<Vec<UnitName>, Fail> {
+fn numbered(alloc: Global, count: usize) -> Result<Vec<UnitName>, AllocError> {
     let mut given = Vec::new(alloc);
     for n in 0..count {
         push_given(alloc, &mut given, n)?;
@@ -42,7 +37,7 @@ fn numbered(alloc: Global, count: usize) -> Result<Vec<UnitName>, Fail> {
 }
 
 /// A section that names so many different units.
-fn naming(alloc: Global, count: usize) -> Result<Vec<u8>, Fail> {
+fn naming(alloc: Global, count: usize) -> Result<Vec<u8>, AllocError> {
     let mut text = Vec::from_slice(alloc, b"[Install]\nAlso=")?;
     for n in 0..count {
         push_numbered(&mut text, n)?;
@@ -55,18 +50,20 @@ fn naming(alloc: Global, count: usize) -> Result<Vec<u8>, Fail> {
 type Counts = Result<(usize, usize), usize>;
 
 fn counts(alloc: Global, tree: &Tree, given: &[UnitName]) -> Result<Counts, AllocError> {
-    match closed(alloc, tree, given) {
+    match closure(alloc, tree, given) {
         Ok(closure) => Ok(Ok((closure.units.len(), closure.notices.len()))),
         Err(ClosureError::TooMany(cells)) => Ok(Err(cells.as_slice().len())),
         Err(ClosureError::OutOfMemory) => Err(AllocError),
     }
 }
 
+const TEMPLATE: Row = Row::File(b"u@.service", b"[Install]\n");
+
 /// The counts of units that are given, so many and all different.
-fn counts_given(alloc: Global, count: usize) -> Result<Counts, Fail> {
-    let tree = tree(alloc, &[Row::File(b"u@.service", b"[Install]\n")])?;
+fn counts_given(alloc: Global, count: usize) -> Result<Counts, AllocError> {
+    let tree = tree(alloc, UNITS, &[TEMPLATE])?;
     let given = numbered(alloc, count)?;
-    Ok(counts(alloc, &tree, &given)?)
+    counts(alloc, &tree, &given)
 }
 
 #[test]
@@ -79,23 +76,18 @@ fn a_thousand_given_units(rt: HostRuntime) -> Result<(), Fail> {
     Ok(())
 }
 
-/// A tree with a unit whose section names so many different units.
-fn star(alloc: Global, count: usize) -> Result<Tree, Fail> {
-    let section = naming(alloc, count)?;
-    tree(
-        alloc,
-        &[
-            Row::File(b"a.service", &section),
-            Row::File(b"u@.service", b"[Install]\n"),
-        ],
-    )
+/// The counts of a unit that is given, in a tree with these units.
+fn counts_of(alloc: Global, rows: &[Row], given: &[u8]) -> Result<Counts, AllocError> {
+    let tree = tree(alloc, UNITS, rows)?;
+    let given = names(alloc, given)?;
+    counts(alloc, &tree, &given)
 }
 
 /// The counts of a unit whose section names so many different units.
-fn counts_named(alloc: Global, count: usize) -> Result<Counts, Fail> {
-    let tree = star(alloc, count)?;
-    let given = names(alloc, b"a.service")?;
-    Ok(counts(alloc, &tree, &given)?)
+fn counts_named(alloc: Global, count: usize) -> Result<Counts, AllocError> {
+    let section = naming(alloc, count)?;
+    let unit = Row::File(b"a.service", &section);
+    counts_of(alloc, &[unit, TEMPLATE], b"a.service")
 }
 
 #[test]
@@ -110,25 +102,19 @@ fn a_thousand_named_units(rt: HostRuntime) -> Result<(), Fail> {
     Ok(())
 }
 
-/// The counts of a unit that is given, where this is the only file of a unit.
-fn counts_of(alloc: Global, file: &[u8], bytes: &[u8], given: &[u8]) -> Result<Counts, Fail> {
-    let tree = tree(alloc, &[Row::File(file, bytes)])?;
-    let given = names(alloc, given)?;
-    Ok(counts(alloc, &tree, &given)?)
-}
-
 #[test]
 fn names_grow_until_they_are_too_long(rt: HostRuntime) -> Result<(), Fail> {
-    let section: &[u8] = b"[Install]\nAlso=t@%ia.service\n";
-    let counts = counts_of(rt.alloc(), b"t@.service", section, b"t@a.service")?;
+    let unit = Row::File(b"t@.service", b"[Install]\nAlso=t@%ia.service\n");
+    let counts = counts_of(rt.alloc(), &[unit], b"t@a.service")?;
     assert_eq!(rt; counts, Ok((245, 1)));
     Ok(())
 }
 
 #[test]
 fn units_that_double_are_too_many(rt: HostRuntime) -> Result<(), Fail> {
-    let section: &[u8] = b"[Install]\nAlso=d@%i0.service d@%i1.service\n";
-    let counts = counts_of(rt.alloc(), b"d@.service", section, b"d@x.service")?;
+    let section = b"[Install]\nAlso=d@%i0.service d@%i1.service\n";
+    let unit = Row::File(b"d@.service", section);
+    let counts = counts_of(rt.alloc(), &[unit], b"d@x.service")?;
     // Each word looks at four paths of its own, and all at the template's four.
     assert_eq!(rt; counts, Err(4 * 1025 + 4));
     Ok(())

@@ -1,12 +1,28 @@
 //! Which links units want.
-use crate::of_install_section::units::{Row, names, tree, wanted_text};
-use install_section::{Links, Wanted, WantedError, wanted, wanted_into};
-use link_tree::{PathError, Scope, Tree, TreePath};
+use crate::of_install_section::units::{names, wanted_text};
+use crate::trees::{Row, UNITS, tree};
+use install_section::{Links, Wanted, wanted, wanted_into};
+use link_tree::{Scope, Tree, TreePath};
 use load_path::Cells;
+use sample_values::path;
 use std::alloc::{AllocError, Global};
 use std::process::Abort;
 use std::test::Fail;
 use unit_name::{UnitName, ample};
+
+/// Units ask for this in a scope, where words that would need an instance may be skipped.
+fn assert_wanted_in(
+    rt: &impl Abort,
+    alloc: Global,
+    rows: &[Row],
+    units: &[u8],
+    (scope, skip): (Scope, bool),
+    text: &[u8],
+) -> Result<(), Fail> {
+    let found = wanted_text(alloc, rows, units, scope, skip)?;
+    assert_eq!(rt; found.as_slice(), text);
+    Ok(())
+}
 
 pub(crate) fn assert_wanted(
     rt: &impl Abort,
@@ -15,9 +31,7 @@ pub(crate) fn assert_wanted(
     units: &[u8],
     text: &[u8],
 ) -> Result<(), Fail> {
-    let found = wanted_text(alloc, rows, units, Scope::Etc, false)?;
-    assert_eq!(rt; found.as_slice(), text);
-    Ok(())
+    assert_wanted_in(rt, alloc, rows, units, (Scope::Etc, false), text)
 }
 
 /// Units ask for these, each line of the table for itself.
@@ -44,11 +58,10 @@ fn links_are_wanted_in_the_scope(rt: HostRuntime) -> Result<(), Fail> {
         b"/etc/systemd/system/multi-user.target.wants/ssh.service -> /usr/lib/systemd/system/ssh.service\n/etc/systemd/system/sshd.service -> /usr/lib/systemd/system/ssh.service\n";
     let run: &[u8] =
         b"/run/systemd/system/multi-user.target.wants/ssh.service -> /usr/lib/systemd/system/ssh.service\n/run/systemd/system/sshd.service -> /usr/lib/systemd/system/ssh.service\n";
-    for (scope, text) in [(Scope::Etc, etc), (Scope::Run, run)] {
-        let found = wanted_text(rt.alloc(), &[SSH], b"ssh.service", scope, false)?;
-        assert_eq!(rt; found.as_slice(), text);
-    }
-    Ok(())
+    let in_etc = (Scope::Etc, false);
+    assert_wanted_in(&rt, rt.alloc(), &[SSH], b"ssh.service", in_etc, etc)?;
+    let in_run = (Scope::Run, false);
+    assert_wanted_in(&rt, rt.alloc(), &[SSH], b"ssh.service", in_run, run)
 }
 
 #[test]
@@ -128,17 +141,11 @@ fn templates_stand_for_their_default_instance(rt: HostRuntime) -> Result<(), Fai
 
 #[test]
 fn words_that_need_an_instance_are_left_out(rt: HostRuntime) -> Result<(), Fail> {
-    let found = wanted_text(
-        rt.alloc(),
-        &[WEB, GETTY],
-        b"web@.service getty@.service",
-        Scope::Etc,
-        true,
-    )?;
+    let units = b"web@.service getty@.service";
     let text: &[u8] =
         b"/etc/systemd/system/getty.target.wants/getty@tty1.service -> /usr/lib/systemd/system/getty@.service\n";
-    assert_eq!(rt; found.as_slice(), text);
-    Ok(())
+    let skipping = (Scope::Etc, true);
+    assert_wanted_in(&rt, rt.alloc(), &[WEB, GETTY], units, skipping, text)
 }
 
 #[test]
@@ -159,35 +166,31 @@ fn assert_links(rt: &impl Abort, links: &Links, path: &TreePath, none: &TreePath
     assert!(rt; links.get(none).is_none());
 }
 
-fn path(alloc: Global, text: &[u8]) -> Result<TreePath, PathError> {
-    ample!(TreePath::parse(alloc, text), PathError::OutOfMemory)
-}
-
 fn assert_found(
     rt: &impl Abort,
     alloc: Global,
     links: &Links,
     at: &[u8],
     none: &[u8],
-) -> Result<(), PathError> {
+) -> Result<(), AllocError> {
     let at = path(alloc, at)?;
     let none = path(alloc, none)?;
     assert_links(rt, links, &at, &none);
     Ok(())
 }
 
-fn wanted_again(alloc: Global, tree: &Tree, units: &[UnitName]) -> Result<Wanted, WantedError> {
-    ample!(
-        wanted(alloc, tree, units, Scope::Etc, false),
-        WantedError::OutOfMemory
-    )
+fn boxed(alloc: Global, tree: &Tree, units: &[UnitName]) -> Result<Box<Wanted>, AllocError> {
+    match wanted(alloc, tree, units, Scope::Etc, false) {
+        Ok(wanted) => Ok(Box::new(alloc, wanted)?),
+        Err(_) => Err(AllocError),
+    }
 }
 
 /// What `ssh.service` wants.
-fn wanted_by_ssh(alloc: Global) -> Result<Wanted, Fail> {
-    let tree = tree(alloc, &[SSH])?;
+fn wanted_by_ssh(alloc: Global) -> Result<Box<Wanted>, AllocError> {
+    let tree = tree(alloc, UNITS, &[SSH])?;
     let units = names(alloc, b"ssh.service")?;
-    Ok(wanted_again(alloc, &tree, &units)?)
+    ample!(boxed(alloc, &tree, &units), AllocError)
 }
 
 #[test]
@@ -209,14 +212,10 @@ fn looks(alloc: Global, tree: &Tree, units: &[UnitName]) -> Result<usize, AllocE
     Ok(cells.as_slice().len())
 }
 
-fn looked(alloc: Global, tree: &Tree, units: &[UnitName]) -> Result<usize, AllocError> {
-    ample!(looks(alloc, tree, units), AllocError)
-}
-
-fn looks_for(alloc: Global, units: &[u8]) -> Result<usize, Fail> {
-    let tree = tree(alloc, &[SSH])?;
+fn looks_for(alloc: Global, units: &[u8]) -> Result<usize, AllocError> {
+    let tree = tree(alloc, UNITS, &[SSH])?;
     let units = names(alloc, units)?;
-    Ok(looked(alloc, &tree, &units)?)
+    ample!(looks(alloc, &tree, &units), AllocError)
 }
 
 #[test]

@@ -1,8 +1,14 @@
 //! Which preset files count.
-use super::trees::{ON, Row, Said, assert_cells, assert_ruled, assert_says, policy, rules_among};
-use std::alloc::Global;
+use super::verdicts::{ON, Said, assert_cells, assert_says, policy};
+use crate::trees::{Row, tree};
+use link_tree::Tree;
+use load_path::Cells;
+use preset_rules::{Rules, Verdict};
+use sample_values::name;
+use std::alloc::{AllocError, Global};
 use std::process::Abort;
 use std::test::Fail;
+use unit_name::{UnitName, ample};
 
 const SSH: &[u8] = b"ssh.service";
 
@@ -106,28 +112,43 @@ fn cells_are_those_that_links_lead_to(rt: HostRuntime) -> Result<(), Fail> {
     assert_read(&rt, rt.alloc(), &rows, &[ELSEWHERE, b"/nothing"], 1)
 }
 
-/// Of presets whose links are followed in another tree there is one rule, behind two paths, and `ssh.service` is disabled by it.
-fn assert_disabled_among(
-    rt: &impl Abort,
+/// Of presets whose links are followed in another tree: how many rules there are, behind how many paths, and whether they disable a
+/// unit.
+fn said_among(
+    alloc: Global,
+    presets: &Tree,
+    tree: &Tree,
+    unit: &UnitName,
+) -> Result<(usize, usize, bool), AllocError> {
+    let mut cells = Cells::new(alloc);
+    let rules = Rules::of_into(alloc, presets.entries(), tree, &mut cells)?;
+    let verdict = rules.verdict(alloc, unit)?;
+    let is_disabled = matches!(verdict, Verdict::Disable);
+    Ok((rules.as_slice().len(), cells.as_slice().len(), is_disabled))
+}
+
+/// The same of two trees with these entries, and of `ssh.service`.
+fn said_of_ssh(
     alloc: Global,
     presets: &[Row],
     rows: &[Row],
-) -> Result<(), Fail> {
-    let (rules, cells) = rules_among(alloc, presets, rows)?;
-    assert_eq!(rt; cells.as_slice().len(), 2);
-    assert_eq!(rt; rules.as_slice().len(), 1);
-    assert_ruled(rt, alloc, &rules, SSH, Said::Off)
+) -> Result<(usize, usize, bool), AllocError> {
+    let presets = tree(alloc, b"", presets)?;
+    let tree = tree(alloc, b"", rows)?;
+    let unit = name(alloc, SSH)?;
+    ample!(said_among(alloc, &presets, &tree, &unit), AllocError)
 }
 
 /// The presets are those of one tree, and what the links lead to stands in the other.
 #[test]
 fn links_are_followed_in_the_other_tree(rt: HostRuntime) -> Result<(), Fail> {
-    assert_disabled_among(
-        &rt,
+    let said = said_of_ssh(
         rt.alloc(),
         &[Row::Link(RUN, ELSEWHERE), Row::File(ELSEWHERE, ENABLE)],
         &[Row::File(ELSEWHERE, NONE), Row::File(ETC, ENABLE)],
-    )
+    )?;
+    assert_eq!(rt; said, (1, 2, true));
+    Ok(())
 }
 
 /// A file behind links at the slots of units: seven from the name of the presets in `/usr/lib` on, eight from that in `/etc` on. The
@@ -147,7 +168,7 @@ const CHAIN: [Row; 11] = [
 ];
 
 /// How many paths are looked at for these presets, and how many rules they have.
-fn counts(alloc: Global, rows: &[Row]) -> Result<(usize, usize), Fail> {
+fn counts(alloc: Global, rows: &[Row]) -> Result<(usize, usize), AllocError> {
     let policy = policy(alloc, rows)?;
     Ok((
         policy.cells().as_slice().len(),

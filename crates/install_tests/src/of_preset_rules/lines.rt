@@ -1,5 +1,6 @@
 //! Lines of preset files.
-use super::trees::{ON, Row, Said, asked, assert_says, policy};
+use super::verdicts::{ON, Said, asked, assert_says, policy};
+use crate::trees::Row;
 use preset_rules::{Instances, Verdict};
 use std::alloc::{AllocError, Global};
 use std::process::Abort;
@@ -46,10 +47,10 @@ fn assert_enables(rt: &impl Abort, verdict: &Verdict) -> Result<(), Fail> {
 }
 
 /// What a preset file with these lines says of a unit.
-fn said(alloc: Global, lines: &[u8], name: &[u8]) -> Result<Verdict, Fail> {
+fn said(alloc: Global, lines: &[u8], unit: &[u8]) -> Result<Verdict, AllocError> {
     let file = Row::File(b"/usr/lib/systemd/system-preset/50-a.preset", lines);
     let policy = policy(alloc, &[file])?;
-    asked(alloc, &policy, name)
+    asked(alloc, &policy, unit)
 }
 
 #[test]
