@@ -11,4 +11,4 @@ mod of_states;
 #[cfg(test)]
 mod outcomes;
 #[cfg(test)]
-mod trees;
+mod readings;

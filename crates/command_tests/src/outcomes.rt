@@ -1,7 +1,8 @@
 //! What operations come to.
-use crate::trees::{assert_looks_at, tree};
+use crate::readings::{assert_looks_at, outcome};
 use footprint::{Answer, Operation, Outcome, Refusal, Subject};
 use link_tree::{Change, Entry, Tree, TreePath};
+use sample_values::tree;
 use std::alloc::{AllocError, Global};
 use std::process::Abort;
 use std::test::Fail;
@@ -116,7 +117,7 @@ fn outcome_text(alloc: Global, outcome: &Outcome) -> Result<Vec<u8>, AllocError>
 }
 
 fn told<O: Operation>(alloc: Global, operation: &O, tree: &Tree) -> Result<Vec<u8>, AllocError> {
-    let outcome = Box::new(alloc, operation.run(alloc, tree)?)?;
+    let outcome = outcome(alloc, operation, tree)?;
     outcome_text(alloc, &outcome)
 }
 
@@ -140,55 +141,6 @@ fn assert_copied<O: Operation>(rt: &impl Abort, command: &O) -> Result<(), Alloc
     Ok(())
 }
 
-fn assert_copied_and_told<O: Operation>(
-    rt: &impl Abort,
-    alloc: Global,
-    command: &O,
-    tree: &Tree,
-    text: &[u8],
-) -> Result<(), Fail> {
-    assert_copied(rt, command)?;
-    assert_comes_to(rt, alloc, command, tree, text)
-}
-
-/// A command comes to this on the tree of an inventory, and can be copied.
-pub(crate) fn assert_told<O: Operation>(
-    rt: &impl Abort,
-    alloc: Global,
-    command: O,
-    inventory: &[u8],
-    text: &[u8],
-) -> Result<(), Fail> {
-    let tree = tree(alloc, inventory)?;
-    assert_copied_and_told(rt, alloc, &command, &tree, text)
-}
-
-/// What a command comes to, and the keys that it looks at.
-type Both = (&'static [u8], &'static [u8]);
-
-fn assert_both<O: Operation>(
-    rt: &impl Abort,
-    alloc: Global,
-    command: &O,
-    tree: &Tree,
-    (text, keys): Both,
-) -> Result<(), Fail> {
-    assert_copied_and_told(rt, alloc, command, tree, text)?;
-    assert_looks_at(rt, alloc, command, tree, keys)
-}
-
-/// A command comes to this text on the tree of an inventory, can be copied, and looks at these keys.
-pub(crate) fn assert_told_and_reads<O: Operation>(
-    rt: &impl Abort,
-    alloc: Global,
-    command: O,
-    inventory: &[u8],
-    both: Both,
-) -> Result<(), Fail> {
-    let tree = tree(alloc, inventory)?;
-    assert_both(rt, alloc, &command, &tree, both)
-}
-
 /// A question is answered so on the tree of an inventory.
 pub(crate) fn assert_answered<O: Operation>(
     rt: &impl Abort,
@@ -199,6 +151,32 @@ pub(crate) fn assert_answered<O: Operation>(
 ) -> Result<(), Fail> {
     let tree = tree(alloc, inventory)?;
     assert_comes_to(rt, alloc, &question, &tree, text)
+}
+
+/// A command comes to this on the tree of an inventory, and can be copied.
+pub(crate) fn assert_told<O: Operation>(
+    rt: &impl Abort,
+    alloc: Global,
+    command: O,
+    inventory: &[u8],
+    text: &[u8],
+) -> Result<(), Fail> {
+    assert_copied(rt, &command)?;
+    assert_answered(rt, alloc, command, inventory, text)
+}
+
+/// A command comes to this text on the tree of an inventory, can be copied, and looks at these keys.
+pub(crate) fn assert_told_and_reads<O: Operation>(
+    rt: &impl Abort,
+    alloc: Global,
+    command: O,
+    inventory: &[u8],
+    (text, keys): (&[u8], &[u8]),
+) -> Result<(), Fail> {
+    let tree = tree(alloc, inventory)?;
+    assert_copied(rt, &command)?;
+    assert_comes_to(rt, alloc, &command, &tree, text)?;
+    assert_looks_at(rt, alloc, &command, &tree, keys)
 }
 
 /// A copy of a question is the same, and a question; another is not the same.

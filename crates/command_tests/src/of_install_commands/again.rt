@@ -1,24 +1,36 @@
 //! Commands that follow one another.
-use super::commands::{disable, enable, enable_then_disable};
+use super::commands::{assert_disabled, assert_enabled, disable, enable, enable_then_disable};
 use crate::outcomes::assert_told;
 use footprint::Then;
-use install_commands::{Disable, Enable};
 use link_tree::Scope;
 use std::alloc::Global;
 use std::process::Abort;
 use std::test::Fail;
-use unit_name::NameError;
 
-fn enable_twice(alloc: Global, names: &[u8]) -> Result<Then<Enable, Enable>, NameError> {
-    let first = enable(alloc, Scope::Etc, names)?;
-    let second = enable(alloc, Scope::Etc, names)?;
-    Ok(Then { first, second })
+/// An enable and then the same once more come to this.
+fn assert_enabled_twice(
+    rt: &impl Abort,
+    alloc: Global,
+    name: &[u8],
+    inventory: &[u8],
+    text: &[u8],
+) -> Result<(), Fail> {
+    let first = enable(alloc, Scope::Etc, name)?;
+    let second = enable(alloc, Scope::Etc, name)?;
+    assert_told(rt, alloc, Then { first, second }, inventory, text)
 }
 
-fn disable_twice(alloc: Global, names: &[u8]) -> Result<Then<Disable, Disable>, NameError> {
-    let first = disable(alloc, Scope::Etc, names)?;
-    let second = disable(alloc, Scope::Etc, names)?;
-    Ok(Then { first, second })
+/// A disable and then the same once more come to this.
+fn assert_disabled_twice(
+    rt: &impl Abort,
+    alloc: Global,
+    name: &[u8],
+    inventory: &[u8],
+    text: &[u8],
+) -> Result<(), Fail> {
+    let first = disable(alloc, Scope::Etc, name)?;
+    let second = disable(alloc, Scope::Etc, name)?;
+    assert_told(rt, alloc, Then { first, second }, inventory, text)
 }
 
 /// `a` names `b`, and both are wanted.
@@ -29,11 +41,10 @@ const PAIR: &[u8] = b"unitadm-inventory 1\n\
 
 #[test]
 fn enable_again_changes_nothing(rt: HostRuntime) -> Result<(), Fail> {
-    let both = enable_twice(rt.alloc(), b"a.service")?;
     let text = b"done\n\
         + /etc/systemd/system/m.target.wants/b.service -> /usr/lib/systemd/system/b.service\n\
         + /etc/systemd/system/x.service -> /usr/lib/systemd/system/a.service\n";
-    assert_told(&rt, rt.alloc(), both, PAIR, text)
+    assert_enabled_twice(&rt, rt.alloc(), b"a.service", PAIR, text)
 }
 
 /// An enable and then a disable of a unit come to this.
@@ -63,13 +74,11 @@ fn enable_again_may_find_more(rt: HostRuntime) -> Result<(), Fail> {
         end\n";
     let text = b"done\n  ! a@.service: Also a@1.service: dangling\n\
         + /etc/systemd/system/b@.service -> /usr/lib/systemd/system/a@.service\n";
-    let once = enable(alloc, Scope::Etc, b"a@.service")?;
-    assert_told(&rt, alloc, once, tree, text)?;
+    assert_enabled(&rt, alloc, Scope::Etc, b"a@.service", tree, text)?;
     let text = b"done\n  ! a@.service: Also a@1.service: dangling\n\
         + /etc/systemd/system/b@.service -> /usr/lib/systemd/system/a@.service\n\
         + /etc/systemd/system/b@1.service -> /usr/lib/systemd/system/a@.service\n";
-    let twice = enable_twice(alloc, b"a@.service")?;
-    assert_told(&rt, alloc, twice, tree, text)
+    assert_enabled_twice(&rt, alloc, b"a@.service", tree, text)
 }
 
 /// The link that goes was the way to a unit, and a file of that name in another directory comes to light.
@@ -84,13 +93,11 @@ fn disable_again_may_find_another_file(rt: HostRuntime) -> Result<(), Fail> {
         F\t1\t/usr/lib/systemd/system/b.service\n#\n\
         end\n";
     let text = b"done\n- /etc/systemd/system/a.service -> /opt/a.service\n";
-    let once = disable(alloc, Scope::Etc, b"a.service")?;
-    assert_told(&rt, alloc, once, tree, text)?;
+    assert_disabled(&rt, alloc, Scope::Etc, b"a.service", tree, text)?;
     let text = b"done\n\
         - /etc/systemd/system/a.service -> /opt/a.service\n\
         - /etc/systemd/system/m.target.wants/b.service -> /usr/lib/systemd/system/b.service\n";
-    let twice = disable_twice(alloc, b"a.service")?;
-    assert_told(&rt, alloc, twice, tree, text)
+    assert_disabled_twice(&rt, alloc, b"a.service", tree, text)
 }
 
 /// The alias that is made hides a unit, which is named no more.

@@ -1,7 +1,6 @@
 //! How far the check looks, and a unit that dangles.
-use super::commands::{check, enable};
-use crate::outcomes::assert_told;
-use crate::trees::assert_reads;
+use super::commands::{assert_enabled, check};
+use crate::readings::assert_reads;
 use link_tree::Scope;
 use std::test::Fail;
 
@@ -14,9 +13,9 @@ const TREE: &[u8] = b"unitadm-inventory 1\n\
 
 #[test]
 fn a_unit_that_dangles_is_not_enabled(rt: HostRuntime) -> Result<(), Fail> {
-    let enable = enable(rt.alloc(), Scope::Etc, b"n.service l.service")?;
+    let names = b"n.service l.service";
     let text = b"dangling: /etc/systemd/system/l.service\n";
-    assert_told(&rt, rt.alloc(), enable, TREE, text)
+    assert_enabled(&rt, rt.alloc(), Scope::Etc, names, TREE, text)
 }
 
 #[test]

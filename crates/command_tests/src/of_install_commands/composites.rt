@@ -1,13 +1,12 @@
 //! reenable and preset, and what they look at.
 use super::commands::enable_then_disable;
 use crate::outcomes::{assert_told, assert_told_and_reads};
-use crate::trees::{assert_reads, units};
+use crate::readings::{assert_reads, units};
 use install_commands::{Preset, Reenable};
 use link_tree::Scope;
-use std::alloc::Global;
+use std::alloc::{AllocError, Global};
 use std::process::Abort;
 use std::test::Fail;
-use unit_name::NameError;
 
 /// The names of units, and what a command comes to with them.
 type Row = (&'static [u8], &'static [u8]);
@@ -23,7 +22,7 @@ const LINKED: &[u8] = b"unitadm-inventory 1\n\
     F\t28\t/usr/lib/systemd/system/b.service\n[Install]\nWantedBy=m.target\n\n\
     end\n";
 
-fn reenable(alloc: Global, names: &[u8]) -> Result<Reenable, NameError> {
+fn reenable(alloc: Global, names: &[u8]) -> Result<Reenable, AllocError> {
     let units = units(alloc, names)?;
     let scope = Scope::Etc;
     Ok(Reenable { scope, units })
@@ -78,7 +77,7 @@ const PRESET: &[u8] = b"unitadm-inventory 1\n\
     F\t28\t/usr/lib/systemd/system/t@.service\n[Install]\nWantedBy=m.target\n\n\
     end\n";
 
-fn preset(alloc: Global, scope: Scope, names: &[u8]) -> Result<Preset, NameError> {
+fn preset(alloc: Global, scope: Scope, names: &[u8]) -> Result<Preset, AllocError> {
     let units = units(alloc, names)?;
     Ok(Preset { scope, units })
 }

@@ -1,12 +1,10 @@
 //! disable.
-use super::commands::{check, disable, enable};
-use crate::outcomes::assert_told;
-use crate::trees::{assert_other, assert_reads};
+use super::commands::{assert_disabled, check, disable, enable};
+use crate::readings::{assert_other, assert_reads};
 use link_tree::Scope;
 use std::alloc::Global;
 use std::process::Abort;
 use std::test::Fail;
-use unit_name::NameError;
 
 /// `a` names `b`, both are enabled, `a` by hand too; `m` is masked in `/run`, and `gone` has links but no file.
 const TREE: &[u8] = b"unitadm-inventory 1\n\
@@ -21,17 +19,6 @@ const TREE: &[u8] = b"unitadm-inventory 1\n\
     F\t1\t/usr/lib/systemd/system/b.service\n#\n\
     end\n";
 
-fn assert_disabled(
-    rt: &impl Abort,
-    alloc: Global,
-    scope: Scope,
-    names: &[u8],
-    text: &[u8],
-) -> Result<(), Fail> {
-    let disable = disable(alloc, scope, names)?;
-    assert_told(rt, alloc, disable, TREE, text)
-}
-
 #[test]
 fn all_links_of_the_units_go(rt: HostRuntime) -> Result<(), Fail> {
     let text = b"done\n  ! a.service: Also no.service: not found\n\
@@ -39,14 +26,14 @@ fn all_links_of_the_units_go(rt: HostRuntime) -> Result<(), Fail> {
         - /etc/systemd/system/m.target.wants/a.service -> /usr/lib/systemd/system/a.service\n\
         - /etc/systemd/system/m.target.wants/b.service -> /usr/lib/systemd/system/b.service\n\
         - /etc/systemd/system/n.target.wants/other.service -> ../a.service\n";
-    assert_disabled(&rt, rt.alloc(), Scope::Etc, b"alias.service", text)
+    assert_disabled(&rt, rt.alloc(), Scope::Etc, b"alias.service", TREE, text)
 }
 
 #[test]
 fn links_of_the_scope_alone_go(rt: HostRuntime) -> Result<(), Fail> {
     let text = b"done\n  ! a.service: Also no.service: not found\n\
         - /run/systemd/system/m.target.wants/a.service -> /usr/lib/systemd/system/a.service\n";
-    assert_disabled(&rt, rt.alloc(), Scope::Run, b"a.service", text)
+    assert_disabled(&rt, rt.alloc(), Scope::Run, b"a.service", TREE, text)
 }
 
 #[test]
@@ -54,7 +41,7 @@ fn names_without_a_unit_are_disabled_too(rt: HostRuntime) -> Result<(), Fail> {
     let text = b"done\n\
         - /etc/systemd/system/m.target.wants/gone.service -> /usr/lib/systemd/system/gone.service\n";
     let names = b"gone.service null.service nowhere.service";
-    assert_disabled(&rt, rt.alloc(), Scope::Etc, names, text)
+    assert_disabled(&rt, rt.alloc(), Scope::Etc, names, TREE, text)
 }
 
 #[test]
@@ -75,7 +62,7 @@ fn assert_enables_apart(
     alloc: Global,
     (one, names): (Scope, &[u8]),
     (other, others): (Scope, &[u8]),
-) -> Result<(), NameError> {
+) -> Result<(), Fail> {
     let first = enable(alloc, one, names)?;
     let second = enable(alloc, other, others)?;
     assert_other(rt, first, second);
@@ -86,8 +73,7 @@ fn assert_enables_apart(
 fn commands_are_told_apart(rt: HostRuntime) -> Result<(), Fail> {
     let one = (Scope::Run, b"a.service".as_slice());
     assert_enables_apart(&rt, rt.alloc(), (Scope::Etc, b"a.service"), one)?;
-    assert_enables_apart(&rt, rt.alloc(), (Scope::Run, b"b.service"), one)?;
-    Ok(())
+    assert_enables_apart(&rt, rt.alloc(), (Scope::Run, b"b.service"), one)
 }
 
 /// Disables of these scopes and units are told apart.
@@ -96,7 +82,7 @@ fn assert_disables_apart(
     alloc: Global,
     (one, names): (Scope, &[u8]),
     (other, others): (Scope, &[u8]),
-) -> Result<(), NameError> {
+) -> Result<(), Fail> {
     let first = disable(alloc, one, names)?;
     let second = disable(alloc, other, others)?;
     assert_other(rt, first, second);
@@ -108,7 +94,7 @@ fn assert_checks_apart(
     alloc: Global,
     one: &[u8],
     other: &[u8],
-) -> Result<(), NameError> {
+) -> Result<(), Fail> {
     let first = check(alloc, one)?;
     let second = check(alloc, other)?;
     assert_other(rt, first, second);
@@ -120,6 +106,5 @@ fn disables_are_told_apart(rt: HostRuntime) -> Result<(), Fail> {
     let one = (Scope::Run, b"a.service".as_slice());
     assert_disables_apart(&rt, rt.alloc(), (Scope::Etc, b"a.service"), one)?;
     assert_disables_apart(&rt, rt.alloc(), (Scope::Run, b"b.service"), one)?;
-    assert_checks_apart(&rt, rt.alloc(), b"a.service", b"b.service")?;
-    Ok(())
+    assert_checks_apart(&rt, rt.alloc(), b"a.service", b"b.service")
 }

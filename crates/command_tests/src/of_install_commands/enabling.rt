@@ -1,7 +1,7 @@
 //! enable, and the check before it.
-use super::commands::{check, enable};
+use super::commands::{assert_enabled, check, enable};
 use crate::outcomes::assert_told;
-use crate::trees::assert_reads;
+use crate::readings::assert_reads;
 use link_tree::Scope;
 use std::alloc::Global;
 use std::process::Abort;
@@ -21,31 +21,20 @@ const TREE: &[u8] = b"unitadm-inventory 1\n\
     F\t28\t/usr/lib/systemd/system/web@.service\n[Install]\nWantedBy=m.target\n\n\
     end\n";
 
-fn assert_enabled(
-    rt: &impl Abort,
-    alloc: Global,
-    scope: Scope,
-    names: &[u8],
-    text: &[u8],
-) -> Result<(), Fail> {
-    let enable = enable(alloc, scope, names)?;
-    assert_told(rt, alloc, enable, TREE, text)
-}
-
 #[test]
 fn links_are_made_that_units_want(rt: HostRuntime) -> Result<(), Fail> {
     let text = b"done\n\
         + /etc/systemd/system/getty.target.wants/getty@tty1.service -> /usr/lib/systemd/system/getty@.service\n\
         + /etc/systemd/system/multi-user.target.wants/ssh.service -> /usr/lib/systemd/system/ssh.service\n";
     let names = b"ssh.service getty@.service";
-    assert_enabled(&rt, rt.alloc(), Scope::Etc, names, text)
+    assert_enabled(&rt, rt.alloc(), Scope::Etc, names, TREE, text)
 }
 
 #[test]
 fn links_are_made_until_the_next_start(rt: HostRuntime) -> Result<(), Fail> {
     let text = b"done\n  ! app.service: Alias x.target: bad alias\n\
         + /run/systemd/system/m.target.wants/app.service -> /opt/app.service\n";
-    assert_enabled(&rt, rt.alloc(), Scope::Run, b"app.service", text)
+    assert_enabled(&rt, rt.alloc(), Scope::Run, b"app.service", TREE, text)
 }
 
 /// The names of units, and what a command comes to with them.
@@ -53,7 +42,7 @@ type Row = (&'static [u8], &'static [u8]);
 
 fn assert_all_enabled(rt: &impl Abort, alloc: Global, rows: &[Row]) -> Result<(), Fail> {
     for (names, text) in rows {
-        assert_enabled(rt, alloc, Scope::Etc, names, text)?;
+        assert_enabled(rt, alloc, Scope::Etc, names, TREE, text)?;
     }
     Ok(())
 }
@@ -84,9 +73,8 @@ fn what_stands_in_the_way_is_refused(rt: HostRuntime) -> Result<(), Fail> {
         L\t/etc/systemd/system/m.target.wants/a.service\t/b\n\
         F\t48\t/usr/lib/systemd/system/a.service\n[Install]\nWantedBy=m.target\nRequiredBy=m.target\n\n\
         end\n";
-    let enable = enable(rt.alloc(), Scope::Etc, b"a.service")?;
     let text = b"exists: /etc/systemd/system/m.target.requires/a.service\n";
-    assert_told(&rt, rt.alloc(), enable, inventory, text)
+    assert_enabled(&rt, rt.alloc(), Scope::Etc, b"a.service", inventory, text)
 }
 
 #[test]

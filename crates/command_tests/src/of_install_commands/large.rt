@@ -3,10 +3,10 @@ use crate::outcomes::assert_told;
 use footprint::Units;
 use install_commands::{Disable, Enable};
 use link_tree::Scope;
-use std::alloc::Global;
+use sample_values::name;
+use std::alloc::{AllocError, Global};
 use std::process::Abort;
 use std::test::Fail;
-use unit_name::{NameError, UnitName};
 
 fn digit(n: usize) -> u8 {
     b'0' + (n % 10) as u8
@@ -20,13 +20,13 @@ fn numbered_text(prefix: u8, n: usize) -> [u8; 14] {
     ]
 }
 
-fn push_numbered(alloc: Global, units: &mut Units, prefix: u8, n: usize) -> Result<(), NameError> {
-    let name = UnitName::parse(alloc, &numbered_text(prefix, n))?;
-    Ok(units.push(name)?)
+fn push_numbered(alloc: Global, units: &mut Units, prefix: u8, n: usize) -> Result<(), AllocError> {
+    let name = name(alloc, &numbered_text(prefix, n))?;
+    units.push(name)
 }
 
 /// So many different units.
-fn numbered(alloc: Global, prefix: u8, count: usize) -> Result<Units, NameError> {
+fn numbered(alloc: Global, prefix: u8, count: usize) -> Result<Units, AllocError> {
     let mut units = Units::none(alloc);
     for n in 0..count {
         push_numbered(alloc, &mut units, prefix, n)?;

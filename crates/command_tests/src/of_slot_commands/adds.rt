@@ -1,12 +1,12 @@
 //! add-wants and add-requires.
 use crate::outcomes::assert_told;
-use crate::trees::{assert_other, assert_reads, name, units};
+use crate::readings::{assert_other, assert_reads, units};
 use link_tree::{Dependency, Scope};
+use sample_values::name;
 use slot_commands::AddTo;
-use std::alloc::Global;
+use std::alloc::{AllocError, Global};
 use std::process::Abort;
 use std::test::Fail;
-use unit_name::NameError;
 
 /// `getty@` has a default instance, `bare@` has none, and `bad@` one that makes no name; `c` is listed elsewhere.
 const TREE: &[u8] = b"unitadm-inventory 1\n\
@@ -37,7 +37,7 @@ fn add(
     (scope, dependency): (Scope, Dependency),
     target: &[u8],
     list: &[u8],
-) -> Result<AddTo, NameError> {
+) -> Result<AddTo, AllocError> {
     let target = name(alloc, target)?;
     let units = units(alloc, list)?;
     Ok(AddTo {
@@ -48,7 +48,7 @@ fn add(
     })
 }
 
-pub(super) fn wants(alloc: Global, target: &[u8], list: &[u8]) -> Result<AddTo, NameError> {
+pub(super) fn wants(alloc: Global, target: &[u8], list: &[u8]) -> Result<AddTo, AllocError> {
     add(alloc, (Scope::Etc, Dependency::Wants), target, list)
 }
 
@@ -226,14 +226,14 @@ fn assert_apart(
     rt: &impl Abort,
     alloc: Global,
     (scope, dependency, target, list): Addition,
-) -> Result<(), NameError> {
+) -> Result<(), Fail> {
     let one = wants(alloc, b"a.target", b"a.service")?;
     let other = add(alloc, (scope, dependency), target, list)?;
     assert_other(rt, one, other);
     Ok(())
 }
 
-fn assert_all_apart(rt: &impl Abort, alloc: Global, others: &[Addition]) -> Result<(), NameError> {
+fn assert_all_apart(rt: &impl Abort, alloc: Global, others: &[Addition]) -> Result<(), Fail> {
     for other in others {
         assert_apart(rt, alloc, *other)?;
     }
@@ -242,6 +242,5 @@ fn assert_all_apart(rt: &impl Abort, alloc: Global, others: &[Addition]) -> Resu
 
 #[test]
 fn adds_are_told_apart(rt: HostRuntime) -> Result<(), Fail> {
-    assert_all_apart(&rt, rt.alloc(), &OTHERS)?;
-    Ok(())
+    assert_all_apart(&rt, rt.alloc(), &OTHERS)
 }

@@ -4,14 +4,13 @@ use super::hands::place_file;
 use super::links::link;
 use super::masks::{mask, unmask};
 use crate::outcomes::{assert_told, assert_told_and_reads};
-use crate::trees::assert_other;
+use crate::readings::assert_other;
 use footprint::Then;
 use link_tree::Scope;
 use slot_commands::{AddTo, LinkUnits, Mask, PlaceEntry, Unmask};
-use std::alloc::Global;
+use std::alloc::{AllocError, Global};
 use std::process::Abort;
 use std::test::Fail;
-use unit_name::NameError;
 
 const EMPTY: &[u8] = b"unitadm-inventory 1\nend\n";
 
@@ -22,7 +21,7 @@ const TREE: &[u8] = b"unitadm-inventory 1\n\
     end\n";
 
 /// A file is linked, and then wanted by a target.
-fn link_and_add(alloc: Global) -> Result<Then<LinkUnits, AddTo>, Fail> {
+fn link_and_add(alloc: Global) -> Result<Then<LinkUnits, AddTo>, AllocError> {
     let first = link(alloc, Scope::Etc, b"/opt/app.service")?;
     let second = wants(alloc, b"multi-user.target", b"app.service")?;
     Ok(Then { first, second })
@@ -32,7 +31,7 @@ fn mask_and_unmask(
     alloc: Global,
     masked: &[u8],
     unmasked: &[u8],
-) -> Result<Then<Mask, Unmask>, NameError> {
+) -> Result<Then<Mask, Unmask>, AllocError> {
     let first = mask(alloc, Scope::Etc, masked)?;
     let second = unmask(alloc, Scope::Etc, unmasked)?;
     Ok(Then { first, second })
@@ -42,13 +41,13 @@ fn mask_and_place(
     alloc: Global,
     masked: &[u8],
     slot: &[u8],
-) -> Result<Then<Mask, PlaceEntry>, Fail> {
+) -> Result<Then<Mask, PlaceEntry>, AllocError> {
     let first = mask(alloc, Scope::Etc, masked)?;
     let second = place_file(alloc, slot, b"")?;
     Ok(Then { first, second })
 }
 
-fn masks(alloc: Global, one: &[u8], other: &[u8]) -> Result<Then<Mask, Mask>, NameError> {
+fn masks(alloc: Global, one: &[u8], other: &[u8]) -> Result<Then<Mask, Mask>, AllocError> {
     let first = mask(alloc, Scope::Etc, one)?;
     let second = mask(alloc, Scope::Etc, other)?;
     Ok(Then { first, second })
@@ -106,7 +105,7 @@ fn a_second_undoes_a_part_of_the_first(rt: HostRuntime) -> Result<(), Fail> {
 }
 
 /// These masks are told apart from those of `a` and then `b`.
-fn assert_apart(rt: &impl Abort, alloc: Global, one: &[u8], other: &[u8]) -> Result<(), NameError> {
+fn assert_apart(rt: &impl Abort, alloc: Global, one: &[u8], other: &[u8]) -> Result<(), Fail> {
     let both = masks(alloc, b"a.service", b"b.service")?;
     let others = masks(alloc, one, other)?;
     assert_other(rt, both, others);
@@ -116,6 +115,5 @@ fn assert_apart(rt: &impl Abort, alloc: Global, one: &[u8], other: &[u8]) -> Res
 #[test]
 fn two_in_one_are_told_apart(rt: HostRuntime) -> Result<(), Fail> {
     assert_apart(&rt, rt.alloc(), b"a.service", b"c.service")?;
-    assert_apart(&rt, rt.alloc(), b"b.service", b"b.service")?;
-    Ok(())
+    assert_apart(&rt, rt.alloc(), b"b.service", b"b.service")
 }

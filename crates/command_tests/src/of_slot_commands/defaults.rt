@@ -1,11 +1,12 @@
 //! set-default.
 use crate::outcomes::assert_told;
-use crate::trees::{assert_other, assert_reads, name};
+use crate::readings::{assert_other, assert_reads};
+use sample_values::name;
 use slot_commands::SetDefault;
 use std::alloc::{AllocError, Global};
 use std::process::Abort;
 use std::test::Fail;
-use unit_name::{NameError, ample};
+use unit_name::ample;
 
 /// What stands beside the default target.
 const REST: &[u8] = b"F\t1\t/usr/lib/systemd/system/multi-user.target\nm\n\
@@ -41,7 +42,7 @@ fn inventory_with(alloc: Global, default: &[u8]) -> Result<Vec<u8>, AllocError> 
     ample!(inventory(alloc, default), AllocError)
 }
 
-fn set_default(alloc: Global, unit: &[u8]) -> Result<SetDefault, NameError> {
+fn set_default(alloc: Global, unit: &[u8]) -> Result<SetDefault, AllocError> {
     let unit = name(alloc, unit)?;
     Ok(SetDefault { unit })
 }

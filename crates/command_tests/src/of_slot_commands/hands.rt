@@ -1,12 +1,11 @@
 //! Entries that are placed and removed by hand.
 use crate::outcomes::assert_told;
-use crate::trees::{assert_other, assert_reads, path};
-use link_tree::{Entry, FileError, PathError, TargetError};
+use crate::readings::{assert_other, assert_reads};
+use sample_values::{file, link, path};
 use slot_commands::{PlaceEntry, RemoveEntry};
-use std::alloc::Global;
+use std::alloc::{AllocError, Global};
 use std::process::Abort;
 use std::test::Fail;
-use unit_name::ample;
 
 const TREE: &[u8] = b"unitadm-inventory 1\n\
     F\t1\t/opt/x\nx\n\
@@ -14,27 +13,23 @@ const TREE: &[u8] = b"unitadm-inventory 1\n\
     L\t/etc/systemd/system/a.service\t/dev/null\n\
     end\n";
 
-fn file(alloc: Global, bytes: &[u8]) -> Result<Entry, FileError> {
-    ample!(Entry::file(alloc, bytes), FileError::OutOfMemory)
-}
-
-fn link(alloc: Global, target: &[u8]) -> Result<Entry, TargetError> {
-    ample!(Entry::link(alloc, target), TargetError::OutOfMemory)
-}
-
-pub(super) fn place_file(alloc: Global, text: &[u8], bytes: &[u8]) -> Result<PlaceEntry, Fail> {
+pub(super) fn place_file(
+    alloc: Global,
+    text: &[u8],
+    bytes: &[u8],
+) -> Result<PlaceEntry, AllocError> {
     let path = path(alloc, text)?;
     let entry = file(alloc, bytes)?;
     Ok(PlaceEntry { path, entry })
 }
 
-fn place_link(alloc: Global, text: &[u8], target: &[u8]) -> Result<PlaceEntry, Fail> {
+fn place_link(alloc: Global, text: &[u8], target: &[u8]) -> Result<PlaceEntry, AllocError> {
     let path = path(alloc, text)?;
     let entry = link(alloc, target)?;
     Ok(PlaceEntry { path, entry })
 }
 
-fn remove(alloc: Global, text: &[u8]) -> Result<RemoveEntry, PathError> {
+fn remove(alloc: Global, text: &[u8]) -> Result<RemoveEntry, AllocError> {
     let path = path(alloc, text)?;
     Ok(RemoveEntry { path })
 }

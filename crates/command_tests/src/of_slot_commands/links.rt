@@ -1,9 +1,10 @@
 //! link.
 use crate::outcomes::assert_told;
-use crate::trees::{assert_other, assert_reads};
-use link_tree::{PathError, Scope, TreePath};
+use crate::readings::{assert_other, assert_reads};
+use link_tree::{Scope, TreePath};
+use sample_values::path;
 use slot_commands::{LinkUnits, Paths};
-use std::alloc::Global;
+use std::alloc::{AllocError, Global};
 use std::process::Abort;
 use std::test::Fail;
 use unit_name::ample;
@@ -26,21 +27,21 @@ const TREE: &[u8] = b"unitadm-inventory 1\n\
     F\t1\t/usr/lib/systemd/system/ssh.service\ns\n\
     end\n";
 
-fn push_path(alloc: Global, paths: &mut Paths, text: &[u8]) -> Result<(), PathError> {
-    let path = TreePath::parse(alloc, text)?;
-    Ok(paths.push(path)?)
+fn push_copy(paths: &mut Paths, path: &TreePath) -> Result<(), AllocError> {
+    paths.push(path.copy()?)
 }
 
 /// Paths that have spaces between them.
-fn paths(alloc: Global, texts: &[u8]) -> Result<Paths, PathError> {
+fn paths(alloc: Global, texts: &[u8]) -> Result<Paths, AllocError> {
     let mut paths = Paths::none(alloc);
     for text in texts.split(|b| *b == b' ') {
-        ample!(push_path(alloc, &mut paths, text), PathError::OutOfMemory)?;
+        let path = path(alloc, text)?;
+        ample!(push_copy(&mut paths, &path), AllocError)?;
     }
     Ok(paths)
 }
 
-pub(super) fn link(alloc: Global, scope: Scope, texts: &[u8]) -> Result<LinkUnits, PathError> {
+pub(super) fn link(alloc: Global, scope: Scope, texts: &[u8]) -> Result<LinkUnits, AllocError> {
     let paths = paths(alloc, texts)?;
     Ok(LinkUnits { scope, paths })
 }
@@ -166,12 +167,7 @@ fn link_reads_up_to_the_refused_path(rt: HostRuntime) -> Result<(), Fail> {
 }
 
 /// A link is told apart from that of `/opt/a.service` without `--runtime`.
-fn assert_apart(
-    rt: &impl Abort,
-    alloc: Global,
-    scope: Scope,
-    texts: &[u8],
-) -> Result<(), PathError> {
+fn assert_apart(rt: &impl Abort, alloc: Global, scope: Scope, texts: &[u8]) -> Result<(), Fail> {
     let one = link(alloc, Scope::Etc, b"/opt/a.service")?;
     let other = link(alloc, scope, texts)?;
     assert_other(rt, one, other);
@@ -181,6 +177,5 @@ fn assert_apart(
 #[test]
 fn links_are_told_apart(rt: HostRuntime) -> Result<(), Fail> {
     assert_apart(&rt, rt.alloc(), Scope::Etc, b"/opt/b.service")?;
-    assert_apart(&rt, rt.alloc(), Scope::Run, b"/opt/a.service")?;
-    Ok(())
+    assert_apart(&rt, rt.alloc(), Scope::Run, b"/opt/a.service")
 }

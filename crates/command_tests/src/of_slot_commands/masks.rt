@@ -1,13 +1,14 @@
 //! mask and unmask.
 use crate::outcomes::assert_told;
-use crate::trees::{assert_other, assert_reads, name, path, push_key, tree, units};
-use footprint::{Key, Operation, Outcome, agrees, touches};
+use crate::readings::{assert_other, assert_reads, outcome, push_key, units};
+use footprint::{Key, Outcome, agrees, touches};
 use link_tree::{Change, Scope, Tree};
+use sample_values::{name, path, tree};
 use slot_commands::{Mask, Unmask};
 use std::alloc::{AllocError, Global};
 use std::process::Abort;
 use std::test::Fail;
-use unit_name::{NameError, ample};
+use unit_name::ample;
 
 /// `a` and `d` are masked, the second in another spelling, `e` is an empty file, `f` is a file, `x` a link, and `r` is
 /// masked until the next start.
@@ -20,12 +21,12 @@ const TREE: &[u8] = b"unitadm-inventory 1\n\
     L\t/run/systemd/system/r.service\t/dev/null\n\
     end\n";
 
-pub(super) fn mask(alloc: Global, scope: Scope, names: &[u8]) -> Result<Mask, NameError> {
+pub(super) fn mask(alloc: Global, scope: Scope, names: &[u8]) -> Result<Mask, AllocError> {
     let units = units(alloc, names)?;
     Ok(Mask { scope, units })
 }
 
-pub(super) fn unmask(alloc: Global, scope: Scope, names: &[u8]) -> Result<Unmask, NameError> {
+pub(super) fn unmask(alloc: Global, scope: Scope, names: &[u8]) -> Result<Unmask, AllocError> {
     let units = units(alloc, names)?;
     Ok(Unmask { scope, units })
 }
@@ -94,7 +95,7 @@ fn assert_masks_apart(
     alloc: Global,
     scope: Scope,
     names: &[u8],
-) -> Result<(), NameError> {
+) -> Result<(), Fail> {
     let one = mask(alloc, Scope::Etc, b"x.service")?;
     let other = mask(alloc, scope, names)?;
     assert_other(rt, one, other);
@@ -104,8 +105,7 @@ fn assert_masks_apart(
 #[test]
 fn masks_are_told_apart(rt: HostRuntime) -> Result<(), Fail> {
     assert_masks_apart(&rt, rt.alloc(), Scope::Etc, b"y.service")?;
-    assert_masks_apart(&rt, rt.alloc(), Scope::Run, b"x.service")?;
-    Ok(())
+    assert_masks_apart(&rt, rt.alloc(), Scope::Run, b"x.service")
 }
 
 /// An unmask is told apart from that of `x` without `--runtime`.
@@ -114,7 +114,7 @@ fn assert_unmasks_apart(
     alloc: Global,
     scope: Scope,
     names: &[u8],
-) -> Result<(), NameError> {
+) -> Result<(), Fail> {
     let one = unmask(alloc, Scope::Etc, b"x.service")?;
     let other = unmask(alloc, scope, names)?;
     assert_other(rt, one, other);
@@ -125,13 +125,12 @@ fn assert_unmasks_apart(
 fn unmasks_are_told_apart(rt: HostRuntime) -> Result<(), Fail> {
     let names = b"x.service y.service";
     assert_unmasks_apart(&rt, rt.alloc(), Scope::Etc, names)?;
-    assert_unmasks_apart(&rt, rt.alloc(), Scope::Run, b"x.service")?;
-    Ok(())
+    assert_unmasks_apart(&rt, rt.alloc(), Scope::Run, b"x.service")
 }
 
 fn run_on_empty(alloc: Global, mask: &Mask) -> Result<Box<Outcome>, AllocError> {
     let tree = Box::new(alloc, Tree::empty(alloc)?)?;
-    Ok(Box::new(alloc, mask.run(alloc, &tree)?)?)
+    outcome(alloc, mask, &tree)
 }
 
 /// The key that a tree doesn't agree on, with a line end, or no text.
@@ -149,18 +148,6 @@ fn other_key(alloc: Global, mask: &Mask, tree: &Tree) -> Result<Vec<u8>, AllocEr
     text_of_other(alloc, agrees(tree, &outcome.reading))
 }
 
-fn assert_other_key(
-    rt: &impl Abort,
-    alloc: Global,
-    mask: &Mask,
-    tree: &Tree,
-    text: &[u8],
-) -> Result<(), Fail> {
-    let other = ample!(other_key(alloc, mask, tree), AllocError)?;
-    assert_eq!(rt; other.as_slice(), text);
-    Ok(())
-}
-
 /// What the mask of `x` on the empty tree has read is other in the tree of an inventory at this key.
 fn assert_other_in(
     rt: &impl Abort,
@@ -170,7 +157,9 @@ fn assert_other_in(
 ) -> Result<(), Fail> {
     let tree = tree(alloc, inventory)?;
     let mask = mask(alloc, Scope::Etc, b"x.service")?;
-    assert_other_key(rt, alloc, &mask, &tree, text)
+    let other = ample!(other_key(alloc, &mask, &tree), AllocError)?;
+    assert_eq!(rt; other.as_slice(), text);
+    Ok(())
 }
 
 #[test]
@@ -192,6 +181,7 @@ fn touches_alone(changes: &[Change], cell: &Key, marked: &Key) -> bool {
         && !touches(change, &Key::Links)
 }
 
+/// Whether a mask on the empty tree makes one change, of the first key, and of none of the others.
 fn mask_touches_alone(
     alloc: Global,
     mask: &Mask,
@@ -202,22 +192,12 @@ fn mask_touches_alone(
     Ok(touches_alone(outcome.changes.as_slice(), cell, marked))
 }
 
-fn assert_touches_alone(
-    rt: &impl Abort,
-    alloc: Global,
-    mask: &Mask,
-    cell: &Key,
-    marked: &Key,
-) -> Result<(), Fail> {
-    let alone = ample!(mask_touches_alone(alloc, mask, cell, marked), AllocError)?;
-    assert!(rt; alone);
-    Ok(())
-}
-
 fn assert_touched(rt: &impl Abort, alloc: Global, mask: &Mask) -> Result<(), Fail> {
     let cell = Key::Cell(path(alloc, b"/etc/systemd/system/x.service")?);
     let marked = Key::Marked(Scope::Etc, name(alloc, b"x.service")?);
-    assert_touches_alone(rt, alloc, mask, &cell, &marked)
+    let alone = ample!(mask_touches_alone(alloc, mask, &cell, &marked), AllocError)?;
+    assert!(rt; alone);
+    Ok(())
 }
 
 #[test]

@@ -1,13 +1,14 @@
 //! What is answered, and what is looked at.
 use crate::outcomes::{assert_answered, assert_question_copied};
-use crate::trees::{assert_reads, name, tree};
+use crate::readings::{assert_reads, outcome};
 use footprint::{Answer, Operation, StateWord};
 use link_tree::Tree;
+use sample_values::{name, tree};
 use states::{GetDefault, IsEnabled};
 use std::alloc::{AllocError, Global};
 use std::process::Abort;
 use std::test::Fail;
-use unit_name::{NameError, ample};
+use unit_name::ample;
 
 /// A unit for each word, and one that has a link of its own name.
 const STATES: &[u8] = b"unitadm-inventory 1\n\
@@ -29,7 +30,7 @@ const STATES: &[u8] = b"unitadm-inventory 1\n\
     F\t28\t/usr/lib/systemd/system/l.service\n[Install]\nWantedBy=m.target\n\n\
     end\n";
 
-fn is_enabled(alloc: Global, text: &[u8]) -> Result<IsEnabled, NameError> {
+fn is_enabled(alloc: Global, text: &[u8]) -> Result<IsEnabled, AllocError> {
     let unit = name(alloc, text)?;
     Ok(IsEnabled { unit })
 }
@@ -43,20 +44,8 @@ fn word_of(answer: &Answer) -> Option<StateWord> {
 }
 
 fn word(alloc: Global, question: &IsEnabled, tree: &Tree) -> Result<Option<StateWord>, AllocError> {
-    let outcome = Box::new(alloc, question.run(alloc, tree)?)?;
+    let outcome = outcome(alloc, question, tree)?;
     Ok(word_of(&outcome.answer))
-}
-
-fn assert_word(
-    rt: &impl Abort,
-    alloc: Global,
-    question: &IsEnabled,
-    tree: &Tree,
-    expected: StateWord,
-) -> Result<(), Fail> {
-    let found = ample!(word(alloc, question, tree), AllocError)?;
-    assert_eq!(rt; found, Some(expected));
-    Ok(())
 }
 
 /// A name, and the word that holds first.
@@ -85,7 +74,9 @@ fn assert_row(
     (name, expected): Row,
 ) -> Result<(), Fail> {
     let question = is_enabled(alloc, name)?;
-    assert_word(rt, alloc, &question, tree, expected)
+    let found = ample!(word(alloc, &question, tree), AllocError)?;
+    assert_eq!(rt; found, Some(expected));
+    Ok(())
 }
 
 fn assert_rows(rt: &impl Abort, alloc: Global, tree: &Tree, rows: &[Row]) -> Result<(), Fail> {

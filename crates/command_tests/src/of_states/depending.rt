@@ -1,14 +1,14 @@
 //! Dependencies, either way.
 use crate::outcomes::{assert_comes_to, assert_question_copied};
-use crate::trees::{assert_reads, name, tree};
+use crate::readings::assert_reads;
 use link_tree::Tree;
+use sample_values::{name, tree};
 use states::Dependencies;
-use std::alloc::Global;
+use std::alloc::{AllocError, Global};
 use std::process::Abort;
 use std::test::Fail;
-use unit_name::NameError;
 
-fn question(alloc: Global, reverse: bool, text: &[u8]) -> Result<Dependencies, NameError> {
+fn question(alloc: Global, reverse: bool, text: &[u8]) -> Result<Dependencies, AllocError> {
     let unit = name(alloc, text)?;
     Ok(Dependencies { unit, reverse })
 }

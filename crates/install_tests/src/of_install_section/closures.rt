@@ -172,7 +172,7 @@ fn assert_named(
     members: &Members,
     one: &[u8],
     none: &[u8],
-) -> Result<(), AllocError> {
+) -> Result<(), Fail> {
     let one = name(alloc, one)?;
     let none = name(alloc, none)?;
     assert_members(rt, members, &one, &none);
@@ -182,13 +182,13 @@ fn assert_named(
 #[test]
 fn members_are_found_by_name_and_place(rt: HostRuntime) -> Result<(), Fail> {
     match closed_of(rt.alloc(), b"a.service")? {
-        Some(closed) => Ok(assert_named(
+        Some(closed) => assert_named(
             &rt,
             rt.alloc(),
             &closed.units,
             b"b.service",
             b"none.service",
-        )?),
+        ),
         None => Err(Fail::from("too many")),
     }
 }

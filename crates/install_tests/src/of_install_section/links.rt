@@ -16,7 +16,8 @@ fn assert_wanted_in(
     alloc: Global,
     rows: &[Row],
     units: &[u8],
-    (scope, skip): (Scope, bool),
+    scope: Scope,
+    skip: bool,
     text: &[u8],
 ) -> Result<(), Fail> {
     let found = wanted_text(alloc, rows, units, scope, skip)?;
@@ -31,7 +32,7 @@ pub(crate) fn assert_wanted(
     units: &[u8],
     text: &[u8],
 ) -> Result<(), Fail> {
-    assert_wanted_in(rt, alloc, rows, units, (Scope::Etc, false), text)
+    assert_wanted_in(rt, alloc, rows, units, Scope::Etc, false, text)
 }
 
 /// Units ask for these, each line of the table for itself.
@@ -58,10 +59,9 @@ fn links_are_wanted_in_the_scope(rt: HostRuntime) -> Result<(), Fail> {
         b"/etc/systemd/system/multi-user.target.wants/ssh.service -> /usr/lib/systemd/system/ssh.service\n/etc/systemd/system/sshd.service -> /usr/lib/systemd/system/ssh.service\n";
     let run: &[u8] =
         b"/run/systemd/system/multi-user.target.wants/ssh.service -> /usr/lib/systemd/system/ssh.service\n/run/systemd/system/sshd.service -> /usr/lib/systemd/system/ssh.service\n";
-    let in_etc = (Scope::Etc, false);
-    assert_wanted_in(&rt, rt.alloc(), &[SSH], b"ssh.service", in_etc, etc)?;
-    let in_run = (Scope::Run, false);
-    assert_wanted_in(&rt, rt.alloc(), &[SSH], b"ssh.service", in_run, run)
+    let unit = b"ssh.service";
+    assert_wanted_in(&rt, rt.alloc(), &[SSH], unit, Scope::Etc, false, etc)?;
+    assert_wanted_in(&rt, rt.alloc(), &[SSH], unit, Scope::Run, false, run)
 }
 
 #[test]
@@ -144,8 +144,8 @@ fn words_that_need_an_instance_are_left_out(rt: HostRuntime) -> Result<(), Fail>
     let units = b"web@.service getty@.service";
     let text: &[u8] =
         b"/etc/systemd/system/getty.target.wants/getty@tty1.service -> /usr/lib/systemd/system/getty@.service\n";
-    let skipping = (Scope::Etc, true);
-    assert_wanted_in(&rt, rt.alloc(), &[WEB, GETTY], units, skipping, text)
+    let rows = [WEB, GETTY];
+    assert_wanted_in(&rt, rt.alloc(), &rows, units, Scope::Etc, true, text)
 }
 
 #[test]
@@ -172,7 +172,7 @@ fn assert_found(
     links: &Links,
     at: &[u8],
     none: &[u8],
-) -> Result<(), AllocError> {
+) -> Result<(), Fail> {
     let at = path(alloc, at)?;
     let none = path(alloc, none)?;
     assert_links(rt, links, &at, &none);
@@ -196,13 +196,13 @@ fn wanted_by_ssh(alloc: Global) -> Result<Box<Wanted>, AllocError> {
 #[test]
 fn links_are_found_by_path(rt: HostRuntime) -> Result<(), Fail> {
     let wanted = wanted_by_ssh(rt.alloc())?;
-    Ok(assert_found(
+    assert_found(
         &rt,
         rt.alloc(),
         &wanted.links,
         b"/etc/systemd/system/sshd.service",
         b"/etc/systemd/system/ssh.service",
-    )?)
+    )
 }
 
 /// How many paths are looked at, each counted as often.

@@ -1,40 +1,22 @@
-//! Trees and names from texts, and what operations look at.
-use footprint::{Key, Operation, Reading, Units};
-use link_tree::{FromRead, InventoryError, PathError, Scope, Tree, TreePath, read_inventory};
+//! Units for operations, what operations come to in a tree, and what they look at.
+use footprint::{Key, Operation, Outcome, Reading, Units};
+use link_tree::{Scope, Tree};
+use sample_values::{name, tree};
 use std::alloc::{AllocError, Global};
 use std::process::Abort;
 use std::test::Fail;
-use unit_name::{NameError, UnitName, ample};
+use unit_name::{UnitName, ample};
 
-fn read(alloc: Global, text: &[u8]) -> Result<Box<Tree>, InventoryError> {
-    match Box::new(alloc, read_inventory(alloc, &mut FromRead::new(text))?) {
-        Ok(tree) => Ok(tree),
-        Err(_) => Err(InventoryError::OutOfMemory),
-    }
-}
-
-pub(crate) fn tree(alloc: Global, text: &[u8]) -> Result<Box<Tree>, InventoryError> {
-    ample!(read(alloc, text), InventoryError::OutOfMemory)
-}
-
-pub(crate) fn name(alloc: Global, text: &[u8]) -> Result<UnitName, NameError> {
-    ample!(UnitName::parse(alloc, text), NameError::OutOfMemory)
-}
-
-pub(crate) fn path(alloc: Global, text: &[u8]) -> Result<TreePath, PathError> {
-    ample!(TreePath::parse(alloc, text), PathError::OutOfMemory)
-}
-
-fn push_unit(alloc: Global, units: &mut Units, text: &[u8]) -> Result<(), NameError> {
-    let name = UnitName::parse(alloc, text)?;
-    Ok(units.push(name)?)
+fn push_copy(units: &mut Units, name: &UnitName) -> Result<(), AllocError> {
+    units.push(name.copy()?)
 }
 
 /// The names of units that have spaces between them.
-pub(crate) fn units(alloc: Global, names: &[u8]) -> Result<Units, NameError> {
+pub(crate) fn units(alloc: Global, names: &[u8]) -> Result<Units, AllocError> {
     let mut units = Units::none(alloc);
-    for name in names.split(|b| *b == b' ') {
-        ample!(push_unit(alloc, &mut units, name), NameError::OutOfMemory)?;
+    for text in names.split(|b| *b == b' ') {
+        let name = name(alloc, text)?;
+        ample!(push_copy(&mut units, &name), AllocError)?;
     }
     Ok(units)
 }
@@ -72,8 +54,17 @@ fn keys_of(alloc: Global, reading: &Reading) -> Result<Vec<u8>, AllocError> {
     Ok(out)
 }
 
+/// What an operation comes to in a tree.
+pub(crate) fn outcome<O: Operation>(
+    alloc: Global,
+    operation: &O,
+    tree: &Tree,
+) -> Result<Box<Outcome>, AllocError> {
+    Ok(Box::new(alloc, operation.run(alloc, tree)?)?)
+}
+
 fn read_by<O: Operation>(alloc: Global, operation: &O, tree: &Tree) -> Result<Vec<u8>, AllocError> {
-    let outcome = Box::new(alloc, operation.run(alloc, tree)?)?;
+    let outcome = outcome(alloc, operation, tree)?;
     keys_of(alloc, &outcome.reading)
 }
 
