@@ -1,10 +1,11 @@
 //! Logs of a shared history's operators, and whether they tell its rows.
 
-use crate::sharing::{first_tree, run};
+use crate::sharing::{FIRST, run};
 use footprint::{Answer, Notices, Refusal, StateWord};
-use history::{History, Operator, Request, RowReply, UndoRefusal};
-use link_tree::{Tree, TreePath};
-use sample_steps::{Step, digit, named, number, push_row, slot_of, step};
+use history::{History, Operator, RowReply, UndoRefusal};
+use link_tree::Tree;
+use sample_steps::{Step, digit, named, number, push_row, request, slot_of};
+use sample_values::{path, tree};
 use shared_admin::{
     CloseFault, LogEntries, LogEntry, SessionLog, SessionLogs, SharedAdmin, Unclosed, run_fault,
 };
@@ -14,29 +15,18 @@ use std::sync::Wait;
 use std::test::Fail;
 use unit_name::ample;
 
-fn exists(alloc: Global, unit: u8) -> Result<Refusal, AllocError> {
-    match TreePath::parse(alloc, slot_of(unit)) {
-        Ok(slot) => Ok(Refusal::Exists(slot)),
-        Err(_) => Err(AllocError),
-    }
-}
-
 /// The reply of two bytes: `k-` that it was done, `ra` that something stands at the slot of a, `s-` a question's, `U` and a row's digit that the
 /// row was undone, and `n-` that there is no such row.
 fn reply(alloc: Global, what: u8, which: u8) -> Result<RowReply, AllocError> {
     match what {
         b'k' => Ok(RowReply::Answered(Answer::Done(Notices::none(alloc)))),
-        b'r' => Ok(RowReply::Answered(Answer::Refused(exists(alloc, which)?))),
+        b'r' => {
+            let slot = path(alloc, slot_of(which))?;
+            Ok(RowReply::Answered(Answer::Refused(Refusal::Exists(slot))))
+        }
         b's' => Ok(RowReply::Answered(Answer::State(StateWord::Static))),
         b'U' => Ok(RowReply::Undid(number(which))),
         _ => Ok(RowReply::UndoRefused(UndoRefusal::NoSuchRow)),
-    }
-}
-
-fn request(alloc: Global, how: u8, unit: u8) -> Result<Request<Step>, AllocError> {
-    match how {
-        b'u' => Ok(Request::Undo(number(unit))),
-        _ => Ok(Request::Do(step(alloc, how, unit)?)),
     }
 }
 
@@ -50,7 +40,7 @@ fn push_entry(
         return Err(AllocError);
     };
     entries.push(LogEntry {
-        request: request(alloc, *how, *unit)?,
+        request: request(alloc, &[*how, *unit])?,
         seen: number(*seen),
         row: number(*row),
         reply: reply(alloc, *what, *which)?,
@@ -245,7 +235,7 @@ fn each_log_tells_its_rows(rt: HostRuntime) -> Result<(), Fail> {
 
 /// What is wrong with a history of the empty tree without rows that was to begin with a tree of one entry.
 fn said_of_another_tree(alloc: Global) -> Result<[u8; 3], AllocError> {
-    let given = Box::new(alloc, first_tree(alloc)?)?;
+    let given = tree(alloc, FIRST)?;
     let history = Box::new(alloc, History::<Step>::new(alloc, Tree::empty(alloc)?)?)?;
     match run_fault(&given, &[], &[], &history) {
         Some(fault) => Ok(of_fault(&fault)),

@@ -1,8 +1,9 @@
 //! Calls on a shared history, one after another on one thread.
 
 use history::{CallError, Operator, Plan};
-use link_tree::{FromRead, Tree, read_inventory};
+use link_tree::Tree;
 use sample_steps::{Step, digit, named, number, operator, reply_text, step, unit_at};
+use sample_values::tree;
 use shared_admin::{
     MAX_SESSIONS, NewRow, OpenError, Operators, Settled, SharedAdmin, Snapshot, plan,
 };
@@ -37,19 +38,12 @@ fn operators(alloc: Global, letters: &[u8]) -> Result<Operators, AllocError> {
 }
 
 /// A tree with one entry, at the slot of c.
-const FIRST: &[u8] = b"unitadm-inventory 1\nF\t0\t/etc/systemd/system/c.service\n\nend\n";
-
-pub(crate) fn first_tree(alloc: Global) -> Result<Tree, AllocError> {
-    let mut bytes = FIRST;
-    match read_inventory(alloc, &mut FromRead::new(&mut bytes)) {
-        Ok(tree) => Ok(tree),
-        Err(_) => Err(AllocError),
-    }
-}
+pub(crate) const FIRST: &[u8] = b"unitadm-inventory 1\nF\t0\t/etc/systemd/system/c.service\n\nend\n";
 
 /// A history of that tree, shared by alice and bob.
 fn shared(alloc: Global) -> Result<Box<SharedAdmin<Step>>, AllocError> {
-    match SharedAdmin::new(alloc, first_tree(alloc)?, operators(alloc, b"AB")?) {
+    let first = Box::into_inner(tree(alloc, FIRST)?);
+    match SharedAdmin::new(alloc, first, operators(alloc, b"AB")?) {
         Ok(admin) => Ok(Box::new(alloc, admin)?),
         Err(_) => Err(AllocError),
     }

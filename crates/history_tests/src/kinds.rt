@@ -3,8 +3,9 @@
 use crate::watching::Watch;
 use footprint::{Answer, Key, Operation, Outcome, Then};
 use history::{History, RowReply, UndoRefusal};
-use link_tree::{Scope, Tree, TreePath};
+use link_tree::{Scope, Tree};
 use sample_steps::{operator, step};
+use sample_values::{name, path};
 use std::alloc::{AllocError, Global};
 use std::process::Abort;
 use std::test::Fail;
@@ -17,20 +18,6 @@ const DEPENDENCY: &[u8] = b"/etc/systemd/system/m.target.wants/a.service";
 const PRESET: &[u8] = b"/etc/systemd/system-preset/1.preset";
 
 const FILE: &[u8] = b"/usr/lib/systemd/system/a.service";
-
-fn name(alloc: Global, text: &[u8]) -> Result<UnitName, AllocError> {
-    match UnitName::parse(alloc, text) {
-        Ok(name) => Ok(name),
-        Err(_) => Err(AllocError),
-    }
-}
-
-fn path(alloc: Global, text: &[u8]) -> Result<TreePath, AllocError> {
-    match TreePath::parse(alloc, text) {
-        Ok(path) => Ok(path),
-        Err(_) => Err(AllocError),
-    }
-}
 
 /// A kind of keys.
 #[derive(Clone, Copy, Debug)]

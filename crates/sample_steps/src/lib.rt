@@ -7,4 +7,4 @@ mod words;
 
 pub use operation::Step;
 pub use replies::{digit, push_row, reply_text, unit_at};
-pub use words::{named, number, operator, slot_of, step};
+pub use words::{named, number, operator, request, slot_of, step};

@@ -1,7 +1,7 @@
 //! What letters and digits stand for.
 
 use crate::operation::Step;
-use history::Operator;
+use history::{Operator, Request};
 use link_tree::TreePath;
 use std::alloc::{AllocError, Global};
 
@@ -29,6 +29,15 @@ pub fn step(alloc: Global, sign: u8, unit: u8) -> Result<Step, AllocError> {
         },
         asks: sign == b'?',
     })
+}
+
+/// The request of a word: the step `+a`, or the undo `u1`. Fails where the word is neither, or memory runs out.
+pub fn request(alloc: Global, word: &[u8]) -> Result<Request<Step>, AllocError> {
+    match word {
+        [b'u', n] => Ok(Request::Undo(number(*n))),
+        [sign, unit] => Ok(Request::Do(step(alloc, *sign, *unit)?)),
+        _ => Err(AllocError),
+    }
 }
 
 /// The operator of this name. Fails where it is no operator's name.

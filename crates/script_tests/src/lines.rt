@@ -1,9 +1,8 @@
-//! Calls and trees by their texts.
+//! Calls by their texts.
 
 use crate::streams::Faulty;
 use byte_streams::ReadError;
 use history::Request;
-use link_tree::{Tree, read_inventory};
 use std::alloc::{AllocError, Global};
 use unit_script::{Action, Call, ScriptFault, read_script};
 
@@ -44,13 +43,5 @@ pub(crate) fn action(alloc: Global, line: &[u8]) -> Result<Box<Action>, AllocErr
     match Box::into_inner(whole_call(alloc, line)?).request {
         Request::Do(action) => Ok(Box::new(alloc, action)?),
         Request::Undo(_) => Err(AllocError),
-    }
-}
-
-/// The tree of an inventory.
-pub(crate) fn tree(alloc: Global, inventory: &[u8]) -> Result<Tree, AllocError> {
-    match read_inventory(alloc, &mut Faulty::new(inventory, ALL, 0)) {
-        Ok(tree) => Ok(tree),
-        Err(_) => Err(AllocError),
     }
 }

@@ -2,9 +2,10 @@
 ghost use Rattle.std.specs.Prelude.{◌<◌, All, IfOk, OnOk};
 ghost use Rattle.shared_admin.specs.Events.{HasSlot};
 
-use crate::lines;
+use crate::lines::{action, whole_call};
 use footprint::Key;
 use history::{History, MAX_ROWS, Operator, Request};
+use sample_values::tree;
 use shared_admin::{Event, EventReply, drive};
 use std::alloc::{AllocError, Global};
 use std::process::Abort;
@@ -36,7 +37,7 @@ fn add_call(alloc: Global, line: &[u8], events: &mut Vec<Event<Action>>) -> Resu
     requires before { All (HasSlot {O = Action}) events.old.items }
     ensures ok { OnOk result (All (HasSlot {O = Action}) events.new.items) }
 {
-    let Call { operator, request } = Box::into_inner(lines::whole_call(alloc, line)?);
+    let Call { operator, request } = Box::into_inner(whole_call(alloc, line)?);
     match request {
         Request::Do(action) => add(events, Event::Call(operator, action)),
         Request::Undo(n) => add(events, Event::Undo(operator, n)),
@@ -55,10 +56,7 @@ fn add_happening(
     match how {
         b's' => add(events, Event::Snap(0)),
         b'c' => add(events, Event::Commit(0, alice()?)),
-        b'p' => add(
-            events,
-            Event::Plan(0, Box::into_inner(lines::action(alloc, line)?)),
-        ),
+        b'p' => add(events, Event::Plan(0, Box::into_inner(action(alloc, line)?))),
         _ => add_call(alloc, line, events),
     }
 }
@@ -123,7 +121,7 @@ type Driven = (History<Action>, Vec<EventReply>);
 
 fn driven(alloc: Global, given: &[Happening]) -> Result<Box<Driven>, AllocError> {
     let events = events(alloc, given)?;
-    let driven = drive(alloc, lines::tree(alloc, SSH)?, events)?;
+    let driven = drive(alloc, Box::into_inner(tree(alloc, SSH)?), events)?;
     Ok(Box::new(alloc, driven)?)
 }
 

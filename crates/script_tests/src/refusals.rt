@@ -2,25 +2,16 @@
 
 use footprint::{Refusal, Subject};
 use link_tree::TreePath;
+use sample_values::{name, path};
 use std::alloc::{AllocError, Global};
 use std::process::Abort;
 use std::test::Fail;
 use unit_name::{UnitName, ample};
 use unit_script::push_refusal;
 
-fn unit(alloc: Global) -> Result<UnitName, AllocError> {
-    match UnitName::parse(alloc, b"x@.service") {
-        Ok(unit) => Ok(unit),
-        Err(_) => Err(AllocError),
-    }
-}
+const UNIT: &[u8] = b"x@.service";
 
-fn path(alloc: Global) -> Result<TreePath, AllocError> {
-    match TreePath::parse(alloc, b"/a/b") {
-        Ok(path) => Ok(path),
-        Err(_) => Err(AllocError),
-    }
-}
+const PATH: &[u8] = b"/a/b";
 
 const SAID: [&[u8]; 14] = [
     b"x@.service not found",
@@ -64,13 +55,13 @@ fn of_path(path: TreePath, number: usize) -> Refusal {
 /// The refusal of which this line of `SAID` is said.
 fn refusal(alloc: Global, number: usize) -> Result<Box<Refusal>, AllocError> {
     let refusal = match number {
-        0 | 2 | 5 | 7 => of_unit(unit(alloc)?, number),
+        0 | 2 | 5 | 7 => of_unit(name(alloc, UNIT)?, number),
         11 => Refusal::IsAlias {
-            unit: unit(alloc)?,
-            real: unit(alloc)?,
+            unit: name(alloc, UNIT)?,
+            real: name(alloc, UNIT)?,
         },
         12 => Refusal::TooMany,
-        _ => of_path(path(alloc)?, number),
+        _ => of_path(path(alloc, PATH)?, number),
     };
     Ok(Box::new(alloc, refusal)?)
 }

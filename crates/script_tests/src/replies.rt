@@ -1,34 +1,14 @@
 //! The lines of changes and rows.
 
-use crate::lines;
+use crate::lines::whole_call;
 use history::{History, MAX_ROWS, Operator, Request};
-use link_tree::{Change, Entry, TreePath};
+use link_tree::Change;
+use sample_values::{file, link, path, tree};
 use std::alloc::{AllocError, Global};
 use std::process::Abort;
 use std::test::Fail;
 use unit_name::ample;
 use unit_script::{Action, Call, push_changes, push_rows};
-
-fn path(alloc: Global, text: &[u8]) -> Result<TreePath, AllocError> {
-    match TreePath::parse(alloc, text) {
-        Ok(path) => Ok(path),
-        Err(_) => Err(AllocError),
-    }
-}
-
-fn file(alloc: Global, bytes: &[u8]) -> Result<Entry, AllocError> {
-    match Entry::file(alloc, bytes) {
-        Ok(file) => Ok(file),
-        Err(_) => Err(AllocError),
-    }
-}
-
-fn link(alloc: Global, target: &[u8]) -> Result<Entry, AllocError> {
-    match Entry::link(alloc, target) {
-        Ok(link) => Ok(link),
-        Err(_) => Err(AllocError),
-    }
-}
 
 /// A change of a file into a link to `/dev/null`.
 fn mask_of_file(alloc: Global, bytes: &[u8]) -> Result<Box<[Change; 1]>, AllocError> {
@@ -90,7 +70,7 @@ fn undo(
 
 /// Makes the call of a line.
 fn make(alloc: Global, history: &mut History<Action>, line: &[u8]) -> Result<u32, AllocError> {
-    let Call { operator, request } = Box::into_inner(lines::whole_call(alloc, line)?);
+    let Call { operator, request } = Box::into_inner(whole_call(alloc, line)?);
     match request {
         Request::Do(action) => run(alloc, history, operator, action),
         Request::Undo(n) => undo(alloc, history, operator, n),
@@ -115,7 +95,7 @@ fn push_made(
 }
 
 fn begun(alloc: Global, inventory: &[u8]) -> Result<Box<History<Action>>, AllocError> {
-    let history = History::new(alloc, lines::tree(alloc, inventory)?)?;
+    let history = History::new(alloc, Box::into_inner(tree(alloc, inventory)?))?;
     Ok(Box::new(alloc, history)?)
 }
 

@@ -1,7 +1,7 @@
 //! Requests by their words, and what runs come to as texts.
 
-use history::{History, Operator, Request};
-use sample_steps::{Step, named, number, push_row, step};
+use history::{History, Operator};
+use sample_steps::{Step, named, push_row, request};
 use sessions::{Ask, Asks, Gate, Requests, RunError, Work, Works};
 use shared_admin::{CloseFault, Operators, SessionLogs};
 use std::alloc::{AllocError, Global};
@@ -20,15 +20,6 @@ pub(crate) fn operators(alloc: Global, letters: &[u8]) -> Result<Operators, Allo
         operators.push(named(*letter)?)?;
     }
     Ok(operators)
-}
-
-/// The request of a word: the step `+a`, or the undo `u1`.
-pub(crate) fn request(alloc: Global, word: &[u8]) -> Result<Request<Step>, AllocError> {
-    match word {
-        [b'u', n] => Ok(Request::Undo(number(*n))),
-        [sign, unit] => Ok(Request::Do(step(alloc, *sign, *unit)?)),
-        _ => Err(AllocError),
-    }
 }
 
 /// Adds the requests of words.

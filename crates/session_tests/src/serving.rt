@@ -1,9 +1,9 @@
 //! Sessions on one thread.
 
-use crate::scripts::{Open, operators, request};
+use crate::scripts::{Open, operators};
 use history::Operator;
 use link_tree::Tree;
-use sample_steps::{Step, operator, reply_text, step};
+use sample_steps::{Step, operator, reply_text, request, step};
 use sessions::{Gate, Session};
 use shared_admin::{CloseFault, SessionLogs, SharedAdmin};
 use std::alloc::{AllocError, Global};
