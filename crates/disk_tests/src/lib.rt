@@ -6,4 +6,4 @@ mod of_disk;
 #[cfg(test)]
 mod of_tree_steps;
 #[cfg(test)]
-mod values;
+mod slots;

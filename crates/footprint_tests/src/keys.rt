@@ -1,20 +1,15 @@
-//! Names, paths and keys from texts.
-use footprint::{Key, Keys};
-use link_tree::{PathError, Scope, TreePath};
+//! Keys and readings from texts.
+use footprint::{Key, Keys, Reading};
+use link_tree::Scope;
+use sample_values::{name, path, tree};
 use std::alloc::{AllocError, Global};
-use std::test::Fail;
-use unit_name::{NameError, UnitName, ample};
+use unit_name::ample;
 
-pub(crate) fn name(alloc: Global, text: &[u8]) -> Result<UnitName, NameError> {
-    ample!(UnitName::parse(alloc, text), NameError::OutOfMemory)
-}
-
-pub(crate) fn path(alloc: Global, text: &[u8]) -> Result<TreePath, PathError> {
-    ample!(TreePath::parse(alloc, text), PathError::OutOfMemory)
-}
+/// The inventory of no entries.
+pub(crate) const EMPTY: &[u8] = b"unitadm-inventory 1\nend\n";
 
 /// A key: `etc:NAME`, `run:NAME`, `presets`, `links`, or the path of a cell.
-pub(crate) fn key(alloc: Global, text: &[u8]) -> Result<Key, Fail> {
+pub(crate) fn key(alloc: Global, text: &[u8]) -> Result<Key, AllocError> {
     match text {
         b"presets" => Ok(Key::Presets),
         b"links" => Ok(Key::Links),
@@ -24,25 +19,30 @@ pub(crate) fn key(alloc: Global, text: &[u8]) -> Result<Key, Fail> {
     }
 }
 
-fn push_parsed(alloc: Global, keys: &mut Vec<Key>, text: &[u8]) -> Result<(), Fail> {
-    let key = key(alloc, text)?;
-    keys.push(key)?;
-    Ok(())
+fn push_parsed(alloc: Global, keys: &mut Keys, text: &[u8]) -> Result<(), AllocError> {
+    keys.push(key(alloc, text)?)
 }
 
 /// Keys that have spaces between them.
-pub(crate) fn keys(alloc: Global, texts: &[u8]) -> Result<Vec<Key>, Fail> {
-    let mut keys = ample!(Vec::with_capacity(alloc, 16), AllocError)?;
+fn keys(alloc: Global, texts: &[u8]) -> Result<Keys, AllocError> {
+    let mut keys = Keys::none(alloc);
     for text in texts.split(|b| *b == b' ') {
         push_parsed(alloc, &mut keys, text)?;
     }
     Ok(keys)
 }
 
-pub(crate) fn copies(alloc: Global, keys: &[Key]) -> Result<Keys, AllocError> {
-    let mut copies = Keys::none(alloc);
-    for key in keys {
-        copies.push(key.copy()?)?;
-    }
-    Ok(copies)
+fn read(alloc: Global, inventory: &[u8], texts: &[u8]) -> Result<Box<Reading>, AllocError> {
+    let tree = tree(alloc, inventory)?;
+    let keys = keys(alloc, texts)?;
+    Ok(Box::new(alloc, Reading::of(alloc, &tree, keys)?)?)
+}
+
+/// What the tree of an inventory is read as by keys that have spaces between them, asked for again where a growth was refused.
+pub(crate) fn reading(
+    alloc: Global,
+    inventory: &[u8],
+    texts: &[u8],
+) -> Result<Box<Reading>, AllocError> {
+    ample!(read(alloc, inventory, texts), AllocError)
 }

@@ -1,5 +1,5 @@
 mod at_once;
 mod copying;
 mod observing;
+mod texts;
 mod touching;
-mod values;

@@ -1,3 +1,3 @@
+mod indexes;
 mod listing;
 mod looking_up;
-mod values;

@@ -1,8 +1,8 @@
 //! Steps on a disk that fails at each call in turn.
 use super::fake::{Failing, Fake};
-use crate::values::tree;
 use disk::{ApplyError, Oddity, StepError, apply};
 use link_tree::{Change, Tree};
+use sample_values::tree;
 use std::alloc::{AllocError, Global};
 use std::process::Abort;
 use std::test::Fail;
@@ -63,24 +63,69 @@ fn is_memory_gone(applied: Result<(), ApplyError>) -> bool {
     }
 }
 
-fn made(
-    alloc: Global,
-    held: &Tree,
-    new: &Tree,
-    steps: &[Change],
-    failing: Failing,
-) -> Result<Outcome, AllocError> {
-    made_on(alloc, Fake::new(held.share()?, failing), held, new, steps)
+/// Texts of the tree that a disk holds, and of those between which the steps lead.
+#[derive(Clone, Copy, Debug)]
+struct Way {
+    held: &'static [u8],
+    old: &'static [u8],
+    new: &'static [u8],
+    /// Whether all steps come a second time.
+    is_repeated: bool,
+    /// What stands wherever the disk has no entry.
+    odd: Option<Oddity>,
 }
 
-fn made_on(
+const THERE: Way = Way {
+    held: OLD,
+    old: OLD,
+    new: NEW,
+    is_repeated: false,
+    odd: None,
+};
+
+const BACK: Way = Way {
+    held: NEW,
+    old: NEW,
+    new: OLD,
+    ..THERE
+};
+
+const FROM_OTHER: Way = Way {
+    held: OTHER,
+    ..THERE
+};
+
+const TWICE: Way = Way {
+    is_repeated: true,
+    ..THERE
+};
+
+const AMONG_DIRECTORIES: Way = Way {
+    odd: Some(Oddity::Directory),
+    ..THERE
+};
+
+fn steps_of(alloc: Global, way: Way, new: &Tree) -> Result<Vec<Change>, AllocError> {
+    let old = tree(alloc, way.old)?;
+    let mut steps = steps_between(alloc, &old, new)?;
+    if way.is_repeated {
+        let mut again = steps_between(alloc, &old, new)?;
+        steps.append(&mut again)?;
+    }
+    Ok(steps)
+}
+
+fn made(
     alloc: Global,
-    mut disk: Fake,
+    way: Way,
+    failing: Failing,
     held: &Tree,
     new: &Tree,
     steps: &[Change],
 ) -> Result<Outcome, AllocError> {
-    let applied = apply(alloc, &mut disk, steps);
+    let mut disk = Box::new(alloc, Fake::new(held.share()?, failing))?;
+    disk.odd = way.odd;
+    let applied = apply(alloc, &mut *disk, steps);
     if is_memory_gone(applied) {
         return Err(AllocError);
     }
@@ -93,53 +138,16 @@ fn made_on(
     })
 }
 
-/// Texts of the tree that a disk holds, and of those between which the steps lead.
-#[derive(Clone, Copy, Debug)]
-struct Way {
-    held: &'static [u8],
-    old: &'static [u8],
-    new: &'static [u8],
-}
-
-const THERE: Way = Way {
-    held: OLD,
-    old: OLD,
-    new: NEW,
-};
-
-const BACK: Way = Way {
-    held: NEW,
-    old: NEW,
-    new: OLD,
-};
-
-const FROM_OTHER: Way = Way {
-    held: OTHER,
-    old: OLD,
-    new: NEW,
-};
-
-/// The steps of a way, once or twice.
-fn steps_of(alloc: Global, old: &Tree, new: &Tree, twice: bool) -> Result<Vec<Change>, AllocError> {
-    let mut steps = steps_between(alloc, old, new)?;
-    if twice {
-        let mut again = steps_between(alloc, old, new)?;
-        steps.append(&mut again)?;
-    }
-    Ok(steps)
-}
-
-/// What the steps of a way come to, made once or twice.
-fn between(alloc: Global, way: Way, failing: Failing, twice: bool) -> Result<Outcome, AllocError> {
+/// What the steps of a way come to.
+fn between(alloc: Global, way: Way, failing: Failing) -> Result<Outcome, AllocError> {
     let held = tree(alloc, way.held)?;
-    let old = tree(alloc, way.old)?;
     let new = tree(alloc, way.new)?;
-    let steps = steps_of(alloc, &old, &new, twice)?;
-    made(alloc, &held, &new, &steps, failing)
+    let steps = steps_of(alloc, way, &new)?;
+    made(alloc, way, failing, &held, &new, &steps)
 }
 
 fn outcome_of(alloc: Global, way: Way, failing: Failing) -> Result<Outcome, AllocError> {
-    ample!(between(alloc, way, failing, false), AllocError)
+    ample!(between(alloc, way, failing), AllocError)
 }
 
 /// All steps are made, and no call failed.
@@ -247,26 +255,16 @@ fn all_is_looked_at_first(rt: HostRuntime) -> Result<(), Fail> {
 /// A step that is no more due when its turn comes: the first three are taken back.
 #[test]
 fn each_is_looked_at_again(rt: HostRuntime) -> Result<(), Fail> {
-    let outcome = ample!(between(rt.alloc(), THERE, Failing::NEVER, true), AllocError)?;
+    let outcome = outcome_of(rt.alloc(), TWICE, Failing::NEVER)?;
     assert_taken_back(&rt, outcome, 3, StepError::Changed, 0);
     assert_eq!(rt; outcome.changes, 6);
     Ok(())
 }
 
-/// A directory stands wherever the disk has no entry.
-fn among_directories(alloc: Global) -> Result<Outcome, AllocError> {
-    let old = tree(alloc, OLD)?;
-    let new = tree(alloc, NEW)?;
-    let steps = steps_between(alloc, &old, &new)?;
-    let mut disk = Fake::new(old.share()?, Failing::NEVER);
-    disk.odd = Some(Oddity::Directory);
-    made_on(alloc, disk, &old, &new, &steps)
-}
-
 /// A directory where a file is to come.
 #[test]
 fn nothing_is_put_in_place_of_something_odd(rt: HostRuntime) -> Result<(), Fail> {
-    let outcome = ample!(among_directories(rt.alloc()), AllocError)?;
+    let outcome = outcome_of(rt.alloc(), AMONG_DIRECTORIES, Failing::NEVER)?;
     assert_taken_back(&rt, outcome, 0, StepError::Odd, 0);
     assert_eq!(rt; outcome.changes, 0);
     Ok(())

@@ -1,9 +1,9 @@
 //! What is captured of roots.
 use super::fake::Failing;
 use super::root::Root;
-use crate::values::{path, tree};
 use disk::{CaptureError, Oddity, capture};
 use link_tree::{Tree, TreePath};
+use sample_values::{path, tree};
 use std::alloc::{AllocError, Global};
 use std::process::Abort;
 use std::test::Fail;
@@ -109,8 +109,11 @@ fn capture_on(
     wanted: &Tree,
 ) -> Result<Came, AllocError> {
     match capture(alloc, root, also) {
-        Ok(tree) if are_same(&tree, wanted) => Ok(Came::Equal),
-        Ok(tree) => Ok(Came::Other(tree.len())),
+        Ok(tree) => Ok(if are_same(&tree, wanted) {
+            Came::Equal
+        } else {
+            Came::Other(tree.len())
+        }),
         Err(CaptureError::Odd(_slot, oddity)) => Ok(Came::Odd(oddity)),
         Err(CaptureError::NoDirectory(_directory)) => Ok(Came::NoDirectory),
         Err(CaptureError::TooMany) => Ok(Came::TooMany),
@@ -130,8 +133,8 @@ enum Strange {
 }
 
 /// A root that holds a tree with something strange.
-fn root(alloc: Global, whole: &[u8], strange: Strange) -> Result<Root, AllocError> {
-    let mut root = Root::new(tree(alloc, whole)?, Failing::NEVER);
+fn root(alloc: Global, whole: &[u8], strange: Strange) -> Result<Box<Root>, AllocError> {
+    let mut root = Root::new(alloc, tree(alloc, whole)?, Failing::NEVER)?;
     match strange {
         Strange::Nothing => {}
         Strange::Odd(at) => root.odd = Some(path(alloc, at)?),
@@ -227,7 +230,8 @@ fn what_is_asked_for_is_captured(rt: HostRuntime) -> Result<(), Fail> {
 
 /// Whether a capture of which one call fails tells so, and failed once; where there is no such call, whether all is captured.
 fn is_told(alloc: Global, whole: &Tree, wanted: &Tree, call: u32) -> Result<bool, AllocError> {
-    let mut root = Root::new(whole.share()?, Failing::once(call));
+    let whole = Box::new(alloc, whole.share()?)?;
+    let mut root = Root::new(alloc, whole, Failing::once(call))?;
     let came = capture_on(alloc, &mut root, &[], wanted)?;
     let has_failed = call < root.calls;
     let expected = if has_failed {

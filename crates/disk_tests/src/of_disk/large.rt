@@ -1,8 +1,10 @@
 //! Roots of 65,536 entries and one more.
 use super::fake::Failing;
 use super::root::Root;
+use crate::slots::set;
 use disk::{CaptureError, capture};
-use link_tree::{Entry, Slot, Tree, TreePath};
+use link_tree::Tree;
+use sample_values::{link, path};
 use std::alloc::{AllocError, Global};
 use std::test::Fail;
 use unit_name::ample;
@@ -12,33 +14,25 @@ const FIRST: u32 = 100_000;
 /// As many entries as a tree may have.
 const ENTRIES: u32 = 65_536;
 
-fn set(alloc: Global, tree: &mut Tree, number: u32) -> Result<(), AllocError> {
+fn mask(alloc: Global, tree: &mut Tree, number: u32) -> Result<(), AllocError> {
     let text = format!(in alloc; "/etc/systemd/system/{number}.service")?;
-    let (Ok(slot), Ok(link)) = (
-        TreePath::parse(alloc, text.as_bytes()),
-        Entry::link(alloc, b"/dev/null"),
-    ) else {
-        return Err(AllocError);
-    };
-    if Slot::of(&slot).is_none() {
-        return Err(AllocError);
-    }
-    tree.set(&slot, Some(link))
+    let slot = path(alloc, text.as_bytes())?;
+    set(tree, &slot, link(alloc, b"/dev/null")?)
 }
 
 /// So many masked units.
-fn tree(alloc: Global, entries: u32) -> Result<Tree, AllocError> {
-    let mut tree = Tree::empty(alloc)?;
+fn tree(alloc: Global, entries: u32) -> Result<Box<Tree>, AllocError> {
+    let mut tree = Box::new(alloc, Tree::empty(alloc)?)?;
     for number in 0..entries {
-        set(alloc, &mut tree, number.saturating_add(FIRST))?;
+        mask(alloc, &mut tree, number.saturating_add(FIRST))?;
     }
     Ok(tree)
 }
 
 /// How many entries are captured, or none where there are too many.
 fn captured(alloc: Global, entries: u32) -> Result<Option<usize>, AllocError> {
-    let mut root = Root::new(tree(alloc, entries)?, Failing::NEVER);
-    match capture(alloc, &mut root, &[]) {
+    let mut root = Root::new(alloc, tree(alloc, entries)?, Failing::NEVER)?;
+    match capture(alloc, &mut *root, &[]) {
         Ok(tree) => Ok(Some(tree.len())),
         Err(CaptureError::TooMany) => Ok(None),
         Err(_) => Err(AllocError),

@@ -10,7 +10,7 @@ use std::alloc::{AllocError, Global};
 /// A tree with some odd things among its entries, of which nothing is claimed.
 #[derive(Drop)]
 pub(crate) struct Root {
-    pub(crate) tree: Tree,
+    pub(crate) tree: Box<Tree>,
     pub(crate) failing: Failing,
     pub(crate) calls: u32,
     pub(crate) failures: u64,
@@ -54,8 +54,12 @@ fn is_at(here: &Option<TreePath>, path: &TreePath) -> bool {
 }
 
 impl Root {
-    pub(crate) fn new(tree: Tree, failing: Failing) -> Root {
-        Root {
+    pub(crate) fn new(
+        alloc: Global,
+        tree: Box<Tree>,
+        failing: Failing,
+    ) -> Result<Box<Root>, AllocError> {
+        let root = Root {
             tree,
             failing,
             calls: 0,
@@ -63,7 +67,8 @@ impl Root {
             odd: None,
             no_directory: None,
             beneath: None,
-        }
+        };
+        Ok(Box::new(alloc, root)?)
     }
 
     fn call(&mut self) -> Result<(), DiskError>

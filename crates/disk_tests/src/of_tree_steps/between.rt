@@ -1,6 +1,6 @@
 //! Changes and steps between small trees.
-use crate::values::tree;
 use link_tree::{Change, Entry};
+use sample_values::tree;
 use std::alloc::{AllocError, Global};
 use std::process::Abort;
 use std::test::Fail;
@@ -114,26 +114,14 @@ fn are_same_trees(alloc: Global, row: &Row) -> Result<(bool, bool), AllocError> 
     Ok((are_same(&old, &new), are_same(&new, &old)))
 }
 
-fn assert_changes(rt: &impl Abort, alloc: Global, row: &Row) -> Result<(), Fail> {
-    let changes = ample!(changes_text(alloc, row), AllocError)?;
-    assert_eq!(rt; changes.as_slice(), row.changes);
-    Ok(())
-}
-
-fn assert_steps(rt: &impl Abort, alloc: Global, row: &Row) -> Result<(), Fail> {
-    let steps = ample!(steps_text(alloc, row), AllocError)?;
-    assert_eq!(rt; steps.as_slice(), row.steps);
-    Ok(())
-}
-
 fn assert_row(rt: &impl Abort, alloc: Global, row: &Row) -> Result<(), Fail> {
-    assert_changes(rt, alloc, row)?;
-    assert_steps(rt, alloc, row)?;
+    let changes = ample!(changes_text(alloc, row), AllocError)?;
+    let steps = ample!(steps_text(alloc, row), AllocError)?;
+    let are_same = ample!(are_same_trees(alloc, row), AllocError)?;
     let same = row.steps.is_empty();
-    assert_eq!(rt;
-        ample!(are_same_trees(alloc, row), AllocError)?,
-        (same, same)
-    );
+    assert_eq!(rt; changes.as_slice(), row.changes);
+    assert_eq!(rt; steps.as_slice(), row.steps);
+    assert_eq!(rt; are_same, (same, same));
     Ok(())
 }
 

@@ -1,6 +1,8 @@
 //! Steps between trees of 65,536 entries: no contract says when memory runs out, so a call that gave up on such trees would be
 //! proved.
-use link_tree::{Change, Entry, Slot, Tree, TreePath};
+use crate::slots::set;
+use link_tree::{Change, Entry, Tree, TreePath};
+use sample_values::{file, link, path};
 use std::alloc::{AllocError, Global};
 use std::test::Fail;
 use tree_steps::{are_same, changes_between, steps_between};
@@ -19,50 +21,40 @@ fn slot(alloc: Global, number: u32) -> Result<TreePath, AllocError> {
     } else {
         format!(in alloc; "/usr/lib/systemd/system/{number}.service")?
     };
-    match TreePath::parse(alloc, text.as_bytes()) {
-        Ok(slot) => Ok(slot),
-        Err(_) => Err(AllocError),
-    }
+    path(alloc, text.as_bytes())
 }
 
-/// A link to `/dev/null`, or to the file of the unit of this number.
-fn link(alloc: Global, number: u32, is_null: bool) -> Result<Entry, AllocError> {
-    let target = if is_null {
-        format!(in alloc; "/dev/null")?
+/// A link to `/dev/null`, or to the file of the unit of this number. No two lead to the same file: each further link to one name would copy
+/// the list of all links to it.
+fn unit_link(alloc: Global, number: u32, is_null: bool) -> Result<Entry, AllocError> {
+    if is_null {
+        return link(alloc, b"/dev/null");
+    }
+    let target = format!(in alloc; "/opt/{number}.service")?;
+    link(alloc, target.as_bytes())
+}
+
+/// Puts the unit of this number into a tree: a link, or for every third unit a file, if there may be files.
+fn put(
+    alloc: Global,
+    tree: &mut Tree,
+    number: u32,
+    is_null: bool,
+    with_files: bool,
+) -> Result<(), AllocError> {
+    let entry = if with_files && number % 3 == 0 {
+        file(alloc, b"[Unit]\n")?
     } else {
-        format!(in alloc; "/opt/{number}.service")?
+        unit_link(alloc, number, is_null)?
     };
-    match Entry::link(alloc, target.as_bytes()) {
-        Ok(link) => Ok(link),
-        Err(_) => Err(AllocError),
-    }
+    set(tree, &slot(alloc, number)?, entry)
 }
 
-fn file(alloc: Global) -> Result<Entry, AllocError> {
-    match Entry::file(alloc, b"[Unit]\n") {
-        Ok(file) => Ok(file),
-        Err(_) => Err(AllocError),
-    }
-}
-
-fn set(tree: &mut Tree, slot: &TreePath, entry: Entry) -> Result<(), AllocError> {
-    if Slot::of(slot).is_none() {
-        return Err(AllocError);
-    }
-    tree.set(slot, Some(entry))
-}
-
-/// Units that are links, of which every third may be a file. No two lead to the same file: each further link to one name would copy the
-/// list of all links to it.
-fn tree(alloc: Global, are_null: bool, with_files: bool) -> Result<Tree, AllocError> {
-    let mut tree = Tree::empty(alloc)?;
+/// The tree of all these units.
+fn tree(alloc: Global, are_null: bool, with_files: bool) -> Result<Box<Tree>, AllocError> {
+    let mut tree = Box::new(alloc, Tree::empty(alloc)?)?;
     for number in FIRST..=LAST {
-        let entry = if with_files && number % 3 == 0 {
-            file(alloc)?
-        } else {
-            link(alloc, number, are_null)?
-        };
-        set(&mut tree, &slot(alloc, number)?, entry)?;
+        put(alloc, &mut tree, number, are_null, with_files)?;
     }
     Ok(tree)
 }
@@ -80,14 +72,9 @@ fn counted(
     old: &Tree,
     new: &Tree,
 ) -> Result<(usize, usize, usize, bool), AllocError> {
-    let changes = changes_between(alloc, old, new)?;
+    let changes = changes_between(alloc, old, new)?.len();
     let steps = steps_between(alloc, old, new)?;
-    Ok((
-        changes.len(),
-        steps.len(),
-        files_put(&steps),
-        are_same(old, new),
-    ))
+    Ok((changes, steps.len(), files_put(&steps), are_same(old, new)))
 }
 
 /// The same from a tree of links to `/dev/null`, which may have files, to one with files.

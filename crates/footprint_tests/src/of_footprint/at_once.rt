@@ -1,13 +1,13 @@
 //! Links that are made all at once, and what is looked at.
-use super::values::{push_key, read_as, tree};
-use crate::keys::{name, path};
+use super::texts::{push_key, read_as};
 use footprint::{Answer, Edit, Key, Keys, Notices, Outcome, Refusal, WantedLinks};
 use link_tree::{Change, Entry, Scope, Slot, Tree, TreePath};
 use load_path::{End, Found};
+use sample_values::{name, path, tree};
 use std::alloc::{AllocError, Global};
 use std::process::Abort;
 use std::test::Fail;
-use unit_name::{UnitName, ample};
+use unit_name::ample;
 
 /// `b` leads to its file in another spelling, `c` elsewhere, and a file stands at `d`.
 const TREE: &[u8] = b"unitadm-inventory 1
@@ -21,72 +21,52 @@ a
 end
 ";
 
-/// Wants a link at a slot by `+`, and else nothing there; whether the path is a slot.
+/// Wants a link at a slot by `+`, and else nothing there.
 fn put(
     wanted: &mut WantedLinks,
     sign: u8,
     at: &TreePath,
     file: &TreePath,
-) -> Result<bool, AllocError> {
+) -> Result<(), AllocError> {
     if Slot::of(at).is_none() {
-        return Ok(false);
+        return Err(AllocError);
     }
     match sign {
-        b'+' => wanted.link(at.copy()?, file.copy()?)?,
-        _ => wanted.clear(at.copy()?)?,
+        b'+' => wanted.link(at.copy()?, file.copy()?),
+        _ => wanted.clear(at.copy()?),
     }
-    Ok(true)
 }
 
-fn put_again(
-    wanted: &mut WantedLinks,
-    sign: u8,
-    at: &TreePath,
-    file: &TreePath,
-) -> Result<bool, AllocError> {
-    ample!(put(wanted, sign, at, file), AllocError)
-}
-
-fn want_at(
+fn put_at(
     alloc: Global,
     wanted: &mut WantedLinks,
     sign: u8,
     at: &[u8],
     file: &[u8],
-) -> Result<bool, Fail> {
+) -> Result<(), AllocError> {
     let at = path(alloc, at)?;
     let file = path(alloc, file)?;
-    Ok(put_again(wanted, sign, &at, &file)?)
+    ample!(put(wanted, sign, &at, &file), AllocError)
 }
 
-fn want(alloc: Global, wanted: &mut WantedLinks, word: &[u8]) -> Result<(), Fail> {
+fn want(alloc: Global, wanted: &mut WantedLinks, word: &[u8]) -> Result<(), AllocError> {
     let [sign, letter] = word else {
-        return Err("no word".into());
+        return Err(AllocError);
     };
     let mut at = *b"/etc/systemd/system/x.service";
     at[20] = *letter;
     let mut file = *b"/usr/lib/systemd/system/x.service";
     file[24] = *letter;
-    if want_at(alloc, wanted, *sign, &at, &file)? {
-        Ok(())
-    } else {
-        Err("no slot".into())
-    }
+    put_at(alloc, wanted, *sign, &at, &file)
 }
 
 /// Wants links, each to the file of its name: `+a` a link for `a`, `-a` nothing there.
-fn wanted(alloc: Global, words: &[u8]) -> Result<WantedLinks, Fail> {
+fn wanted(alloc: Global, words: &[u8]) -> Result<WantedLinks, AllocError> {
     let mut wanted = WantedLinks::none(alloc);
     for word in words.split(|b| *b == b' ') {
         want(alloc, &mut wanted, word)?;
     }
     Ok(wanted)
-}
-
-fn made(alloc: Global, tree: &Tree, wanted: &WantedLinks) -> Result<Outcome, AllocError> {
-    let mut keys = Keys::none(alloc);
-    let done = Edit::new(alloc, tree)?.all_at_once(alloc, wanted, &mut keys)?;
-    Outcome::of(alloc, tree, keys, Notices::none(alloc), done)
 }
 
 fn push_entry(text: &mut Vec<u8>, sign: &[u8], entry: &Option<Entry>) -> Result<(), AllocError> {
@@ -101,7 +81,7 @@ fn push_change(text: &mut Vec<u8>, change: &Change) -> Result<(), AllocError> {
     text.extend_from_slice(change.path.file_name())?;
     push_entry(text, b" - ", &change.before)?;
     push_entry(text, b" + ", &change.after)?;
-    Ok(text.push(b'\n')?)
+    text.extend_from_slice(b"\n")
 }
 
 /// The letters of the paths that were changed, with what stood there and what stands there, or the refusal, and then the letters of
@@ -130,24 +110,30 @@ fn text_of(alloc: Global, outcome: &Outcome) -> Result<Vec<u8>, AllocError> {
     Ok(text)
 }
 
-fn told(alloc: Global, tree: &Tree, wanted: &WantedLinks) -> Result<Vec<u8>, AllocError> {
-    let outcome = made(alloc, tree, wanted)?;
+/// What is told of links that are wanted, where these keys were looked at before.
+fn made(
+    alloc: Global,
+    tree: &Tree,
+    mut keys: Keys,
+    wanted: &WantedLinks,
+) -> Result<Vec<u8>, AllocError> {
+    let done = Edit::new(alloc, tree)?.all_at_once(alloc, wanted, &mut keys)?;
+    let outcome = Box::new(
+        alloc,
+        Outcome::of(alloc, tree, keys, Notices::none(alloc), done)?,
+    )?;
     text_of(alloc, &outcome)
 }
 
-fn told_again(alloc: Global, tree: &Tree, wanted: &WantedLinks) -> Result<Vec<u8>, AllocError> {
-    ample!(told(alloc, tree, wanted), AllocError)
-}
-
 /// What is told of the links that are wanted by these words.
-fn told_of(alloc: Global, words: &[u8]) -> Result<Vec<u8>, Fail> {
+fn told(alloc: Global, words: &[u8]) -> Result<Vec<u8>, AllocError> {
     let tree = tree(alloc, TREE)?;
     let wanted = wanted(alloc, words)?;
-    Ok(told_again(alloc, &tree, &wanted)?)
+    made(alloc, &tree, Keys::none(alloc), &wanted)
 }
 
 fn assert_made(rt: &impl Abort, alloc: Global, words: &[u8], text: &[u8]) -> Result<(), Fail> {
-    let told = told_of(alloc, words)?;
+    let told = ample!(told(alloc, words), AllocError)?;
     assert_eq!(rt; told.as_slice(), text);
     Ok(())
 }
@@ -189,7 +175,7 @@ fn what_is_wanted_last_counts(rt: HostRuntime) -> Result<(), Fail> {
 
 fn push_line(text: &mut Vec<u8>, line: &[u8]) -> Result<(), AllocError> {
     text.extend_from_slice(line)?;
-    Ok(text.push(b'\n')?)
+    text.extend_from_slice(b"\n")
 }
 
 /// The file of a unit.
@@ -219,22 +205,24 @@ fn push_keys(text: &mut Vec<u8>, keys: &Keys) -> Result<(), AllocError> {
 fn find(
     alloc: Global,
     tree: &Tree,
-    unit: &UnitName,
+    unit: &[u8],
     keys: &mut Keys,
     text: &mut Vec<u8>,
 ) -> Result<(), AllocError> {
-    let found = keys.find(alloc, tree, unit)?;
+    let unit = name(alloc, unit)?;
+    let found = keys.find(alloc, tree, &unit)?;
     push_found(text, &found)
 }
 
 fn follow(
     alloc: Global,
     tree: &Tree,
-    link: &TreePath,
+    link: &[u8],
     keys: &mut Keys,
     text: &mut Vec<u8>,
 ) -> Result<(), AllocError> {
-    let end = keys.follow(alloc, tree, link)?;
+    let link = path(alloc, link)?;
+    let end = keys.follow(alloc, tree, &link)?;
     push_end(text, &end)
 }
 
@@ -244,65 +232,32 @@ fn count_links(alloc: Global, tree: &Tree, keys: &mut Keys) -> Result<usize, All
 }
 
 /// Looks a unit up, follows a link, and counts the links of dependencies.
-fn look(
-    alloc: Global,
-    tree: &Tree,
-    unit: &UnitName,
-    link: &TreePath,
-    keys: &mut Keys,
-    text: &mut Vec<u8>,
-) -> Result<(), AllocError> {
-    find(alloc, tree, unit, keys, text)?;
-    follow(alloc, tree, link, keys, text)?;
+fn look(alloc: Global, tree: &Tree, keys: &mut Keys, text: &mut Vec<u8>) -> Result<(), AllocError> {
+    find(alloc, tree, b"a.service", keys, text)?;
+    follow(alloc, tree, b"/etc/systemd/system/c.service", keys, text)?;
     match count_links(alloc, tree, keys)? {
         1 => push_line(text, b"1"),
         _ => push_line(text, b"?"),
     }
 }
 
-fn push_looked(
-    alloc: Global,
-    tree: &Tree,
-    unit: &UnitName,
-    link: &TreePath,
-    text: &mut Vec<u8>,
-) -> Result<(), AllocError> {
+fn push_looked(alloc: Global, text: &mut Vec<u8>) -> Result<(), AllocError> {
+    let tree = tree(alloc, TREE)?;
     let mut keys = Keys::none(alloc);
-    look(alloc, tree, unit, link, &mut keys, text)?;
+    look(alloc, &tree, &mut keys, text)?;
     push_keys(text, &keys)
 }
 
-fn looked(
-    alloc: Global,
-    tree: &Tree,
-    unit: &UnitName,
-    link: &TreePath,
-) -> Result<Vec<u8>, AllocError> {
-    let mut text = Vec::new(alloc);
-    push_looked(alloc, tree, unit, link, &mut text)?;
-    Ok(text)
-}
-
-fn looked_again(
-    alloc: Global,
-    tree: &Tree,
-    unit: &UnitName,
-    link: &TreePath,
-) -> Result<Vec<u8>, AllocError> {
-    ample!(looked(alloc, tree, unit, link), AllocError)
-}
-
 /// What is found for a unit, behind a link and of the links of dependencies, and the keys of all that, a line for each.
-fn looked_at(alloc: Global, unit: &[u8], link: &[u8]) -> Result<Vec<u8>, Fail> {
-    let tree = tree(alloc, TREE)?;
-    let unit = name(alloc, unit)?;
-    let link = path(alloc, link)?;
-    Ok(looked_again(alloc, &tree, &unit, &link)?)
+fn looked(alloc: Global) -> Result<Vec<u8>, AllocError> {
+    let mut text = Vec::new(alloc);
+    push_looked(alloc, &mut text)?;
+    Ok(text)
 }
 
 #[test]
 fn what_is_looked_at_is_noted(rt: HostRuntime) -> Result<(), Fail> {
-    let looked = looked_at(rt.alloc(), b"a.service", b"/etc/systemd/system/c.service")?;
+    let looked = ample!(looked(rt.alloc()), AllocError)?;
     let text = b"/usr/lib/systemd/system/a.service
 /etc/systemd/system/c.service
 1
@@ -328,53 +283,32 @@ fn no_presets_are_an_empty_set(rt: HostRuntime) -> Result<(), Fail> {
     Ok(())
 }
 
-/// Takes away the links in `/etc` that belong to one of two names.
-fn cleared(
+/// Wants nothing in `/etc` where a link belongs to one of two names.
+fn wanted_away(
     alloc: Global,
     tree: &Tree,
-    one: &UnitName,
-    other: &UnitName,
-) -> Result<Outcome, AllocError> {
+    one: &[u8],
+    other: &[u8],
+    keys: &mut Keys,
+) -> Result<WantedLinks, AllocError> {
     let mut looked = Keys::none(alloc);
-    looked.push(Key::Marked(Scope::Etc, one.copy()?))?;
-    looked.push(Key::Marked(Scope::Etc, other.copy()?))?;
-    let mut keys = Keys::none(alloc);
+    looked.push(Key::Marked(Scope::Etc, name(alloc, one)?))?;
+    looked.push(Key::Marked(Scope::Etc, name(alloc, other)?))?;
     let links = keys.entries_of_all(alloc, tree, looked)?;
-    let wanted = WantedLinks::cleared(alloc, &links)?;
-    let done = Edit::new(alloc, tree)?.all_at_once(alloc, &wanted, &mut keys)?;
-    Outcome::of(alloc, tree, keys, Notices::none(alloc), done)
-}
-
-fn told_cleared(
-    alloc: Global,
-    tree: &Tree,
-    one: &UnitName,
-    other: &UnitName,
-) -> Result<Vec<u8>, AllocError> {
-    let outcome = cleared(alloc, tree, one, other)?;
-    text_of(alloc, &outcome)
-}
-
-fn told_cleared_again(
-    alloc: Global,
-    tree: &Tree,
-    one: &UnitName,
-    other: &UnitName,
-) -> Result<Vec<u8>, AllocError> {
-    ample!(told_cleared(alloc, tree, one, other), AllocError)
+    WantedLinks::cleared(alloc, &links)
 }
 
 /// What is told where the links in `/etc` are taken away that belong to one of two names.
-fn cleared_of(alloc: Global, one: &[u8], other: &[u8]) -> Result<Vec<u8>, Fail> {
+fn cleared(alloc: Global, one: &[u8], other: &[u8]) -> Result<Vec<u8>, AllocError> {
     let tree = tree(alloc, TREE)?;
-    let one = name(alloc, one)?;
-    let other = name(alloc, other)?;
-    Ok(told_cleared_again(alloc, &tree, &one, &other)?)
+    let mut keys = Keys::none(alloc);
+    let wanted = wanted_away(alloc, &tree, one, other, &mut keys)?;
+    made(alloc, &tree, keys, &wanted)
 }
 
 #[test]
 fn links_of_several_names_are_taken_away(rt: HostRuntime) -> Result<(), Fail> {
-    let told = cleared_of(rt.alloc(), b"a.service", b"b.service")?;
+    let told = ample!(cleared(rt.alloc(), b"a.service", b"b.service"), AllocError)?;
     let text = b"b.service - ../../../usr/lib/systemd/system/b.service\n\
         a.service - /usr/lib/systemd/system/a.service\n\
         | b.service a.service";

@@ -1,13 +1,12 @@
 //! Readings, and whether trees agree with them.
-use super::values::{push_key, read_as, reading, tree};
-use footprint::{Reading, agrees};
-use link_tree::Tree;
+use super::texts::{push_key, read_as};
+use crate::keys::{EMPTY, reading};
+use footprint::agrees;
+use sample_values::tree;
 use std::alloc::{AllocError, Global};
 use std::process::Abort;
 use std::test::Fail;
 use unit_name::ample;
-
-const EMPTY: &[u8] = b"unitadm-inventory 1\nend\n";
 
 /// An alias, a dependency, a mask and a file of presets.
 const SMALL: &[u8] = b"unitadm-inventory 1
@@ -85,31 +84,26 @@ fn three_sets_are_read_of_one_tree(rt: HostRuntime) -> Result<(), Fail> {
 
 const MASK: &[u8] = b"unitadm-inventory 1\nL\t/etc/systemd/system/x.service\t/dev/null\nend\n";
 
-fn first_other(alloc: Global, tree: &Tree, reading: &Reading) -> Result<Vec<u8>, AllocError> {
+/// The first of these keys, by which the one tree is read, of which the other says something else; empty where there is none.
+fn first_other(
+    alloc: Global,
+    one: &[u8],
+    other: &[u8],
+    keys: &[u8],
+) -> Result<Vec<u8>, AllocError> {
+    let other = tree(alloc, other)?;
+    let reading = reading(alloc, one, keys)?;
     let mut text = Vec::new(alloc);
-    if let Err(key) = agrees(tree, reading) {
+    if let Err(key) = agrees(&other, &reading) {
         push_key(&mut text, key)?;
     }
     Ok(text)
 }
 
-fn first_other_again(alloc: Global, tree: &Tree, reading: &Reading) -> Result<Vec<u8>, AllocError> {
-    ample!(first_other(alloc, tree, reading), AllocError)
-}
-
-/// The first of these keys, by which the one tree is read, of which the other says something else; empty where there is none.
-fn first_other_of(alloc: Global, one: &[u8], other: &[u8], keys: &[u8]) -> Result<Vec<u8>, Fail> {
-    let one = tree(alloc, one)?;
-    let other = tree(alloc, other)?;
-    let reading = reading(alloc, &one, keys)?;
-    Ok(first_other_again(alloc, &other, &reading)?)
-}
-
 /// Whether a tree agrees with what the one is read as by these keys.
-fn agrees_with(alloc: Global, one: &[u8], other: &[u8], keys: &[u8]) -> Result<bool, Fail> {
-    let one = tree(alloc, one)?;
+fn agrees_with(alloc: Global, one: &[u8], other: &[u8], keys: &[u8]) -> Result<bool, AllocError> {
     let other = tree(alloc, other)?;
-    let reading = reading(alloc, &one, keys)?;
+    let reading = reading(alloc, one, keys)?;
     Ok(agrees(&other, &reading).is_ok())
 }
 
@@ -121,7 +115,7 @@ fn assert_first_other(
     (one, other, keys, expected): (&[u8], &[u8], &[u8], &[u8]),
 ) -> Result<(), Fail> {
     assert!(rt; agrees_with(alloc, one, one, keys)?);
-    let first = first_other_of(alloc, one, other, keys)?;
+    let first = ample!(first_other(alloc, one, other, keys), AllocError)?;
     assert_eq!(rt; first.as_slice(), expected);
     Ok(())
 }
@@ -141,7 +135,7 @@ fn the_first_other_key_is_named(rt: HostRuntime) -> Result<(), Fail> {
 }
 
 /// Whether a tree agrees with what `SMALL` is read as by a key.
-fn agrees_with_small(alloc: Global, other: &[u8], key: &[u8]) -> Result<bool, Fail> {
+fn agrees_with_small(alloc: Global, other: &[u8], key: &[u8]) -> Result<bool, AllocError> {
     agrees_with(alloc, SMALL, other, key)
 }
 

@@ -1,13 +1,14 @@
 //! Which changes touch a key.
-use super::values::{put_file, put_link, relink};
+use crate::changes::change;
 use crate::keys::key;
 use footprint::touches;
 use link_tree::Change;
-use std::alloc::Global;
+use std::alloc::{AllocError, Global};
 use std::process::Abort;
 use std::test::Fail;
 
-/// A path, what is put there, and keys that the change touches and others that it doesn't, with spaces between them.
+/// A path, what is put there (a link to a target, or a file of the bytes behind `:`), and keys that the change touches and others that it
+/// doesn't, with spaces between them.
 type Row = (&'static [u8], &'static [u8], &'static [u8], &'static [u8]);
 
 const LINKS: [Row; 6] = [
@@ -57,21 +58,21 @@ const LINKS: [Row; 6] = [
 const FILES: [Row; 2] = [
     (
         b"/etc/systemd/system-preset/1.preset",
-        b"enable x.service\n",
+        b":enable x.service\n",
         b"presets",
         b"links etc:x.service",
     ),
     // A file belongs to no name.
     (
         b"/etc/systemd/system/a.service",
-        b"b.service",
+        b":b.service",
         b"/etc/systemd/system/a.service",
         b"etc:a.service etc:b.service",
     ),
 ];
 
 /// Whether a change touches a key.
-fn is_touched(alloc: Global, change: &Change, text: &[u8]) -> Result<bool, Fail> {
+fn is_touched(alloc: Global, change: &Change, text: &[u8]) -> Result<bool, AllocError> {
     let key = key(alloc, text)?;
     Ok(touches(change, &key))
 }
@@ -102,47 +103,31 @@ fn assert_touches(
     assert_all(rt, alloc, change, others, false)
 }
 
-fn assert_link(
-    rt: &impl Abort,
-    alloc: Global,
-    (at, target, touched, others): Row,
-) -> Result<(), Fail> {
-    let change = put_link(alloc, at, target)?;
+fn assert_row(rt: &impl Abort, alloc: Global, (at, put, touched, others): Row) -> Result<(), Fail> {
+    let change = change(alloc, at, b"", put)?;
     assert_touches(rt, alloc, &change, touched, others)
 }
 
-fn assert_links(rt: &impl Abort, alloc: Global, table: &[Row]) -> Result<(), Fail> {
+fn assert_rows(rt: &impl Abort, alloc: Global, table: &[Row]) -> Result<(), Fail> {
     for row in table {
-        assert_link(rt, alloc, *row)?;
+        assert_row(rt, alloc, *row)?;
     }
     Ok(())
 }
 
 #[test]
 fn links_belong_to_names(rt: HostRuntime) -> Result<(), Fail> {
-    assert_links(&rt, rt.alloc(), &LINKS)
-}
-
-fn assert_file(
-    rt: &impl Abort,
-    alloc: Global,
-    (at, bytes, touched, others): Row,
-) -> Result<(), Fail> {
-    let change = put_file(alloc, at, bytes)?;
-    assert_touches(rt, alloc, &change, touched, others)
+    assert_rows(&rt, rt.alloc(), &LINKS)
 }
 
 #[test]
 fn files_are_presets_or_cells(rt: HostRuntime) -> Result<(), Fail> {
-    for row in FILES {
-        assert_file(&rt, rt.alloc(), row)?;
-    }
-    Ok(())
+    assert_rows(&rt, rt.alloc(), &FILES)
 }
 
 #[test]
 fn what_stood_before_counts(rt: HostRuntime) -> Result<(), Fail> {
-    let change = relink(
+    let change = change(
         rt.alloc(),
         b"/run/systemd/system/a.service",
         b"b.service",

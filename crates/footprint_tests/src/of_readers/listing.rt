@@ -1,5 +1,7 @@
 //! Rows that are listed, and listed no longer.
-use super::values::{ROWS, assert_found, change, list, listed, reading};
+use super::indexes::{ROWS, assert_found, list, listed};
+use crate::changes::change;
+use crate::keys::{EMPTY, reading};
 use footprint::Reading;
 use link_tree::Change;
 use readers::Readers;
@@ -8,7 +10,7 @@ use std::process::Abort;
 use std::test::Fail;
 
 /// The change that puts the link of a dependency.
-fn linked(alloc: Global) -> Result<Change, Fail> {
+fn linked(alloc: Global) -> Result<Change, AllocError> {
     change(
         alloc,
         b"/etc/systemd/system/m.target.wants/a.service",
@@ -17,9 +19,9 @@ fn linked(alloc: Global) -> Result<Change, Fail> {
     )
 }
 
-/// Lists row n under the keys that row m looked at no longer.
-fn unlist(alloc: Global, readers: &mut Readers, n: u32, texts: &[u8]) -> Result<(), Fail> {
-    let reading = reading(alloc, texts)?;
+/// Lists a row under the keys of a text no longer.
+fn unlist(alloc: Global, readers: &mut Readers, n: u32, texts: &[u8]) -> Result<(), AllocError> {
+    let reading = reading(alloc, EMPTY, texts)?;
     readers.remove(&reading, n);
     Ok(())
 }
@@ -70,6 +72,7 @@ fn a_row_is_listed_or_nothing_changes(rt: HostRuntime) -> Result<(), Fail> {
     let change = linked(rt.alloc())?;
     let reading = reading(
         rt.alloc(),
+        EMPTY,
         b"/etc/systemd/system/x.service etc:a.service etc:x.service run:x.service presets links",
     )?;
     assert_listed_or_as_before(&rt, rt.alloc(), &mut readers, &change, &reading)

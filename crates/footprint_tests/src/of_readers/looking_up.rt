@@ -1,5 +1,6 @@
 //! Which rows are found by a change.
-use super::values::{ROWS, assert_found, change, listed};
+use super::indexes::{ROWS, assert_found, listed};
+use crate::changes::change;
 use link_tree::Change;
 use readers::Readers;
 use std::alloc::Global;

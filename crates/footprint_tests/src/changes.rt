@@ -1,0 +1,30 @@
+//! Changes from texts.
+use link_tree::{Change, Entry};
+use sample_values::{file, link, path};
+use std::alloc::{AllocError, Global};
+
+/// An entry: a link to a target, a file of the bytes behind `:`, or none.
+fn entry(alloc: Global, text: &[u8]) -> Result<Option<Entry>, AllocError> {
+    match text {
+        b"" => Ok(None),
+        [b':', bytes @ ..] => Ok(Some(file(alloc, bytes)?)),
+        _ => Ok(Some(link(alloc, text)?)),
+    }
+}
+
+/// The change at a path from one entry to another.
+pub(crate) fn change(
+    alloc: Global,
+    at: &[u8],
+    before: &[u8],
+    after: &[u8],
+) -> Result<Change, AllocError> {
+    let before = entry(alloc, before)?;
+    let after = entry(alloc, after)?;
+    let path = path(alloc, at)?;
+    Ok(Change {
+        path,
+        before,
+        after,
+    })
+}
