@@ -8,6 +8,9 @@ use std::alloc::{AllocError, Global};
 use std::process::Abort;
 use std::test::Fail;
 
+/// The names of units, and what a command comes to with them.
+pub(super) type Row = (&'static [u8], &'static [u8]);
+
 pub(super) fn check(alloc: Global, names: &[u8]) -> Result<Check, AllocError> {
     let units = units(alloc, names)?;
     Ok(Check { units })

@@ -1,5 +1,5 @@
 //! reenable and preset, and what they look at.
-use super::commands::enable_then_disable;
+use super::commands::{Row, enable_then_disable};
 use crate::outcomes::{assert_told, assert_told_and_reads};
 use crate::readings::{assert_reads, units};
 use install_commands::{Preset, Reenable};
@@ -7,9 +7,6 @@ use link_tree::Scope;
 use std::alloc::{AllocError, Global};
 use std::process::Abort;
 use std::test::Fail;
-
-/// The names of units, and what a command comes to with them.
-type Row = (&'static [u8], &'static [u8]);
 
 /// `a` had another alias and names `b`, which is enabled; the file of `app` lies outside the directories of units.
 const LINKED: &[u8] = b"unitadm-inventory 1\n\

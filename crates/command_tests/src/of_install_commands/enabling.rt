@@ -1,5 +1,5 @@
 //! enable, and the check before it.
-use super::commands::{assert_enabled, check, enable};
+use super::commands::{Row, assert_enabled, check, enable};
 use crate::outcomes::assert_told;
 use crate::readings::assert_reads;
 use link_tree::Scope;
@@ -36,9 +36,6 @@ fn links_are_made_until_the_next_start(rt: HostRuntime) -> Result<(), Fail> {
         + /run/systemd/system/m.target.wants/app.service -> /opt/app.service\n";
     assert_enabled(&rt, rt.alloc(), Scope::Run, b"app.service", TREE, text)
 }
-
-/// The names of units, and what a command comes to with them.
-type Row = (&'static [u8], &'static [u8]);
 
 fn assert_all_enabled(rt: &impl Abort, alloc: Global, rows: &[Row]) -> Result<(), Fail> {
     for (names, text) in rows {

@@ -5,7 +5,7 @@ use install_section::{ClosureError, closure};
 use link_tree::Tree;
 use std::alloc::{AllocError, Global};
 use std::test::Fail;
-use unit_name::UnitName;
+use unit_name::{UnitName, ample};
 
 fn push_number(text: &mut Vec<u8>, n: usize) -> Result<(), AllocError> {
     for digit in [n / 1000 % 10, n / 100 % 10, n / 10 % 10, n % 10] {
@@ -63,7 +63,7 @@ const TEMPLATE: Row = Row::File(b"u@.service", b"[Install]\n");
 fn counts_given(alloc: Global, count: usize) -> Result<Counts, AllocError> {
     let tree = tree(alloc, UNITS, &[TEMPLATE])?;
     let given = numbered(alloc, count)?;
-    counts(alloc, &tree, &given)
+    ample!(counts(alloc, &tree, &given), AllocError)
 }
 
 #[test]
@@ -80,7 +80,7 @@ fn a_thousand_given_units(rt: HostRuntime) -> Result<(), Fail> {
 fn counts_of(alloc: Global, rows: &[Row], given: &[u8]) -> Result<Counts, AllocError> {
     let tree = tree(alloc, UNITS, rows)?;
     let given = names(alloc, given)?;
-    counts(alloc, &tree, &given)
+    ample!(counts(alloc, &tree, &given), AllocError)
 }
 
 /// The counts of a unit whose section names so many different units.
