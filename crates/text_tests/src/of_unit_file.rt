@@ -49,38 +49,29 @@ fn lines_of(alloc: Global, text: &InstallText) -> Result<Vec<u8>, AllocError> {
     Ok(lines)
 }
 
-fn assert_text(
-    rt: &impl Abort,
-    alloc: Global,
-    text: &InstallText,
-    row: Row,
-) -> Result<(), AllocError> {
-    let (file, expected) = row;
-    let lines = lines_of(alloc, text)?;
-    assert_eq!(rt; lines.as_slice(), expected, "{file:?}");
+/// The lines of what is read of a file, or of a copy of that.
+fn lines_read(alloc: Global, file: &[u8], copied: bool) -> Result<Vec<u8>, AllocError> {
+    let text = read(alloc, file)?;
+    if copied {
+        let copy = Box::new(alloc, text.copy()?)?;
+        return lines_of(alloc, &copy);
+    }
+    lines_of(alloc, &text)
+}
+
+/// Each file has its section, as it is read, or as a copy of that.
+fn assert_read(rt: &impl Abort, alloc: Global, rows: &[Row], copied: bool) -> Result<(), Fail> {
+    for (file, expected) in rows {
+        let lines = ample!(lines_read(alloc, file, copied), AllocError)?;
+        assert_eq!(rt; lines.as_slice(), *expected, "{file:?}");
+    }
     Ok(())
-}
-
-/// A file has this section.
-fn assert_read(rt: &impl Abort, alloc: Global, row: Row) -> Result<(), AllocError> {
-    let text = read(alloc, row.0)?;
-    assert_text(rt, alloc, &text, row)
-}
-
-/// What is read of a file, copied, is this section too.
-fn assert_copied(rt: &impl Abort, alloc: Global, row: Row) -> Result<(), AllocError> {
-    let text = read(alloc, row.0)?;
-    let copy = Box::new(alloc, text.copy()?)?;
-    assert_text(rt, alloc, &copy, row)
 }
 
 #[test]
 fn files_are_read(rt: HostRuntime) -> Result<(), Fail> {
-    for row in FILES {
-        ample!(assert_read(&rt, rt.alloc(), row), AllocError)?;
-        ample!(assert_copied(&rt, rt.alloc(), row), AllocError)?;
-    }
-    Ok(())
+    assert_read(&rt, rt.alloc(), &FILES, false)?;
+    assert_read(&rt, rt.alloc(), &FILES, true)
 }
 
 #[test]
@@ -139,10 +130,7 @@ fn lines_are_joined_and_dropped(rt: HostRuntime) -> Result<(), Fail> {
             b"WantedBy=\xff\xfe \x00\n",
         ),
     ];
-    for row in rows {
-        ample!(assert_read(&rt, rt.alloc(), row), AllocError)?;
-    }
-    Ok(())
+    assert_read(&rt, rt.alloc(), &rows, false)
 }
 
 #[test]
@@ -202,10 +190,7 @@ fn sections_and_keys_are_exact(rt: HostRuntime) -> Result<(), Fail> {
             b"DefaultInstance=a\n",
         ),
     ];
-    for row in rows {
-        ample!(assert_read(&rt, rt.alloc(), row), AllocError)?;
-    }
-    Ok(())
+    assert_read(&rt, rt.alloc(), &rows, false)
 }
 
 /// The bytes so many times, and then the end.
@@ -270,16 +255,17 @@ fn identity_with(
     identity(alloc, unit, &text)
 }
 
-/// Whether the identity of a unit whose file has this `DefaultInstance=` has this name.
-fn has_identity(
+/// Whether a unit is its own identity, and with this `DefaultInstance=` has the identity of this name.
+fn have_identities(
     alloc: Global,
     unit: &[u8],
-    default: Option<&[u8]>,
+    default: &[u8],
     expected: &[u8],
-) -> Result<bool, AllocError> {
+) -> Result<(bool, bool), AllocError> {
     let unit = name(alloc, unit)?;
-    let identity = identity_with(alloc, &unit, default)?;
-    Ok(identity.text() == expected)
+    let itself = identity_with(alloc, &unit, None)?;
+    let instance = identity_with(alloc, &unit, Some(default))?;
+    Ok((itself == unit, instance.text() == expected))
 }
 
 #[test]
@@ -298,13 +284,11 @@ fn templates_have_the_identity_of_an_instance(rt: HostRuntime) -> Result<(), Fai
         (b"getty@.service", &[b'x'; 242], b"getty@.service"),
     ];
     for (unit, default, expected) in rows {
-        let is_itself = ample!(has_identity(rt.alloc(), unit, None, unit), AllocError)?;
-        assert!(rt; is_itself);
-        let is_instance = ample!(
-            has_identity(rt.alloc(), unit, Some(default), expected),
+        let found = ample!(
+            have_identities(rt.alloc(), unit, default, expected),
             AllocError
         )?;
-        assert!(rt; is_instance);
+        assert_eq!(rt; found, (true, true));
     }
     Ok(())
 }

@@ -13,15 +13,12 @@ fn has_text(rt: &impl Abort, name: &UnitName, text: &[u8]) {
     assert!(rt; is_unit_name(text));
 }
 
+/// A name's text, its kind, its type and its instance.
+type Row = (&'static [u8], Kind, UnitType, &'static [u8]);
+
 /// A text is a name with these parts, and its copy has the text too.
-fn assert_parts(
-    rt: &impl Abort,
-    alloc: Global,
-    text: &[u8],
-    kind: Kind,
-    unit_type: UnitType,
-    instance: &[u8],
-) -> Result<(), AllocError> {
+fn assert_parts(rt: &impl Abort, alloc: Global, row: Row) -> Result<(), AllocError> {
+    let (text, kind, unit_type, instance) = row;
     let name = name(alloc, text)?;
     has_text(rt, &name, text);
     assert_eq!(rt; name.kind(), kind);
@@ -41,7 +38,7 @@ fn kind_and_type(alloc: Global, text: &[u8]) -> Result<(Kind, UnitType), AllocEr
 
 #[test]
 fn names_have_their_parts(rt: HostRuntime) -> Result<(), Fail> {
-    let names: [(&[u8], Kind, UnitType, &[u8]); 9] = [
+    let names: [Row; 9] = [
         (b"ssh.service", Kind::Plain, UnitType::Service, b""),
         (b"getty@.service", Kind::Template, UnitType::Service, b""),
         (
@@ -62,11 +59,8 @@ fn names_have_their_parts(rt: HostRuntime) -> Result<(), Fail> {
             b"",
         ),
     ];
-    for (text, kind, unit_type, instance) in names {
-        ample!(
-            assert_parts(&rt, rt.alloc(), text, kind, unit_type, instance),
-            AllocError
-        )?;
+    for row in names {
+        ample!(assert_parts(&rt, rt.alloc(), row), AllocError)?;
     }
     Ok(())
 }
