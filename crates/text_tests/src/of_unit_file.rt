@@ -2,6 +2,7 @@ mod files;
 mod notices;
 
 use files::FILES;
+use sample_values::name;
 use std::alloc::{AllocError, Global};
 use std::process::Abort;
 use std::test::Fail;
@@ -9,13 +10,16 @@ use unit_file::{
     InstallError, InstallFault, InstallText, MAX_LINE, Word, Words, identity, install_of,
     is_template, listed_name,
 };
-use unit_name::{NameError, UnitName, ample};
+use unit_name::{UnitName, ample};
 
 /// A file, and its `[Install]` section as lines `KEY=WORD WORD..`, one for each key that has a value.
 pub type Row<'a> = (&'a [u8], &'a [u8]);
 
-fn read(alloc: Global, bytes: &[u8]) -> Result<InstallText, InstallError> {
-    ample!(install_of(alloc, bytes), InstallError::OutOfMemory)
+fn read(alloc: Global, bytes: &[u8]) -> Result<Box<InstallText>, AllocError> {
+    match install_of(alloc, bytes) {
+        Ok(text) => Ok(Box::new(alloc, text)?),
+        Err(_) => Err(AllocError),
+    }
 }
 
 fn push_words(lines: &mut Vec<u8>, key: &[u8], words: &Words) -> Result<(), AllocError> {
@@ -45,33 +49,29 @@ fn lines_of(alloc: Global, text: &InstallText) -> Result<Vec<u8>, AllocError> {
     Ok(lines)
 }
 
-fn assert_text(rt: &impl Abort, alloc: Global, text: &InstallText, row: Row) -> Result<(), Fail> {
-    let (file, expected) = row;
-    let lines = ample!(lines_of(alloc, text), AllocError)?;
-    assert_eq!(rt; lines.as_slice(), expected, "{file:?}");
+/// The lines of what is read of a file, or of a copy of that.
+fn lines_read(alloc: Global, file: &[u8], copied: bool) -> Result<Vec<u8>, AllocError> {
+    let text = read(alloc, file)?;
+    if copied {
+        let copy = Box::new(alloc, text.copy()?)?;
+        return lines_of(alloc, &copy);
+    }
+    lines_of(alloc, &text)
+}
+
+/// Each file has its section, as it is read, or as a copy of that.
+fn assert_read(rt: &impl Abort, alloc: Global, rows: &[Row], copied: bool) -> Result<(), Fail> {
+    for (file, expected) in rows {
+        let lines = ample!(lines_read(alloc, file, copied), AllocError)?;
+        assert_eq!(rt; lines.as_slice(), *expected, "{file:?}");
+    }
     Ok(())
-}
-
-/// A file has this section.
-fn assert_read(rt: &impl Abort, alloc: Global, row: Row) -> Result<(), Fail> {
-    let text = read(alloc, row.0)?;
-    assert_text(rt, alloc, &text, row)
-}
-
-/// What is read of a file, copied, is this section too.
-fn assert_copied(rt: &impl Abort, alloc: Global, row: Row) -> Result<(), Fail> {
-    let text = read(alloc, row.0)?;
-    let copy = ample!(text.copy(), AllocError)?;
-    assert_text(rt, alloc, &copy, row)
 }
 
 #[test]
 fn files_are_read(rt: HostRuntime) -> Result<(), Fail> {
-    for row in FILES {
-        assert_read(&rt, rt.alloc(), row)?;
-        assert_copied(&rt, rt.alloc(), row)?;
-    }
-    Ok(())
+    assert_read(&rt, rt.alloc(), &FILES, false)?;
+    assert_read(&rt, rt.alloc(), &FILES, true)
 }
 
 #[test]
@@ -130,10 +130,7 @@ fn lines_are_joined_and_dropped(rt: HostRuntime) -> Result<(), Fail> {
             b"WantedBy=\xff\xfe \x00\n",
         ),
     ];
-    for row in rows {
-        assert_read(&rt, rt.alloc(), row)?;
-    }
-    Ok(())
+    assert_read(&rt, rt.alloc(), &rows, false)
 }
 
 #[test]
@@ -193,35 +190,28 @@ fn sections_and_keys_are_exact(rt: HostRuntime) -> Result<(), Fail> {
             b"DefaultInstance=a\n",
         ),
     ];
-    for row in rows {
-        assert_read(&rt, rt.alloc(), row)?;
-    }
-    Ok(())
+    assert_read(&rt, rt.alloc(), &rows, false)
 }
 
 /// The bytes so many times, and then the end.
 fn repeated(alloc: Global, bytes: &[u8], times: usize, end: &[u8]) -> Result<Vec<u8>, AllocError> {
-    let mut file = ample!(Vec::with_capacity(alloc, 2 * MAX_LINE), AllocError)?;
+    let mut file = Vec::with_capacity(alloc, 2 * MAX_LINE)?;
     for _time in 0..times {
-        ample!(file.extend_from_slice(bytes), AllocError)?;
+        file.extend_from_slice(bytes)?;
     }
-    ample!(file.extend_from_slice(end), AllocError)?;
+    file.extend_from_slice(end)?;
     Ok(file)
 }
 
-/// Whether a file of these bytes so many times, and then the end, is refused for its long line; else it wants nothing.
-fn has_long_line(alloc: Global, bytes: &[u8], times: usize, end: &[u8]) -> Result<bool, Fail> {
+/// Whether a file of these bytes so many times, and then the end, is wanted by something.
+fn is_wanted(alloc: Global, bytes: &[u8], times: usize, end: &[u8]) -> Result<bool, InstallError> {
     let file = repeated(alloc, bytes, times, end)?;
-    match read(alloc, &file) {
-        Ok(text) if text.wanted_by.is_empty() => Ok(false),
-        Ok(_) => Err("wanted by something".into()),
-        Err(InstallError::Bad(InstallFault::LineTooLong)) => Ok(true),
-        Err(error) => Err(error.into()),
-    }
+    let text = install_of(alloc, &file)?;
+    Ok(!text.wanted_by.is_empty())
 }
 
 #[test]
-fn a_line_has_at_most_a_mebibyte(rt: HostRuntime) -> Result<(), Fail> {
+fn a_line_has_at_most_a_mebibyte(rt: HostRuntime) {
     // What is repeated, how often, what follows, and whether a line is too long.
     let rows: [(&[u8], usize, &[u8], bool); 13] = [
         (b"a", MAX_LINE, b"", false),
@@ -239,35 +229,43 @@ fn a_line_has_at_most_a_mebibyte(rt: HostRuntime) -> Result<(), Fail> {
         (b"aaa\\\n# a comment\n", MAX_LINE / 4, b"a", true),
     ];
     for (bytes, times, end, is_long) in rows {
-        let found = has_long_line(rt.alloc(), bytes, times, end)?;
-        assert_eq!(rt; found, is_long);
+        let is_wanted = ample!(
+            is_wanted(rt.alloc(), bytes, times, end),
+            InstallError::OutOfMemory
+        );
+        let expected = if is_long {
+            Err(InstallError::Bad(InstallFault::LineTooLong))
+        } else {
+            Ok(false)
+        };
+        assert_eq!(rt; is_wanted, expected);
     }
-    Ok(())
-}
-
-fn named(alloc: Global, text: &[u8]) -> Result<UnitName, NameError> {
-    ample!(UnitName::parse(alloc, text), NameError::OutOfMemory)
 }
 
 /// The identity of a unit whose file has this `DefaultInstance=`.
-fn identity_with(alloc: Global, unit: &UnitName, default: Option<&[u8]>) -> Result<UnitName, Fail> {
+fn identity_with(
+    alloc: Global,
+    unit: &UnitName,
+    default: Option<&[u8]>,
+) -> Result<UnitName, AllocError> {
     let mut text = read(alloc, b"")?;
     if let Some(default) = default {
-        text.default_instance = Some(ample!(Word::from_slice(alloc, default), AllocError)?);
+        text.default_instance = Some(Word::from_slice(alloc, default)?);
     }
-    Ok(ample!(identity(alloc, unit, &text), AllocError)?)
+    identity(alloc, unit, &text)
 }
 
-/// Whether the identity of a unit whose file has this `DefaultInstance=` has this name.
-fn has_identity(
+/// Whether a unit is its own identity, and with this `DefaultInstance=` has the identity of this name.
+fn have_identities(
     alloc: Global,
     unit: &[u8],
-    default: Option<&[u8]>,
+    default: &[u8],
     expected: &[u8],
-) -> Result<bool, Fail> {
-    let unit = named(alloc, unit)?;
-    let identity = identity_with(alloc, &unit, default)?;
-    Ok(identity.text() == expected)
+) -> Result<(bool, bool), AllocError> {
+    let unit = name(alloc, unit)?;
+    let itself = identity_with(alloc, &unit, None)?;
+    let instance = identity_with(alloc, &unit, Some(default))?;
+    Ok((itself == unit, instance.text() == expected))
 }
 
 #[test]
@@ -286,18 +284,24 @@ fn templates_have_the_identity_of_an_instance(rt: HostRuntime) -> Result<(), Fai
         (b"getty@.service", &[b'x'; 242], b"getty@.service"),
     ];
     for (unit, default, expected) in rows {
-        let is_itself = has_identity(rt.alloc(), unit, None, unit)?;
-        assert!(rt; is_itself);
-        let is_instance = has_identity(rt.alloc(), unit, Some(default), expected)?;
-        assert!(rt; is_instance);
+        let found = ample!(
+            have_identities(rt.alloc(), unit, default, expected),
+            AllocError
+        )?;
+        assert_eq!(rt; found, (true, true));
     }
     Ok(())
 }
 
 /// Whether a unit with `DefaultInstance=tty1` is listed under this name among those that another needs.
-fn is_listed_as(alloc: Global, by: &[u8], unit: &[u8], expected: &[u8]) -> Result<bool, Fail> {
-    let by = named(alloc, by)?;
-    let unit = named(alloc, unit)?;
+fn is_listed_as(
+    alloc: Global,
+    by: &[u8],
+    unit: &[u8],
+    expected: &[u8],
+) -> Result<bool, AllocError> {
+    let by = name(alloc, by)?;
+    let unit = name(alloc, unit)?;
     let identity = identity_with(alloc, &unit, Some(b"tty1"))?;
     Ok(match listed_name(&by, &unit, &identity) {
         Some(name) => name.text() == expected,
@@ -324,16 +328,16 @@ fn templates_are_listed_for_their_instance(rt: HostRuntime) -> Result<(), Fail> 
         (b"other@.service", b"ssh.service", b"ssh.service"),
     ];
     for (by, unit, expected) in rows {
-        let is_listed = is_listed_as(rt.alloc(), by, unit, expected)?;
+        let is_listed = ample!(is_listed_as(rt.alloc(), by, unit, expected), AllocError)?;
         assert!(rt; is_listed);
     }
     Ok(())
 }
 
 /// Whether two units are templates, and whether the second, without an instance, is listed among those that the first one needs.
-fn told_of(alloc: Global, by: &[u8], unit: &[u8]) -> Result<(bool, bool, bool), NameError> {
-    let by = named(alloc, by)?;
-    let unit = named(alloc, unit)?;
+fn told_of(alloc: Global, by: &[u8], unit: &[u8]) -> Result<(bool, bool, bool), AllocError> {
+    let by = name(alloc, by)?;
+    let unit = name(alloc, unit)?;
     let listed = listed_name(&by, &unit, &unit);
     Ok((is_template(&by), is_template(&unit), listed.is_some()))
 }
@@ -347,15 +351,15 @@ fn a_template_is_listed_nowhere(rt: HostRuntime) -> Result<(), Fail> {
 
 /// Whether a word and its copy have these bytes.
 fn has_bytes(alloc: Global, bytes: &[u8]) -> Result<bool, AllocError> {
-    let word = ample!(Word::from_slice(alloc, bytes), AllocError)?;
-    let copy = ample!(word.copy(), AllocError)?;
+    let word = Word::from_slice(alloc, bytes)?;
+    let copy = word.copy()?;
     Ok(word.bytes() == bytes && copy.bytes() == bytes)
 }
 
 #[test]
 fn words_are_copied(rt: HostRuntime) -> Result<(), Fail> {
     for bytes in [b"".as_slice(), b"a", b"%i.service", b"\xff \n"] {
-        let has_bytes = has_bytes(rt.alloc(), bytes)?;
+        let has_bytes = ample!(has_bytes(rt.alloc(), bytes), AllocError)?;
         assert!(rt; has_bytes);
     }
     Ok(())

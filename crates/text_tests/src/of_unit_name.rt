@@ -1,3 +1,4 @@
+use sample_values::name;
 use std::alloc::{AllocError, AllocFailed, Global};
 use std::collections::{BTreeSet, HashSet};
 use std::process::Abort;
@@ -7,48 +8,37 @@ use unit_name::{
     ample, expand, is_unit_name,
 };
 
-fn named(alloc: Global, text: &[u8]) -> Result<UnitName, NameError> {
-    ample!(UnitName::parse(alloc, text), NameError::OutOfMemory)
-}
-
 fn has_text(rt: &impl Abort, name: &UnitName, text: &[u8]) {
     assert_eq!(rt; name.text(), text);
     assert!(rt; is_unit_name(text));
 }
 
-fn assert_parts(
-    rt: &impl Abort,
-    alloc: Global,
-    text: &[u8],
-    kind: Kind,
-    unit_type: UnitType,
-    instance: &[u8],
-) -> Result<(), NameError> {
-    let name = named(alloc, text)?;
+/// A name's text, its kind, its type and its instance.
+type Row = (&'static [u8], Kind, UnitType, &'static [u8]);
+
+/// A text is a name with these parts, and its copy has the text too.
+fn assert_parts(rt: &impl Abort, alloc: Global, row: Row) -> Result<(), AllocError> {
+    let (text, kind, unit_type, instance) = row;
+    let name = name(alloc, text)?;
     has_text(rt, &name, text);
     assert_eq!(rt; name.kind(), kind);
     assert_eq!(rt; name.unit_type(), unit_type);
     assert_eq!(rt; name.instance().unwrap_or(b""), instance);
     assert_eq!(rt; name.instance().is_some(), kind != Kind::Plain);
-    Ok(())
-}
-
-fn assert_copied(rt: &impl Abort, alloc: Global, text: &[u8]) -> Result<(), Fail> {
-    let name = named(alloc, text)?;
-    let copy = ample!(name.copy(), AllocError)?;
+    let copy = name.copy()?;
     has_text(rt, &copy, text);
     Ok(())
 }
 
 /// The kind and the type of a name.
-fn kind_and_type(alloc: Global, text: &[u8]) -> Result<(Kind, UnitType), NameError> {
-    let name = named(alloc, text)?;
+fn kind_and_type(alloc: Global, text: &[u8]) -> Result<(Kind, UnitType), AllocError> {
+    let name = name(alloc, text)?;
     Ok((name.kind(), name.unit_type()))
 }
 
 #[test]
 fn names_have_their_parts(rt: HostRuntime) -> Result<(), Fail> {
-    let names: [(&[u8], Kind, UnitType, &[u8]); 9] = [
+    let names: [Row; 9] = [
         (b"ssh.service", Kind::Plain, UnitType::Service, b""),
         (b"getty@.service", Kind::Template, UnitType::Service, b""),
         (
@@ -69,9 +59,8 @@ fn names_have_their_parts(rt: HostRuntime) -> Result<(), Fail> {
             b"",
         ),
     ];
-    for (text, kind, unit_type, instance) in names {
-        assert_parts(&rt, rt.alloc(), text, kind, unit_type, instance)?;
-        assert_copied(&rt, rt.alloc(), text)?;
+    for row in names {
+        ample!(assert_parts(&rt, rt.alloc(), row), AllocError)?;
     }
     Ok(())
 }
@@ -150,44 +139,29 @@ fn these_bytes_may_stand_in_a_name(rt: HostRuntime) {
     }
 }
 
-fn template_of(rt: &impl Abort, alloc: Global, name: &UnitName) -> Result<UnitName, AllocError> {
-    assert_ne!(rt; name.kind(), Kind::Plain);
-    ample!(name.template(alloc), AllocError)
-}
-
-fn changed(
-    rt: &impl Abort,
-    alloc: Global,
-    name: &UnitName,
-    instance: &[u8],
-) -> Result<UnitName, InstanceError> {
-    assert_ne!(rt; name.kind(), Kind::Plain);
-    ample!(
-        name.with_instance(alloc, instance),
-        InstanceError::OutOfMemory
-    )
-}
-
 /// The kind of a name's template, and whether it has this text.
 fn template_is(
     rt: &impl Abort,
     alloc: Global,
     text: &[u8],
     expected: &[u8],
-) -> Result<(Kind, bool), Fail> {
-    let name = named(alloc, text)?;
-    let template = template_of(rt, alloc, &name)?;
+) -> Result<(Kind, bool), AllocError> {
+    let name = name(alloc, text)?;
+    assert_ne!(rt; name.kind(), Kind::Plain);
+    let template = name.template(alloc)?;
     Ok((template.kind(), template.text() == expected))
 }
 
-fn changed_text(
+/// A name with another instance.
+fn changed(
     rt: &impl Abort,
     alloc: Global,
     text: &[u8],
     instance: &[u8],
-) -> Result<UnitName, Fail> {
-    let name = named(alloc, text)?;
-    Ok(changed(rt, alloc, &name, instance)?)
+) -> Result<UnitName, InstanceError> {
+    let name = name(alloc, text)?;
+    assert_ne!(rt; name.kind(), Kind::Plain);
+    name.with_instance(alloc, instance)
 }
 
 /// Whether a name with another instance has this text.
@@ -197,15 +171,18 @@ fn changes_to(
     text: &[u8],
     instance: &[u8],
     expected: &[u8],
-) -> Result<bool, Fail> {
-    let name = changed_text(rt, alloc, text, instance)?;
+) -> Result<bool, InstanceError> {
+    let name = changed(rt, alloc, text, instance)?;
     Ok(name.text() == expected)
 }
 
 #[test]
 fn instances_have_a_template(rt: HostRuntime) -> Result<(), Fail> {
     for text in [b"getty@tty1.service".as_slice(), b"getty@.service"] {
-        let told = template_is(&rt, rt.alloc(), text, b"getty@.service")?;
+        let told = ample!(
+            template_is(&rt, rt.alloc(), text, b"getty@.service"),
+            AllocError
+        )?;
         assert_eq!(rt; told, (Kind::Template, true));
     }
     Ok(())
@@ -219,7 +196,10 @@ fn instances_change(rt: HostRuntime) -> Result<(), Fail> {
         (b"getty@tty1.service", b"a@b.c", b"getty@a@b.c.service"),
     ];
     for (text, instance, expected) in instances {
-        let changes = changes_to(&rt, rt.alloc(), text, instance, expected)?;
+        let changes = ample!(
+            changes_to(&rt, rt.alloc(), text, instance, expected),
+            InstanceError::OutOfMemory
+        )?;
         assert!(rt; changes);
     }
     Ok(())
@@ -228,25 +208,16 @@ fn instances_change(rt: HostRuntime) -> Result<(), Fail> {
 #[test]
 fn an_instance_fills_a_name(rt: HostRuntime) -> Result<(), Fail> {
     // 241 bytes and the 14 of the template are as many as a name may have.
-    let longest = changed_text(&rt, rt.alloc(), b"getty@.service", &[b'x'; 241])?;
+    let longest = ample!(
+        changed(&rt, rt.alloc(), b"getty@.service", &[b'x'; 241]),
+        InstanceError::OutOfMemory
+    )?;
     assert_eq!(rt; longest.text().len(), 255);
     Ok(())
 }
 
-/// Whether a template's instance of this text is refused for this fault.
-fn is_refused_for(
-    rt: &impl Abort,
-    alloc: Global,
-    instance: &[u8],
-    fault: InstanceFault,
-) -> Result<bool, NameError> {
-    let template = named(alloc, b"getty@.service")?;
-    let refused = changed(rt, alloc, &template, instance);
-    Ok(refused == Err(InstanceError::Bad(fault)))
-}
-
 #[test]
-fn some_instances_are_refused(rt: HostRuntime) -> Result<(), Fail> {
+fn some_instances_are_refused(rt: HostRuntime) {
     let faults: [(&[u8], InstanceFault); 5] = [
         (b"a/b", InstanceFault::BadCharacter),
         (b" ", InstanceFault::BadCharacter),
@@ -255,28 +226,24 @@ fn some_instances_are_refused(rt: HostRuntime) -> Result<(), Fail> {
         (&[b'x'; 1000], InstanceFault::TooLong),
     ];
     for (instance, fault) in faults {
-        let is_refused = is_refused_for(&rt, rt.alloc(), instance, fault)?;
-        assert!(rt; is_refused);
+        let refused = ample!(
+            changes_to(&rt, rt.alloc(), b"getty@.service", instance, b""),
+            InstanceError::OutOfMemory
+        );
+        assert_eq!(rt; refused, Err(InstanceError::Bad(fault)));
     }
-    Ok(())
-}
-
-fn expanded(alloc: Global, word: &[u8], name: &UnitName) -> Result<Vec<u8>, ExpandError> {
-    ample!(expand(alloc, word, name), ExpandError::OutOfMemory)
 }
 
 /// Whether a word expands to this text for the unit of this name.
-fn expands_to(alloc: Global, text: &[u8], word: &[u8], expected: &[u8]) -> Result<bool, Fail> {
-    let name = named(alloc, text)?;
-    let expanded = expanded(alloc, word, &name)?;
+fn expands_to(
+    alloc: Global,
+    text: &[u8],
+    word: &[u8],
+    expected: &[u8],
+) -> Result<bool, ExpandError> {
+    let name = name(alloc, text)?;
+    let expanded = expand(alloc, word, &name)?;
     Ok(expanded.as_slice() == expected)
-}
-
-/// Whether a word is refused for a specifier that is none.
-fn is_refused(alloc: Global, text: &[u8], word: &[u8]) -> Result<bool, NameError> {
-    let name = named(alloc, text)?;
-    let refused = expanded(alloc, word, &name);
-    Ok(refused == Err(ExpandError::UnknownSpecifier))
 }
 
 #[test]
@@ -293,54 +260,72 @@ fn words_are_expanded(rt: HostRuntime) -> Result<(), Fail> {
         (b"a.service", b"plain/ \xff", b"plain/ \xff"),
     ];
     for (text, word, expected) in words {
-        let expands = expands_to(rt.alloc(), text, word, expected)?;
+        let expands = ample!(
+            expands_to(rt.alloc(), text, word, expected),
+            ExpandError::OutOfMemory
+        )?;
         assert!(rt; expands);
     }
     Ok(())
 }
 
 #[test]
-fn unknown_specifiers_are_refused(rt: HostRuntime) -> Result<(), Fail> {
+fn unknown_specifiers_are_refused(rt: HostRuntime) {
     for word in [b"%z".as_slice(), b"a%", b"%", b"%%%", b"%I", b"x% y"] {
-        let is_refused = is_refused(rt.alloc(), b"a.service", word)?;
-        assert!(rt; is_refused);
+        let refused = ample!(
+            expands_to(rt.alloc(), b"a.service", word, b""),
+            ExpandError::OutOfMemory
+        );
+        assert_eq!(rt; refused, Err(ExpandError::UnknownSpecifier));
     }
+}
+
+fn add_sorted(
+    alloc: Global,
+    names: &mut BTreeSet<UnitName>,
+    text: &[u8],
+) -> Result<(), AllocError> {
+    ample!(names.insert(name(alloc, text)?), AllocFailed { .. })?;
     Ok(())
 }
 
-fn add_sorted(alloc: Global, names: &mut BTreeSet<UnitName>, text: &[u8]) -> Result<(), Fail> {
-    ample!(names.insert(named(alloc, text)?), AllocFailed { .. })?;
-    Ok(())
-}
-
-fn add_hashed(alloc: Global, names: &mut HashSet<UnitName>, text: &[u8]) -> Result<(), Fail> {
-    ample!(names.insert(named(alloc, text)?), AllocFailed { .. })?;
+fn add_hashed(alloc: Global, names: &mut HashSet<UnitName>, text: &[u8]) -> Result<(), AllocError> {
+    ample!(names.insert(name(alloc, text)?), AllocFailed { .. })?;
     Ok(())
 }
 
 const KEYS: [&[u8]; 4] = [b"b.service", b"a.service", b"a-b.service", b"b.service"];
 
+/// Whether a set has the names in this order, and no others.
+fn are_sorted(alloc: Global, order: &[&[u8]]) -> Result<bool, AllocError> {
+    let mut sorted = BTreeSet::new(alloc);
+    for text in KEYS {
+        add_sorted(alloc, &mut sorted, text)?;
+    }
+    let mut rest = order;
+    for name in sorted.iter() {
+        match rest {
+            [first, others @ ..] if *first == name.text() => rest = others,
+            _ => return Ok(false),
+        }
+    }
+    Ok(rest.is_empty())
+}
+
 #[test]
 fn names_are_sorted_by_their_bytes(rt: HostRuntime) -> Result<(), Fail> {
-    let mut sorted = BTreeSet::new(rt.alloc());
-    for text in KEYS {
-        add_sorted(rt.alloc(), &mut sorted, text)?;
-    }
-    let mut order = Vec::new(rt.alloc());
-    for name in sorted.iter() {
-        ample!(order.push(name.text()), AllocFailed { .. })?;
-    }
-    assert_eq!(rt; order.as_slice(), [KEYS[2], KEYS[1], KEYS[0]].as_slice());
+    let are_sorted = are_sorted(rt.alloc(), &[KEYS[2], KEYS[1], KEYS[0]])?;
+    assert!(rt; are_sorted);
     Ok(())
 }
 
 /// How many names there are by their hashes, and whether this is one of them.
-fn hashed(alloc: Global, text: &[u8]) -> Result<(usize, bool), Fail> {
+fn hashed(alloc: Global, text: &[u8]) -> Result<(usize, bool), AllocError> {
     let mut hashed = HashSet::new(alloc);
     for text in KEYS {
         add_hashed(alloc, &mut hashed, text)?;
     }
-    let name = named(alloc, text)?;
+    let name = name(alloc, text)?;
     Ok((hashed.len(), hashed.contains(&name)))
 }
 

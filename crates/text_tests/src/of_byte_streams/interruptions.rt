@@ -22,15 +22,6 @@ struct Halting<'a> {
 }
 
 impl<'a> Halting<'a> {
-    fn new(left: &'a [u8], until: usize, times: u32, kind: ErrorKind) -> Halting<'a> {
-        Halting {
-            left,
-            until,
-            times,
-            kind,
-        }
-    }
-
     /// Whether it fails now.
     fn halts(&mut self) -> bool {
         if self.until > 0 || self.times == 0 {
@@ -115,7 +106,12 @@ fn assert_read(
     let mut taken = 0;
     let done = ample!(
         {
-            let mut reader = Halting::new(INPUT, until, times, kind);
+            let mut reader = Halting {
+                left: INPUT,
+                until,
+                times,
+                kind,
+            };
             let done = read(alloc, reading, &mut reader);
             taken = INPUT.len().saturating_sub(reader.left.len());
             done

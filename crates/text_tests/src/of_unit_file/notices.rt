@@ -1,9 +1,10 @@
 //! Notices: their lines, their order, and copies.
+use sample_values::name;
 use std::alloc::{AllocError, Global};
 use std::process::Abort;
 use std::test::Fail;
 use unit_file::{Notice, NoticeKey, Notices, Reason, Word};
-use unit_name::{NameError, UnitName, ample};
+use unit_name::ample;
 
 /// A notice's unit, key, word and reason.
 type Row = (&'static [u8], NoticeKey, &'static [u8], Reason);
@@ -46,41 +47,27 @@ const LINES: [&[u8]; 8] = [
     b"  ! a:b.socket: RequiredBy c:: dangling\n",
 ];
 
-fn notice(alloc: Global, row: Row) -> Result<Notice, Fail> {
+fn notice(alloc: Global, row: Row) -> Result<Notice, AllocError> {
     let (unit, key, word, reason) = row;
     Ok(Notice {
-        unit: ample!(UnitName::parse(alloc, unit), NameError::OutOfMemory)?,
+        unit: name(alloc, unit)?,
         key,
-        word: ample!(Word::from_slice(alloc, word), AllocError)?,
+        word: Word::from_slice(alloc, word)?,
         reason,
     })
 }
 
-fn copy_of(notice: &Notice) -> Result<Notice, AllocError> {
-    ample!(notice.copy(), AllocError)
-}
-
-fn line_of(alloc: Global, notice: &Notice) -> Result<Vec<u8>, AllocError> {
-    ample!(notice.line(alloc), AllocError)
-}
-
-fn add_copy(notices: &mut Notices, notice: &Notice) -> Result<(), AllocError> {
-    notices.add(notice.copy()?)
-}
-
 /// Adds the notice of a row.
-fn add(alloc: Global, notices: &mut Notices, row: Row) -> Result<(), Fail> {
-    let notice = notice(alloc, row)?;
-    ample!(add_copy(notices, &notice), AllocError)?;
-    Ok(())
+fn add(alloc: Global, notices: &mut Notices, row: Row) -> Result<(), AllocError> {
+    notices.add(notice(alloc, row)?)
 }
 
-/// The notices of these rows, added in this order.
-fn notices_of(alloc: Global, order: &[usize]) -> Result<Notices, Fail> {
+/// The notices of these rows, added in this order. Where one finds no memory, the notices are as before, and it is added again.
+fn notices_of(alloc: Global, order: &[usize]) -> Result<Notices, AllocError> {
     let mut notices = Notices::none(alloc);
     for i in order {
         if let Some(row) = ROWS.get(*i) {
-            add(alloc, &mut notices, *row)?;
+            ample!(add(alloc, &mut notices, *row), AllocError)?;
         }
     }
     Ok(notices)
@@ -118,10 +105,10 @@ fn assert_lines(
     notices: &Notices,
     rows: &[usize],
 ) -> Result<(), AllocError> {
-    let expected = ample!(expected_lines(alloc, rows), AllocError)?;
-    let found = ample!(lines_of(alloc, notices), AllocError)?;
+    let expected = expected_lines(alloc, rows)?;
+    let found = lines_of(alloc, notices)?;
     assert_eq!(rt; found, expected);
-    let one_by_one = ample!(lines_one_by_one(alloc, notices), AllocError)?;
+    let one_by_one = lines_one_by_one(alloc, notices)?;
     assert_eq!(rt; one_by_one, expected);
     Ok(())
 }
@@ -136,7 +123,7 @@ fn assert_notices(
     assert_eq!(rt; notices.len(), rows.len());
     assert_eq!(rt; notices.is_empty(), rows.is_empty());
     assert_lines(rt, alloc, notices, rows)?;
-    let copy = ample!(notices.copy(), AllocError)?;
+    let copy = notices.copy()?;
     assert_lines(rt, alloc, &copy, rows)
 }
 
@@ -147,37 +134,47 @@ fn assert_fields(rt: &impl Abort, notice: &Notice, row: &Row) {
     assert_eq!(rt; notice.reason, row.3);
 }
 
-/// Whether the notice of a row has this line.
-fn has_line(alloc: Global, row: Row, line: &[u8]) -> Result<bool, Fail> {
-    let notice = notice(alloc, row)?;
-    let found = line_of(alloc, &notice)?;
-    Ok(found.as_slice() == line)
-}
-
-/// The copy of a row's notice has its fields and this line.
-fn assert_copied(rt: &impl Abort, alloc: Global, row: Row, line: &[u8]) -> Result<(), Fail> {
-    let notice = notice(alloc, row)?;
-    let copy = copy_of(&notice)?;
-    assert_fields(rt, &copy, &row);
-    let found = line_of(alloc, &copy)?;
+fn assert_line(
+    rt: &impl Abort,
+    alloc: Global,
+    notice: &Notice,
+    line: &[u8],
+) -> Result<(), AllocError> {
+    let found = notice.line(alloc)?;
     assert_eq!(rt; found.as_slice(), line);
     Ok(())
 }
 
+/// The notice of a row has this line; its copy has the row's fields and this line.
+fn assert_notice(rt: &impl Abort, alloc: Global, row: Row, line: &[u8]) -> Result<(), AllocError> {
+    let notice = notice(alloc, row)?;
+    assert_line(rt, alloc, &notice, line)?;
+    let copy = notice.copy()?;
+    assert_fields(rt, &copy, &row);
+    assert_line(rt, alloc, &copy, line)
+}
+
 #[test]
 fn notices_have_lines(rt: HostRuntime) -> Result<(), Fail> {
-    let alloc = rt.alloc();
     for (row, line) in ROWS.into_iter().zip(LINES) {
-        let has_line = has_line(alloc, row, line)?;
-        assert!(rt; has_line);
-        assert_copied(&rt, alloc, row, line)?;
+        ample!(assert_notice(&rt, rt.alloc(), row, line), AllocError)?;
     }
     Ok(())
 }
 
+/// Notices added in this order are these.
+fn assert_added(
+    rt: &impl Abort,
+    alloc: Global,
+    order: &[usize],
+    expected: &[usize],
+) -> Result<(), AllocError> {
+    let notices = notices_of(alloc, order)?;
+    assert_notices(rt, alloc, &notices, expected)
+}
+
 #[test]
 fn notices_are_a_set(rt: HostRuntime) -> Result<(), Fail> {
-    let alloc = rt.alloc();
     // In which order they are added, and which there are then.
     let rows: [(&[usize], &[usize]); 5] = [
         (&[], &[]),
@@ -187,15 +184,27 @@ fn notices_are_a_set(rt: HostRuntime) -> Result<(), Fail> {
         (&[4, 2, 4, 7, 3, 2, 7, 4], &[2, 3, 4, 7]),
     ];
     for (order, expected) in rows {
-        let notices = notices_of(alloc, order)?;
-        assert_notices(&rt, alloc, &notices, expected)?;
+        ample!(assert_added(&rt, rt.alloc(), order, expected), AllocError)?;
     }
     Ok(())
 }
 
+/// Notices that are joined with others are these.
+fn assert_joined(
+    rt: &impl Abort,
+    alloc: Global,
+    order: &[usize],
+    others: &[usize],
+    expected: &[usize],
+) -> Result<(), AllocError> {
+    let mut notices = notices_of(alloc, order)?;
+    let others = notices_of(alloc, others)?;
+    ample!(notices.add_all(&others), AllocError)?;
+    assert_notices(rt, alloc, &notices, expected)
+}
+
 #[test]
 fn notices_are_joined(rt: HostRuntime) -> Result<(), Fail> {
-    let alloc = rt.alloc();
     let rows: [(&[usize], &[usize], &[usize]); 5] = [
         (&[], &[], &[]),
         (&[3, 1], &[], &[1, 3]),
@@ -204,10 +213,10 @@ fn notices_are_joined(rt: HostRuntime) -> Result<(), Fail> {
         (&[4, 1, 5], &[5, 2, 4], &[1, 2, 4, 5]),
     ];
     for (order, others, expected) in rows {
-        let mut notices = notices_of(alloc, order)?;
-        let others = notices_of(alloc, others)?;
-        ample!(notices.add_all(&others), AllocError)?;
-        assert_notices(&rt, alloc, &notices, expected)?;
+        ample!(
+            assert_joined(&rt, rt.alloc(), order, others, expected),
+            AllocError
+        )?;
     }
     Ok(())
 }

@@ -1,14 +1,11 @@
+use sample_values::path;
 use std::alloc::{AllocError, Global};
 use std::cmp::Ordering;
 use std::test::Fail;
 use unit_name::ample;
 use unit_paths::{PathError, TreePath};
 
-fn path(alloc: Global, text: &[u8]) -> Result<TreePath, PathError> {
-    ample!(TreePath::parse(alloc, text), PathError::OutOfMemory)
-}
-
-fn has_text(alloc: Global, text: &[u8]) -> Result<bool, PathError> {
+fn has_text(alloc: Global, text: &[u8]) -> Result<bool, AllocError> {
     let path = path(alloc, text)?;
     Ok(path.text() == text)
 }
@@ -42,15 +39,15 @@ fn paths_are_absolute(rt: HostRuntime) -> Result<(), Fail> {
 }
 
 /// How two paths compare, and whether they are equal.
-fn compared(alloc: Global, one: &[u8], other: &[u8]) -> Result<(Ordering, bool), PathError> {
+fn compared(alloc: Global, one: &[u8], other: &[u8]) -> Result<(Ordering, bool), AllocError> {
     let one = path(alloc, one)?;
     let other = path(alloc, other)?;
     Ok((one.cmp(&other), one == other))
 }
 
-fn is_as_its_copy(alloc: Global, text: &[u8]) -> Result<bool, Fail> {
+fn is_as_its_copy(alloc: Global, text: &[u8]) -> Result<bool, AllocError> {
     let path = path(alloc, text)?;
-    let copy = ample!(path.copy(), AllocError)?;
+    let copy = path.copy()?;
     Ok(copy == path)
 }
 
@@ -67,7 +64,7 @@ fn paths_are_ordered_by_bytes(rt: HostRuntime) -> Result<(), Fail> {
     for (one, other, order) in orders {
         let found = compared(alloc, one, other)?;
         assert_eq!(rt; found, (order, order == Ordering::Equal));
-        let is_same = is_as_its_copy(alloc, one)?;
+        let is_same = ample!(is_as_its_copy(alloc, one), AllocError)?;
         assert!(rt; is_same);
     }
     Ok(())
@@ -79,13 +76,13 @@ fn is_cut_into(
     text: &[u8],
     directory: &[u8],
     name: &[u8],
-) -> Result<bool, PathError> {
+) -> Result<bool, AllocError> {
     let path = path(alloc, text)?;
     Ok(path.directory() == directory && path.file_name() == name)
 }
 
 /// Whether a path's parent has this text; the root is no path.
-fn is_of_parent(alloc: Global, text: &[u8], directory: &[u8]) -> Result<bool, PathError> {
+fn is_of_parent(alloc: Global, text: &[u8], directory: &[u8]) -> Result<bool, AllocError> {
     let path = path(alloc, text)?;
     Ok(match path.into_parent() {
         Some(parent) => parent.text() == directory,
@@ -110,28 +107,30 @@ fn paths_have_directories_and_names(rt: HostRuntime) -> Result<(), Fail> {
     Ok(())
 }
 
-/// The first path in byte order that can lie beneath one.
-fn first_beneath(alloc: Global, text: &[u8]) -> Result<Option<TreePath>, Fail> {
-    let path = path(alloc, text)?;
-    Ok(ample!(path.first_beneath(), AllocError)?)
+/// Whether the first path in byte order that can lie beneath one has this text, if there is such a path.
+fn first_is(alloc: Global, above: &[u8], text: &[u8]) -> Result<Option<bool>, AllocError> {
+    let above = path(alloc, above)?;
+    match above.first_beneath()? {
+        Some(first) => Ok(Some(first.text() == text)),
+        None => Ok(None),
+    }
 }
 
 #[test]
 fn what_lies_beneath_begins_somewhere(rt: HostRuntime) -> Result<(), Fail> {
-    match first_beneath(rt.alloc(), b"/a/b")? {
-        Some(first) => assert_eq!(rt; first.text(), b"/a/b/\x01".as_slice()),
-        None => assert!(rt; false),
-    }
+    let is_first = ample!(first_is(rt.alloc(), b"/a/b", b"/a/b/\x01"), AllocError)?;
+    assert_eq!(rt; is_first, Some(true));
     let mut long = [b'a'; 4095];
     long[0] = b'/';
     for (length, is_path) in [(4093, true), (4094, false)] {
         let above = long.get(..length).unwrap_or(&[]);
-        assert_eq!(rt; first_beneath(rt.alloc(), above)?.is_some(), is_path);
+        let is_first = ample!(first_is(rt.alloc(), above, b""), AllocError)?;
+        assert_eq!(rt; is_first.is_some(), is_path);
     }
     Ok(())
 }
 
-fn lies_beneath(alloc: Global, below: &[u8], above: &[u8]) -> Result<bool, PathError> {
+fn lies_beneath(alloc: Global, below: &[u8], above: &[u8]) -> Result<bool, AllocError> {
     let below = path(alloc, below)?;
     let above = path(alloc, above)?;
     Ok(below.is_beneath(&above))

@@ -1,14 +1,11 @@
+use sample_values::{name, path};
 use std::alloc::{AllocError, Global};
 use std::test::Fail;
-use unit_name::{NameError, UnitName, ample};
-use unit_paths::{Dependency, PathError, Place, Scope, Slot, TreePath};
-
-fn path(alloc: Global, text: &[u8]) -> Result<TreePath, PathError> {
-    ample!(TreePath::parse(alloc, text), PathError::OutOfMemory)
-}
+use unit_name::ample;
+use unit_paths::{Dependency, Place, Scope, Slot};
 
 /// Of what a path is the slot, and whether it is a unit's.
-fn slot_of(alloc: Global, text: &[u8]) -> Result<(Option<Slot>, bool), PathError> {
+fn slot_of(alloc: Global, text: &[u8]) -> Result<(Option<Slot>, bool), AllocError> {
     let path = path(alloc, text)?;
     Ok((Slot::of(&path), Slot::is_of_unit(&path)))
 }
@@ -73,19 +70,15 @@ fn slots_have_four_forms(rt: HostRuntime) -> Result<(), Fail> {
     Ok(())
 }
 
-fn name(alloc: Global, text: &[u8]) -> Result<UnitName, NameError> {
-    ample!(UnitName::parse(alloc, text), NameError::OutOfMemory)
-}
-
 /// Whether the slot of a unit in a place has this text, and of what it is the slot.
 fn unit_slot_is(
     alloc: Global,
     place: Place,
     unit: &[u8],
     text: &[u8],
-) -> Result<(bool, Option<Slot>), Fail> {
+) -> Result<(bool, Option<Slot>), AllocError> {
     let unit = name(alloc, unit)?;
-    let slot = ample!(place.slot(alloc, &unit), AllocError)?;
+    let slot = place.slot(alloc, &unit)?;
     Ok((slot.text() == text, Slot::of(&slot)))
 }
 
@@ -102,7 +95,10 @@ fn units_have_slots(rt: HostRuntime) -> Result<(), Fail> {
         (Place::Vendor, b"/usr/lib/systemd/system/getty@tty1.service"),
     ];
     for (place, text) in places {
-        let found = unit_slot_is(alloc, place, b"getty@tty1.service", text)?;
+        let found = ample!(
+            unit_slot_is(alloc, place, b"getty@tty1.service", text),
+            AllocError
+        )?;
         assert_eq!(rt; found, (true, Some(Slot::Unit(place))));
     }
     Ok(())
@@ -114,13 +110,10 @@ fn dependency_slot_is(
     place: Place,
     dependency: Dependency,
     text: &[u8],
-) -> Result<(bool, Option<Slot>), Fail> {
+) -> Result<(bool, Option<Slot>), AllocError> {
     let of = name(alloc, b"t@.target")?;
     let unit = name(alloc, b"getty@tty1.service")?;
-    let slot = ample!(
-        place.dependency_slot(alloc, dependency, &of, &unit),
-        AllocError
-    )?;
+    let slot = place.dependency_slot(alloc, dependency, &of, &unit)?;
     Ok((slot.text() == text, Slot::of(&slot)))
 }
 
@@ -142,7 +135,10 @@ fn dependencies_have_slots(rt: HostRuntime) -> Result<(), Fail> {
         ),
     ];
     for (place, dependency, kind, text) in slots {
-        let found = dependency_slot_is(alloc, place, dependency, text)?;
+        let found = ample!(
+            dependency_slot_is(alloc, place, dependency, text),
+            AllocError
+        )?;
         assert_eq!(rt; found, (true, Some(kind)));
     }
     Ok(())
@@ -161,7 +157,7 @@ fn presets_have_directories(rt: HostRuntime) -> Result<(), Fail> {
     Ok(())
 }
 
-fn is_bad_shape(alloc: Global, text: &[u8]) -> Result<bool, PathError> {
+fn is_bad_shape(alloc: Global, text: &[u8]) -> Result<bool, AllocError> {
     let path = path(alloc, text)?;
     Ok(path.is_bad_shape())
 }

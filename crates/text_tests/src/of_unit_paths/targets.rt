@@ -1,20 +1,13 @@
+use sample_values::path;
 use std::alloc::{AllocError, Global};
 use std::test::Fail;
 use unit_name::ample;
-use unit_paths::{PathError, Target, TargetError, TreePath, canonical, is_null_target};
-
-fn path(alloc: Global, text: &[u8]) -> Result<TreePath, PathError> {
-    ample!(TreePath::parse(alloc, text), PathError::OutOfMemory)
-}
-
-fn target(alloc: Global, text: &[u8]) -> Result<Target, TargetError> {
-    ample!(Target::parse(alloc, text), TargetError::OutOfMemory)
-}
+use unit_paths::{Target, TargetError, canonical, is_null_target};
 
 /// Whether a target and its copy have this text.
-fn has_text(alloc: Global, text: &[u8]) -> Result<bool, Fail> {
-    let target = target(alloc, text)?;
-    let copy = ample!(target.copy(), AllocError)?;
+fn has_text(alloc: Global, text: &[u8]) -> Result<bool, TargetError> {
+    let target = Target::parse(alloc, text)?;
+    let copy = target.copy()?;
     Ok(target.text() == text && copy.text() == text)
 }
 
@@ -22,7 +15,7 @@ fn has_text(alloc: Global, text: &[u8]) -> Result<bool, Fail> {
 fn targets_are_short_texts(rt: HostRuntime) -> Result<(), Fail> {
     let alloc = rt.alloc();
     for text in [b"a".as_slice(), b"/", b"../../b", b" ", &[b'a'; 4095]] {
-        let has_text = has_text(alloc, text)?;
+        let has_text = ample!(has_text(alloc, text), TargetError::OutOfMemory)?;
         assert!(rt; has_text);
     }
     for text in [b"".as_slice(), b"a\0", b"a\tb", b"\n", &[b'a'; 4096]] {
@@ -32,16 +25,10 @@ fn targets_are_short_texts(rt: HostRuntime) -> Result<(), Fail> {
     Ok(())
 }
 
-/// Where a link at a path with a target leads.
-fn led(alloc: Global, from: &[u8], target: &[u8]) -> Result<Option<TreePath>, Fail> {
-    let from = path(alloc, from)?;
-    Ok(ample!(canonical(alloc, &from, target), AllocError)?)
-}
-
 /// Whether a link at a path with a target leads to this path, or, where that is empty, to none.
-fn leads_to(alloc: Global, from: &[u8], target: &[u8], to: &[u8]) -> Result<bool, Fail> {
-    let found = led(alloc, from, target)?;
-    Ok(match found {
+fn leads_to(alloc: Global, from: &[u8], target: &[u8], to: &[u8]) -> Result<bool, AllocError> {
+    let from = path(alloc, from)?;
+    Ok(match canonical(alloc, &from, target)? {
         Some(found) => found.text() == to,
         None => to.is_empty(),
     })
@@ -77,7 +64,7 @@ fn links_lead_to_canonical_paths(rt: HostRuntime) -> Result<(), Fail> {
         (b"/a/b", b"/lib/systemd/", b"/lib/systemd"),
     ];
     for (from, target, to) in links {
-        let leads = leads_to(rt.alloc(), from, target, to)?;
+        let leads = ample!(leads_to(rt.alloc(), from, target, to), AllocError)?;
         assert!(rt; leads);
     }
     Ok(())
@@ -89,31 +76,36 @@ fn links_lead_to_no_longer_path(rt: HostRuntime) -> Result<(), Fail> {
     long[0] = b'/';
     for (length, is_path) in [(4095, true), (4096, false)] {
         let target = long.get(..length).unwrap_or(&[]);
-        assert_eq!(rt; led(rt.alloc(), b"/a/b", target)?.is_some(), is_path);
+        let to = if is_path { target } else { b"" };
+        let leads = ample!(leads_to(rt.alloc(), b"/a/b", target, to), AllocError)?;
+        assert!(rt; leads);
     }
     Ok(())
 }
 
+/// Whether a link with this target masks a unit.
+fn masks(alloc: Global, target: &[u8]) -> Result<bool, TargetError> {
+    let from = path(alloc, b"/etc/systemd/system/x.service")?;
+    let target = Target::parse(alloc, target)?;
+    Ok(is_null_target(&from, &target))
+}
+
 #[test]
 fn links_to_dev_null_mask(rt: HostRuntime) -> Result<(), Fail> {
-    let alloc = rt.alloc();
-    let from = path(alloc, b"/etc/systemd/system/x.service")?;
-    for text in [
-        b"/dev/null".as_slice(),
-        b"../../../dev/null",
-        b"//dev/./null",
-        b"/../dev/x/../null/",
-    ] {
-        assert!(rt; is_null_target(&from, &target(alloc, text)?));
-    }
-    for text in [
-        b"dev/null".as_slice(),
-        b"/dev/null/x",
-        b"/dev",
-        b"/lib/systemd/null",
-        b"/dev/nul",
-    ] {
-        assert!(rt; !is_null_target(&from, &target(alloc, text)?));
+    let targets: [(&[u8], bool); 9] = [
+        (b"/dev/null", true),
+        (b"../../../dev/null", true),
+        (b"//dev/./null", true),
+        (b"/../dev/x/../null/", true),
+        (b"dev/null", false),
+        (b"/dev/null/x", false),
+        (b"/dev", false),
+        (b"/lib/systemd/null", false),
+        (b"/dev/nul", false),
+    ];
+    for (target, expected) in targets {
+        let masks = ample!(masks(rt.alloc(), target), TargetError::OutOfMemory)?;
+        assert_eq!(rt; masks, expected);
     }
     Ok(())
 }
