@@ -1,3 +1,4 @@
+pub(crate) mod changes;
 mod entries;
 mod large;
 pub(crate) mod names;

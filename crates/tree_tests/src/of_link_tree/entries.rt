@@ -1,28 +1,8 @@
-use link_tree::{Change, Entry, FileError, PathError, TargetError, TreePath, is_null_link};
+use link_tree::{Change, Entry, FileError, is_null_link};
+use sample_values::{file, link, path};
 use std::alloc::{AllocError, Global};
 use std::test::Fail;
 use unit_name::ample;
-
-fn path(alloc: Global, text: &[u8]) -> Result<TreePath, PathError> {
-    ample!(TreePath::parse(alloc, text), PathError::OutOfMemory)
-}
-
-fn link(alloc: Global, target: &[u8]) -> Result<Entry, TargetError> {
-    ample!(Entry::link(alloc, target), TargetError::OutOfMemory)
-}
-
-fn file(alloc: Global, bytes: &[u8]) -> Result<Entry, FileError> {
-    ample!(Entry::file(alloc, bytes), FileError::OutOfMemory)
-}
-
-/// So many bytes.
-fn bytes(alloc: Global, size: u32) -> Result<Vec<u8>, AllocError> {
-    let mut bytes = Vec::with_capacity(alloc, size as usize)?;
-    for _byte in 0..size {
-        bytes.push(b'x')?;
-    }
-    Ok(bytes)
-}
 
 /// Whether the entry and its copy are files with these bytes.
 fn are_files(entry: &Entry, bytes: &[u8]) -> Result<bool, AllocError> {
@@ -31,8 +11,8 @@ fn are_files(entry: &Entry, bytes: &[u8]) -> Result<bool, AllocError> {
 }
 
 /// Whether so many bytes make a file, and all are in it and in its copy.
-fn make_file(alloc: Global, size: u32) -> Result<bool, FileError> {
-    let bytes = bytes(alloc, size)?;
+fn make_file(alloc: Global, size: usize) -> Result<bool, FileError> {
+    let bytes = Vec::from_elem(alloc, b'x', size)?;
     let entry = Entry::file(alloc, &bytes)?;
     Ok(are_files(&entry, &bytes)?)
 }
@@ -49,7 +29,7 @@ fn files_have_at_most_a_mebibyte(rt: HostRuntime) -> Result<(), Fail> {
 }
 
 /// Whether a link with this target masks a unit.
-fn masks(alloc: Global, target: &[u8]) -> Result<bool, Fail> {
+fn masks(alloc: Global, target: &[u8]) -> Result<bool, AllocError> {
     let from = path(alloc, b"/etc/systemd/system/x.service")?;
     let link = link(alloc, target)?;
     Ok(is_null_link(&from, &link))
@@ -79,45 +59,70 @@ fn links_to_dev_null_mask(rt: HostRuntime) -> Result<(), Fail> {
     Ok(())
 }
 
+/// A link with this target, or a file of these bytes.
+fn entry(alloc: Global, is_link: bool, bytes: &[u8]) -> Result<Entry, AllocError> {
+    if is_link {
+        link(alloc, bytes)
+    } else {
+        file(alloc, bytes)
+    }
+}
+
+/// Whether an entry is the same as a copy of another, each a link or not, of these bytes.
+fn are_same(alloc: Global, one: (bool, &[u8]), other: (bool, &[u8])) -> Result<bool, AllocError> {
+    let one = entry(alloc, one.0, one.1)?;
+    let other = entry(alloc, other.0, other.1)?;
+    let copy = other.copy()?;
+    Ok(one.same(&copy))
+}
+
 #[test]
 fn entries_are_the_same_by_kind_and_bytes(rt: HostRuntime) -> Result<(), Fail> {
-    let alloc = rt.alloc();
-    let entries = [
-        file(alloc, b"")?,
-        file(alloc, b"a")?,
-        file(alloc, b"ab")?,
-        link(alloc, b"a")?,
-        link(alloc, b"ab")?,
+    let entries: [(bool, &[u8]); 5] = [
+        (false, b""),
+        (false, b"a"),
+        (false, b"ab"),
+        (true, b"a"),
+        (true, b"ab"),
     ];
-    for (i, one) in entries.iter().enumerate() {
-        for (j, other) in entries.iter().enumerate() {
-            let copy = ample!(other.copy(), AllocError)?;
-            assert_eq!(rt; one.same(&copy), i == j);
+    for (i, one) in entries.into_iter().enumerate() {
+        for (j, other) in entries.into_iter().enumerate() {
+            let are_same = ample!(are_same(rt.alloc(), one, other), AllocError)?;
+            assert_eq!(rt; are_same, i == j);
         }
     }
     Ok(())
 }
 
+const SLOT: &[u8] = b"/etc/systemd/system/a.service";
+
+/// Whether this is the change of one link at the slot to another.
+fn is_change(change: &Change, before: &[u8], after: &[u8]) -> bool {
+    match (&change.before, &change.after) {
+        (Some(was), Some(is)) => {
+            change.path.text() == SLOT && was.bytes() == before && is.bytes() == after
+        }
+        _ => false,
+    }
+}
+
+/// Whether the change of one link at the slot to another, taken back, is that of the other to the one.
+fn is_taken_back(alloc: Global, before: &[u8], after: &[u8]) -> Result<bool, AllocError> {
+    let change = Change {
+        path: path(alloc, SLOT)?,
+        before: Some(link(alloc, before)?),
+        after: Some(link(alloc, after)?),
+    };
+    let back = change.taken_back()?;
+    Ok(is_change(&back, after, before))
+}
+
 #[test]
 fn a_change_is_taken_back(rt: HostRuntime) -> Result<(), Fail> {
-    let alloc = rt.alloc();
-    let change = Change {
-        path: path(alloc, b"/etc/systemd/system/a.service")?,
-        before: Some(link(alloc, b"b.service")?),
-        after: Some(link(alloc, b"/dev/null")?),
-    };
-    let back = ample!(change.taken_back(), AllocError)?;
-    assert_eq!(rt;
-        back.path.text(),
-        b"/etc/systemd/system/a.service".as_slice()
-    );
-    assert_eq!(rt;
-        back.before.as_ref().map(|entry| entry.bytes()),
-        Some(b"/dev/null".as_slice())
-    );
-    assert_eq!(rt;
-        back.after.as_ref().map(|entry| entry.bytes()),
-        Some(b"b.service".as_slice())
-    );
+    let is_taken_back = ample!(
+        is_taken_back(rt.alloc(), b"b.service", b"/dev/null"),
+        AllocError
+    )?;
+    assert!(rt; is_taken_back);
     Ok(())
 }

@@ -1,15 +1,14 @@
 //! Trees of over 100,000 entries and texts of over 1 GiB. No contract says when memory runs out, so a call that gave up on
 //! such a tree or text would be proved.
-ghost use Rattle.std.specs.Prelude.{◌≡◌, All, None, true};
-ghost use Rattle.std.specs.FinMap as map;
-ghost use Rattle.unit_paths.specs.Slots.{is_slot};
-ghost use Rattle.link_tree.specs.Trees.{AreFrom};
+ghost use Rattle.std.specs.Prelude.{None};
 
+use crate::of_link_tree::changes::{change, changed, empty, set_link};
 use crate::of_link_tree::names::{are_all_of_each, relink};
 use link_tree::{
-    Change, Contents, Entry, Slot, TargetError, ToWrite, Tree, TreePath, push_decimal,
-    write_before_inventory, write_inventory,
+    Change, Contents, Entry, Slot, ToWrite, Tree, TreePath, push_decimal, write_before_inventory,
+    write_inventory,
 };
+use sample_values::path;
 use std::alloc::{AllocError, Global};
 use std::io;
 use std::io::Write;
@@ -24,8 +23,10 @@ const MIDDLE: u32 = 150_000;
 
 const LAST: u32 = 200_099;
 
-/// How many there are.
-const ENTRIES: usize = 100_100;
+/// How many there are, from the first to the last.
+const COUNT: u32 = 100_100;
+
+const ENTRIES: usize = COUNT as usize;
 
 /// Numbers with other digits: their paths come before all others, behind the middle one, and behind all others.
 const NEW_FIRST: u32 = 0;
@@ -37,33 +38,19 @@ const NEW_LAST: u32 = 9;
 /// The slot of the unit of this number.
 fn slot(alloc: Global, number: u32) -> Result<TreePath, AllocError> {
     let text = format!(in alloc; "/etc/systemd/system/{number}.service")?;
-    match TreePath::parse(alloc, text.as_bytes()) {
-        Ok(slot) => Ok(slot),
-        Err(_) => Err(AllocError),
-    }
-}
-
-/// A link with this target, or nothing where that is empty.
-fn link(alloc: Global, target: &[u8]) -> Result<Option<Entry>, AllocError> {
-    match Entry::link(alloc, target) {
-        Ok(entry) => Ok(Some(entry)),
-        Err(TargetError::BadTarget) => Ok(None),
-        Err(TargetError::OutOfMemory) => Err(AllocError),
-    }
+    path(alloc, text.as_bytes())
 }
 
 /// Makes the unit of this number such a link, or takes it away.
 fn set(alloc: Global, tree: &mut Tree, number: u32, target: &[u8]) -> Result<(), AllocError> {
-    let slot = slot(alloc, number)?;
-    if Slot::of(&slot).is_none() {
-        return Err(AllocError);
-    }
-    tree.set(&slot, link(alloc, target)?)
+    set_link(alloc, tree, &slot(alloc, number)?, target)
 }
 
-fn large_tree(alloc: Global) -> Result<Tree, AllocError> {
-    let mut tree = Tree::empty(alloc)?;
-    for number in FIRST..=LAST {
+/// A tree of so many units, all masked: a piece has at most 128 of them.
+fn tree_of(alloc: Global, count: u32) -> Result<Box<Tree>, AllocError> {
+    let mut tree = empty(alloc)?;
+    for place in 0..count {
+        let number = place.saturating_add(FIRST);
         set(alloc, &mut tree, number, b"/dev/null")?;
     }
     Ok(tree)
@@ -118,25 +105,12 @@ fn assert_sets(
 #[test]
 fn units_of_a_large_tree_are_set(rt: HostRuntime) -> Result<(), Fail> {
     let alloc = rt.alloc();
-    let mut tree = ample!(large_tree(alloc), AllocError)?;
+    let mut tree = ample!(tree_of(alloc, COUNT), AllocError)?;
     assert_eq!(rt; tree.len(), ENTRIES);
     assert_sets(&rt, alloc, &mut tree, &SETS)
 }
 
-/// The change of the unit of this number to such a link, or to nothing.
-fn change(alloc: Global, tree: &Tree, number: u32, target: &[u8]) -> Result<Change, AllocError> {
-    let path = slot(alloc, number)?;
-    let before = match tree.get(&path) {
-        Some(entry) => Some(entry.copy()?),
-        None => None,
-    };
-    Ok(Change {
-        path,
-        before,
-        after: link(alloc, target)?,
-    })
-}
-
+/// The changes of these units to such links, or to nothing.
 fn changes(
     alloc: Global,
     tree: &Tree,
@@ -145,60 +119,9 @@ fn changes(
 ) -> Result<Vec<Change>, AllocError> {
     let mut changes = Vec::with_capacity(alloc, numbers.len())?;
     for number in numbers {
-        changes.push(change(alloc, tree, *number, target)?)?;
+        changes.push(change(alloc, tree, slot(alloc, *number)?, target)?)?;
     }
     Ok(changes)
-}
-
-/// Whether the change is at a slot, and from what stands there.
-fn is_from(tree: &Tree, change: &Change) -> bool
-    ensures slot { result ≡ true → is_slot change.now.path ≡ true }
-    ensures from { result ≡ true → map.get tree.now change.now.path ≡ change.now.before }
-{
-    Slot::of(&change.path).is_some()
-        && match (tree.get(&change.path), &change.before) {
-            (Some(there), Some(before)) => there.same(before),
-            (None, None) => true,
-            _ => false,
-        }
-}
-
-/// Whether the changes are none, one or three at slots, each at another, and from what stands there.
-fn are_from(tree: &Tree, changes: &[Change]) -> bool
-    ensures slots { result ≡ true → All (λ change. is_slot change.path ≡ true) changes.now }
-    ensures from { result ≡ true → AreFrom tree.now changes.now }
-{
-    match changes {
-        [] => true,
-        [one] => is_from(tree, one),
-        [one, two, three] => {
-            is_from(tree, one)
-                && is_from(tree, two)
-                && is_from(tree, three)
-                && one.path != two.path
-                && one.path != three.path
-                && two.path != three.path
-        }
-        _ => false,
-    }
-}
-
-/// The tree with these changes.
-fn changed(tree: &Tree, changes: &[Change]) -> Result<Tree, AllocError> {
-    if !are_from(tree, changes) {
-        return Err(AllocError);
-    }
-    tree.with_changes(changes)
-}
-
-/// The same, made in place on a copy.
-fn changed_in_place(tree: &Tree, changes: &[Change]) -> Result<Tree, AllocError> {
-    if !are_from(tree, changes) {
-        return Err(AllocError);
-    }
-    let mut made = tree.copy()?;
-    made.make_changes(changes)?;
-    Ok(made)
 }
 
 /// The tree with these units changed to such links, or taken away.
@@ -208,13 +131,9 @@ fn with_links(
     numbers: &[u32],
     target: &[u8],
     in_place: bool,
-) -> Result<Tree, AllocError> {
+) -> Result<Box<Tree>, AllocError> {
     let changes = changes(alloc, tree, numbers, target)?;
-    if in_place {
-        changed_in_place(tree, &changes)
-    } else {
-        changed(tree, &changes)
-    }
+    changed(alloc, tree, &changes, in_place)
 }
 
 /// Whether all of these units are such links, or none is there.
@@ -284,18 +203,8 @@ fn assert_changed(
 
 #[test]
 fn a_large_tree_is_changed(rt: HostRuntime) -> Result<(), Fail> {
-    let tree = ample!(large_tree(rt.alloc()), AllocError)?;
+    let tree = ample!(tree_of(rt.alloc(), COUNT), AllocError)?;
     assert_changed(&rt, rt.alloc(), &tree, &CHANGES)
-}
-
-/// A tree of so many units, all masked: a piece has at most 128 of them.
-fn tree_of(alloc: Global, count: u32) -> Result<Tree, AllocError> {
-    let mut tree = Tree::empty(alloc)?;
-    for place in 0..count {
-        let number = place.saturating_add(FIRST);
-        set(alloc, &mut tree, number, b"/dev/null")?;
-    }
-    Ok(tree)
 }
 
 /// How many units the tree has that is shared.
@@ -326,6 +235,11 @@ fn changed_alone(
     Ok(are_changed_up_to(alloc, tree, number)? && is_link(alloc, before, number, b"/dev/null")?)
 }
 
+/// A tree that shares its entries with this one.
+fn shared(alloc: Global, tree: &Tree) -> Result<Box<Tree>, AllocError> {
+    Ok(Box::new(alloc, tree.share()?)?)
+}
+
 /// Makes the next unit a link in a tree: it changes there alone, and not in one that shares the entries.
 fn assert_next_changes(
     rt: &impl Abort,
@@ -333,7 +247,7 @@ fn assert_next_changes(
     tree: &mut Tree,
     number: u32,
 ) -> Result<(), AllocError> {
-    let before = ample!(tree.share(), AllocError)?;
+    let before = ample!(shared(alloc, tree), AllocError)?;
     ample!(set(alloc, tree, number, b"a.service"), AllocError)?;
     let is_alone = ample!(changed_alone(alloc, tree, &before, number), AllocError)?;
     assert!(rt; is_alone);
@@ -342,7 +256,7 @@ fn assert_next_changes(
 
 /// Makes the units links in a tree that shares its entries with another, one after another.
 fn assert_changes_alone(rt: &impl Abort, alloc: Global, first: &Tree) -> Result<(), AllocError> {
-    let mut tree = ample!(first.share(), AllocError)?;
+    let mut tree = ample!(shared(alloc, first), AllocError)?;
     for number in FIRST..FIRST + SHARED {
         assert_next_changes(rt, alloc, &mut tree, number)?;
     }
@@ -451,41 +365,32 @@ impl Write for Counted {
     }
 }
 
-/// How many bytes are written of a tree.
-fn written_len(alloc: Global, tree: &Tree) -> Result<usize, AllocError> {
+/// How many bytes are written of a tree, and of a text before it, if there is one.
+fn written_len(alloc: Global, text: Option<&[u8]>, tree: &Tree) -> Result<usize, AllocError> {
     let mut counted = Counted { bytes: 0 };
-    match write_inventory(alloc, tree, &mut ToWrite::new(&mut counted)) {
+    let mut sink = ToWrite::new(&mut counted);
+    let written = match text {
+        Some(text) => write_before_inventory(alloc, text, tree, &mut sink),
+        None => write_inventory(alloc, tree, &mut sink),
+    };
+    match written {
         Ok(()) => Ok(counted.bytes),
         Err(_) => Err(AllocError),
     }
 }
 
-/// How many bytes are written of a text and a tree behind it.
-fn written_len_behind(alloc: Global, text: &[u8], tree: &Tree) -> Result<usize, AllocError> {
-    let mut counted = Counted { bytes: 0 };
-    match write_before_inventory(alloc, text, tree, &mut ToWrite::new(&mut counted)) {
-        Ok(()) => Ok(counted.bytes),
-        Err(_) => Err(AllocError),
-    }
-}
-
-fn large_written_len(alloc: Global) -> Result<usize, AllocError> {
-    let tree = large_tree(alloc)?;
-    written_len(alloc, &tree)
-}
-
-fn large_written_len_behind(alloc: Global, text: &[u8]) -> Result<usize, AllocError> {
-    let tree = large_tree(alloc)?;
-    written_len_behind(alloc, text, &tree)
+fn large_written_len(alloc: Global, text: Option<&[u8]>) -> Result<usize, AllocError> {
+    let tree = tree_of(alloc, COUNT)?;
+    written_len(alloc, text, &tree)
 }
 
 /// A line has 47 bytes: `L`, a path of 34, a target of 9, two tabs and the line end. The first line has 20, and `end` 4.
 #[test]
 fn a_large_tree_is_written(rt: HostRuntime) -> Result<(), Fail> {
-    let len = ample!(large_written_len(rt.alloc()), AllocError)?;
+    let len = ample!(large_written_len(rt.alloc(), None), AllocError)?;
     assert_eq!(rt; len, 20 + ENTRIES * 47 + 4);
     let len = ample!(
-        large_written_len_behind(rt.alloc(), b"== tree\n"),
+        large_written_len(rt.alloc(), Some(b"== tree\n")),
         AllocError
     )?;
     assert_eq!(rt; len, 8 + 20 + ENTRIES * 47 + 4);
@@ -507,12 +412,12 @@ fn set_file(
 }
 
 /// A tree of 1,100 files, which share 1,048,576 bytes.
-fn shared_files(alloc: Global) -> Result<Tree, AllocError> {
+fn shared_files(alloc: Global) -> Result<Box<Tree>, AllocError> {
     let bytes = Vec::from_elem(alloc, b'x', 1_048_576)?;
     let Ok(contents) = Contents::copied(alloc, &bytes) else {
         return Err(AllocError);
     };
-    let mut tree = Tree::empty(alloc)?;
+    let mut tree = empty(alloc)?;
     for number in 1000..2100 {
         set_file(alloc, &mut tree, number, &contents)?;
     }
@@ -522,7 +427,7 @@ fn shared_files(alloc: Global) -> Result<Tree, AllocError> {
 /// How many files there are, and how many bytes are written of them.
 fn shared_files_written(alloc: Global) -> Result<(usize, usize), AllocError> {
     let tree = shared_files(alloc)?;
-    Ok((tree.len(), written_len(alloc, &tree)?))
+    Ok((tree.len(), written_len(alloc, None, &tree)?))
 }
 
 /// The line of a file has 43 bytes: `F`, the length in 7 digits, a path of 32 bytes, two tabs and the line end. Another line
@@ -549,8 +454,8 @@ fn long_text(alloc: Global) -> Result<Vec<u8>, AllocError> {
 /// How many bytes are written of the text, with an empty tree behind it.
 fn long_text_written_len(alloc: Global) -> Result<usize, AllocError> {
     let text = long_text(alloc)?;
-    let tree = Tree::empty(alloc)?;
-    written_len_behind(alloc, &text, &tree)
+    let tree = empty(alloc)?;
+    written_len(alloc, Some(&text), &tree)
 }
 
 /// How long the text is with a digit more.
@@ -585,6 +490,6 @@ fn assert_lists_follow(rt: &impl Abort, alloc: Global, tree: &mut Tree) -> Resul
 
 #[test]
 fn lists_follow_a_thousand_changes(rt: HostRuntime) -> Result<(), Fail> {
-    let mut tree = ample!(Tree::empty(rt.alloc()), AllocError)?;
+    let mut tree = ample!(empty(rt.alloc()), AllocError)?;
     assert_lists_follow(&rt, rt.alloc(), &mut tree)
 }

@@ -1,13 +1,13 @@
 //! The links that belong to a name, as they are looked up. That a tree has nothing listed but its links is proved; here stand the lists
 //! themselves, and what a body that gives up for want of memory would hide.
 
-use link_tree::{
-    Entry, FromRead, PathError, Scope, Slot, TargetError, Tree, TreePath, belongs, read_inventory,
-};
+use crate::of_link_tree::changes::set_link;
+use link_tree::{Scope, Tree, TreePath, belongs};
+use sample_values::{name, path, tree};
 use std::alloc::{AllocError, Global};
 use std::process::Abort;
 use std::test::Fail;
-use unit_name::{NameError, UnitName, ample};
+use unit_name::{UnitName, ample};
 
 /// Three links to one unit, one of which gives it another name; an alias of a template's instance; a link to an instance; masked
 /// units; links of the other scope, and one of no scope.
@@ -24,20 +24,6 @@ L\t/run/systemd/system/multi-user.target.wants/ssh.service\t/lib/systemd/system/
 L\t/lib/systemd/system/opensshd.service\tssh.service\n\
 end\n";
 
-fn read(alloc: Global, text: &[u8]) -> Result<Tree, AllocError> {
-    match read_inventory(alloc, &mut FromRead::new(text)) {
-        Ok(tree) => Ok(tree),
-        Err(_) => Err(AllocError),
-    }
-}
-
-fn unit(alloc: Global, text: &[u8]) -> Result<UnitName, AllocError> {
-    match UnitName::parse(alloc, text) {
-        Ok(name) => Ok(name),
-        Err(NameError::Bad(_) | NameError::OutOfMemory) => Err(AllocError),
-    }
-}
-
 /// Whether the paths have these texts.
 pub(crate) fn have_texts(paths: &[TreePath], texts: &[&[u8]]) -> bool {
     let mut at = 0;
@@ -50,23 +36,32 @@ pub(crate) fn have_texts(paths: &[TreePath], texts: &[&[u8]]) -> bool {
     at == texts.len()
 }
 
-/// Whether these are the links of the scope that belong to the name.
-fn belong(
-    alloc: Global,
-    tree: &Tree,
-    scope: Scope,
-    name: &[u8],
-    paths: &[&[u8]],
-) -> Result<bool, AllocError> {
-    let name = unit(alloc, name)?;
-    Ok(have_texts(tree.belonging(scope, &name), paths))
+/// A scope, a name, and the links of the scope that belong to the name.
+type Row<'a> = (Scope, &'a [u8], &'a [&'a [u8]]);
+
+/// Whether these are the links that belong to the name.
+fn belong(alloc: Global, tree: &Tree, row: &Row) -> Result<bool, AllocError> {
+    let (scope, unit, paths) = row;
+    let unit = name(alloc, unit)?;
+    Ok(have_texts(tree.belonging(*scope, &unit), paths))
+}
+
+/// How many rows there are before the first whose links are others in the tree of `LINKS`.
+fn count_belonging(alloc: Global, rows: &[Row]) -> Result<usize, AllocError> {
+    let tree = tree(alloc, LINKS)?;
+    let mut count = 0usize;
+    for row in rows {
+        if !belong(alloc, &tree, row)? {
+            break;
+        }
+        count = count.saturating_add(1);
+    }
+    Ok(count)
 }
 
 #[test]
 fn links_are_looked_up_by_their_names(rt: HostRuntime) -> Result<(), Fail> {
-    let alloc = rt.alloc();
-    let tree = ample!(read(alloc, LINKS), AllocError)?;
-    let rows: [(Scope, &[u8], &[&[u8]]); 11] = [
+    let rows: [Row; 11] = [
         (
             Scope::Etc,
             b"ssh.service",
@@ -111,35 +106,9 @@ fn links_are_looked_up_by_their_names(rt: HostRuntime) -> Result<(), Fail> {
         ),
         (Scope::Etc, b"file.service", &[]),
     ];
-    for (scope, name, paths) in rows {
-        assert!(rt; ample!(belong(alloc, &tree, scope, name, paths), AllocError)?);
-    }
+    let count = count_belonging(rt.alloc(), &rows)?;
+    assert_eq!(rt; count, rows.len());
     Ok(())
-}
-
-fn path(alloc: Global, text: &[u8]) -> Result<TreePath, AllocError> {
-    match TreePath::parse(alloc, text) {
-        Ok(path) => Ok(path),
-        Err(PathError::BadPath | PathError::OutOfMemory) => Err(AllocError),
-    }
-}
-
-/// A link with this target, or nothing where that is empty.
-fn link(alloc: Global, target: &[u8]) -> Result<Option<Entry>, AllocError> {
-    match Entry::link(alloc, target) {
-        Ok(entry) => Ok(Some(entry)),
-        Err(TargetError::BadTarget) => Ok(None),
-        Err(TargetError::OutOfMemory) => Err(AllocError),
-    }
-}
-
-/// Makes what stands at a slot such a link, or takes it away.
-fn set(alloc: Global, tree: &mut Tree, at: &[u8], target: &[u8]) -> Result<(), AllocError> {
-    let slot = path(alloc, at)?;
-    if Slot::of(&slot).is_none() {
-        return Err(AllocError);
-    }
-    tree.set(&slot, link(alloc, target)?)
 }
 
 /// Whether what is looked up is what belongs to the name of all that stands in the tree, in its order.
@@ -159,7 +128,7 @@ fn are_all(tree: &Tree, scope: Scope, name: &UnitName) -> bool {
 
 /// The unit of this number.
 fn numbered(alloc: Global, number: u32) -> Result<UnitName, AllocError> {
-    unit(alloc, format!(in alloc; "u{number}.service")?.as_bytes())
+    name(alloc, format!(in alloc; "u{number}.service")?.as_bytes())
 }
 
 /// Whether that is so of each of the units.
@@ -174,7 +143,7 @@ pub(crate) fn are_all_of_each(alloc: Global, tree: &Tree) -> Result<bool, AllocE
 }
 
 /// Where the change of this number is made: in one of six directories of both scopes.
-fn place(alloc: Global, number: u32) -> Result<Vec<u8>, AllocError> {
+fn place(alloc: Global, number: u32) -> Result<String, AllocError> {
     let place = match number % 2 {
         0 => "etc",
         _ => "run",
@@ -185,29 +154,27 @@ fn place(alloc: Global, number: u32) -> Result<Vec<u8>, AllocError> {
         _ => "b.target.requires/",
     };
     let unit = number % 13;
-    let text = format!(in alloc; "/{place}/systemd/system/{beneath}u{unit}.service")?;
-    Vec::from_slice(alloc, text.as_bytes())
+    format!(in alloc; "/{place}/systemd/system/{beneath}u{unit}.service")
 }
 
 /// To what: a link to another unit, to the same, to null, or to nothing.
-fn target(alloc: Global, number: u32) -> Result<Vec<u8>, AllocError> {
+fn target(alloc: Global, number: u32) -> Result<String, AllocError> {
     let unit = (number / 5) % 13;
-    let text = match (number / 7) % 6 {
-        0 => format!(in alloc; "/lib/systemd/system/u{unit}.service")?,
-        1 => format!(in alloc; "../u{unit}.service")?,
-        2 => format!(in alloc; "u{unit}.service")?,
-        3 => format!(in alloc; "/dev/null")?,
-        4 => format!(in alloc; "/lib/systemd/system/u{unit}@x.service")?,
-        _ => format!(in alloc; "")?,
-    };
-    Vec::from_slice(alloc, text.as_bytes())
+    match (number / 7) % 6 {
+        0 => format!(in alloc; "/lib/systemd/system/u{unit}.service"),
+        1 => format!(in alloc; "../u{unit}.service"),
+        2 => format!(in alloc; "u{unit}.service"),
+        3 => format!(in alloc; "/dev/null"),
+        4 => format!(in alloc; "/lib/systemd/system/u{unit}@x.service"),
+        _ => format!(in alloc; ""),
+    }
 }
 
 /// Makes the change of this number.
 pub(crate) fn relink(alloc: Global, tree: &mut Tree, number: u32) -> Result<(), AllocError> {
-    let at = place(alloc, number)?;
+    let slot = path(alloc, place(alloc, number)?.as_bytes())?;
     let target = target(alloc, number)?;
-    set(alloc, tree, &at, &target)
+    set_link(alloc, tree, &slot, target.as_bytes())
 }
 
 /// Makes a change that may find no memory: the tree and its lists are then as they were, and the change is made again.
@@ -226,8 +193,7 @@ fn assert_relinked(rt: &impl Abort, alloc: Global, tree: &mut Tree) -> Result<()
 
 #[test]
 fn lists_are_as_before_where_memory_runs_out(rt: HostRuntime) -> Result<(), Fail> {
-    let alloc = rt.alloc();
-    let mut tree = ample!(read(alloc, LINKS), AllocError)?;
-    assert_relinked(&rt, alloc, &mut tree)?;
+    let mut tree = tree(rt.alloc(), LINKS)?;
+    assert_relinked(&rt, rt.alloc(), &mut tree)?;
     Ok(())
 }

@@ -1,7 +1,7 @@
 use link_tree::{
-    Entry, FromRead, InventoryError, InventoryFault, Line, Tree, TreePath, read_inventory,
-    read_line,
+    Entry, FromRead, InventoryError, InventoryFault, Line, Tree, read_inventory, read_line,
 };
+use sample_values::{path, tree};
 use std::alloc::{AllocError, Global};
 use std::process::Abort;
 use std::test::Fail;
@@ -10,15 +10,9 @@ use unit_name::ample;
 /// Two links in no order, and what follows an inventory.
 const TWO_LINKS: &[u8] = b"unitadm-inventory 1\nL\t/b\t/x\nL\t/a/c\ty\nend\n== calls\n";
 
-fn read(alloc: Global, input: &[u8]) -> Result<Tree, InventoryError> {
-    let mut bytes = input;
-    ample!(
-        {
-            bytes = input;
-            read_inventory(alloc, &mut FromRead::new(&mut bytes))
-        },
-        InventoryError::OutOfMemory
-    )
+/// How many entries an inventory has.
+fn count(alloc: Global, input: &[u8]) -> Result<usize, InventoryError> {
+    Ok(read_inventory(alloc, &mut FromRead::new(input))?.len())
 }
 
 fn is_whole(line: &Line, text: &[u8]) -> bool {
@@ -31,9 +25,9 @@ fn is_whole(line: &Line, text: &[u8]) -> bool {
 /// How many entries an inventory has, and whether this line follows it.
 fn read_before(alloc: Global, input: &[u8], text: &[u8]) -> Result<(usize, bool), InventoryError> {
     let mut source = FromRead::new(input);
-    let tree = read_inventory(alloc, &mut source)?;
+    let count = read_inventory(alloc, &mut source)?.len();
     match read_line(alloc, &mut source, 80, InventoryFault::BadLine) {
-        Ok(line) => Ok((tree.len(), is_whole(&line, text))),
+        Ok(line) => Ok((count, is_whole(&line, text))),
         Err(_) => Err(InventoryError::OutOfMemory),
     }
 }
@@ -50,10 +44,12 @@ fn what_follows_an_inventory_is_left(rt: HostRuntime) -> Result<(), Fail> {
 
 fn assert_faults(rt: &impl Abort, alloc: Global, rows: &[(&[u8], InventoryFault, u32)]) {
     for (input, fault, number) in rows {
-        match read(alloc, input) {
-            Err(error) => assert_eq!(rt; error, InventoryError::Fault(*fault, *number)),
-            Ok(_) => panic!(rt; "accepted: {input:?}"),
-        }
+        let count = ample!(count(alloc, input), InventoryError::OutOfMemory);
+        assert_eq!(rt;
+            count,
+            Err(InventoryError::Fault(*fault, *number)),
+            "{input:?}"
+        );
     }
 }
 
@@ -329,9 +325,10 @@ fn many(alloc: Global, rest: &[u8]) -> Result<Vec<u8>, AllocError> {
     Ok(text)
 }
 
-fn read_many(alloc: Global, rest: &[u8]) -> Result<Tree, InventoryError> {
-    let text = ample!(many(alloc, rest), AllocError)?;
-    read(alloc, text.as_slice())
+/// How many entries it has.
+fn count_many(alloc: Global, rest: &[u8]) -> Result<usize, InventoryError> {
+    let text = many(alloc, rest)?;
+    count(alloc, &text)
 }
 
 fn assert_faults_behind_many(
@@ -340,10 +337,12 @@ fn assert_faults_behind_many(
     rows: &[(&[u8], InventoryFault, u32)],
 ) {
     for (rest, fault, number) in rows {
-        match read_many(alloc, rest) {
-            Err(error) => assert_eq!(rt; error, InventoryError::Fault(*fault, *number)),
-            Ok(_) => panic!(rt; "accepted: {rest:?}"),
-        }
+        let count = ample!(count_many(alloc, rest), InventoryError::OutOfMemory);
+        assert_eq!(rt;
+            count,
+            Err(InventoryError::Fault(*fault, *number)),
+            "{rest:?}"
+        );
     }
 }
 
@@ -400,11 +399,9 @@ fn the_first_fault_behind_many_links_is_named(rt: HostRuntime) {
 
 #[test]
 fn all_of_many_links_come_into_the_tree(rt: HostRuntime) -> Result<(), Fail> {
-    let tree = read_many(
-        rt.alloc(),
-        b"L\t/a\t/x\nL\t/etc/systemd/system/z.path\t/x\nend\n",
-    )?;
-    assert_eq!(rt; tree.len(), 26);
+    let rest = b"L\t/a\t/x\nL\t/etc/systemd/system/z.path\t/x\nend\n";
+    let count = ample!(count_many(rt.alloc(), rest), InventoryError::OutOfMemory)?;
+    assert_eq!(rt; count, 26);
     Ok(())
 }
 
@@ -412,9 +409,7 @@ const ANY_BYTES: &[u8] = b"unitadm-inventory 1\nF\t10\t/b\nend\n\n\0\tL\t/\nF\t0
 
 /// Whether a file with these bytes stands at a path of the tree.
 fn holds(alloc: Global, tree: &Tree, at: &[u8], bytes: &[u8]) -> Result<bool, AllocError> {
-    let Ok(path) = TreePath::parse(alloc, at) else {
-        return Err(AllocError);
-    };
+    let path = path(alloc, at)?;
     match tree.get(&path) {
         Some(Entry::File(contents)) => Ok(contents.bytes() == bytes),
         _ => Ok(false),
@@ -423,16 +418,14 @@ fn holds(alloc: Global, tree: &Tree, at: &[u8], bytes: &[u8]) -> Result<bool, Al
 
 /// Whether both files stand in the tree of their inventory.
 fn are_held(alloc: Global) -> Result<bool, AllocError> {
-    let Ok(tree) = read_inventory(alloc, &mut FromRead::new(ANY_BYTES)) else {
-        return Err(AllocError);
-    };
+    let tree = tree(alloc, ANY_BYTES)?;
     Ok(holds(alloc, &tree, b"/b", b"end\n\n\0\tL\t/")? && holds(alloc, &tree, b"/a", b"")?)
 }
 
 /// What a file holds may look like anything.
 #[test]
 fn files_hold_any_bytes(rt: HostRuntime) -> Result<(), Fail> {
-    let are_held = ample!(are_held(rt.alloc()), AllocError)?;
+    let are_held = are_held(rt.alloc())?;
     assert!(rt; are_held);
     Ok(())
 }
@@ -445,9 +438,10 @@ fn a_line_has_at_most_16384_bytes(rt: HostRuntime) {
         (20 + 16384, InventoryFault::Truncated),
         (20 + 16385, InventoryFault::BadLine),
     ] {
-        match read(rt.alloc(), &input[..len]) {
-            Err(error) => assert_eq!(rt; error, InventoryError::Fault(fault, 1)),
-            Ok(_) => panic!(rt; "accepted"),
-        }
+        let count = ample!(
+            count(rt.alloc(), &input[..len]),
+            InventoryError::OutOfMemory
+        );
+        assert_eq!(rt; count, Err(InventoryError::Fault(fault, 1)));
     }
 }

@@ -1,30 +1,19 @@
-use link_tree::{Entry, FileError, PathError, Slot, Tree, TreePath};
+use crate::of_link_tree::changes::empty;
+use link_tree::{Slot, Tree};
+use sample_values::tree;
 use std::alloc::{AllocError, Global};
 use std::test::Fail;
 use unit_name::ample;
 
-/// The tree of one unit file.
-fn tree_of_one(alloc: Global) -> Result<Tree, AllocError> {
-    let slot = match TreePath::parse(alloc, b"/usr/lib/systemd/system/ssh.service") {
-        Ok(slot) => slot,
-        Err(PathError::BadPath | PathError::OutOfMemory) => return Err(AllocError),
-    };
-    let file = match Entry::file(alloc, b"[Install]\nWantedBy=multi-user.target\n") {
-        Ok(file) => file,
-        Err(FileError::TooLarge | FileError::OutOfMemory) => return Err(AllocError),
-    };
-    if Slot::of(&slot).is_none() {
-        return Err(AllocError);
-    }
-    let mut tree = Tree::empty(alloc)?;
-    tree.set(&slot, Some(file))?;
-    Ok(tree)
-}
+/// One unit file.
+const ONE: &[u8] = b"unitadm-inventory 1\n\
+F\t37\t/usr/lib/systemd/system/ssh.service\n[Install]\nWantedBy=multi-user.target\n\n\
+end\n";
 
 /// `tools/each-growth` refuses each growth in turn, so a copy that took memory would fail here. It isn't tried again.
 #[test]
 fn share_takes_nothing(rt: HostRuntime) -> Result<(), Fail> {
-    let tree = ample!(tree_of_one(rt.alloc()), AllocError)?;
+    let tree = tree(rt.alloc(), ONE)?;
     assert!(rt; tree.share().is_ok());
     assert!(rt; tree.copy().is_ok());
     Ok(())
@@ -49,8 +38,8 @@ fn shares_in(one: &Tree, other: &mut Tree) -> Result<bool, AllocError> {
 
 /// A tree with no entry, and then one in which the file stands: both take the file in.
 fn others_share_in(alloc: Global) -> Result<bool, AllocError> {
-    let one = tree_of_one(alloc)?;
-    let mut other = Tree::empty(alloc)?;
+    let one = tree(alloc, ONE)?;
+    let mut other = empty(alloc)?;
     Ok(shares_in(&one, &mut other)? && shares_in(&one, &mut other)? && other.len() == 1)
 }
 

@@ -1,12 +1,6 @@
-ghost use Rattle.std.specs.Prelude.{◌≡◌, All, true};
-ghost use Rattle.std.specs.FinMap as map;
-ghost use Rattle.unit_paths.specs.Slots.{is_slot};
-ghost use Rattle.link_tree.specs.Trees.{AreFrom};
-
-use link_tree::{
-    Change, Entry, FromRead, InventoryError, PathError, Slot, TargetError, ToWrite, Tree, TreePath,
-    WriteError, read_inventory, write_before_inventory, write_inventory,
-};
+use crate::of_link_tree::changes::{change, changed, empty};
+use link_tree::{Change, ToWrite, Tree, WriteError, write_before_inventory, write_inventory};
+use sample_values::{path, tree};
 use std::alloc::{AllocError, Global};
 use std::process::Abort;
 use std::test::Fail;
@@ -18,17 +12,6 @@ const ENTRIES: &[u8] =
 
 const IN_ORDER: &[u8] =
     b"unitadm-inventory 1\nF\t4\t/a-b/c\na\nb\n\nF\t0\t/a/b/c\n\nL\t/a/z\ty\nend\n";
-
-fn entries(alloc: Global) -> Result<Tree, InventoryError> {
-    let mut bytes = ENTRIES;
-    ample!(
-        {
-            bytes = ENTRIES;
-            read_inventory(alloc, &mut FromRead::new(&mut bytes))
-        },
-        InventoryError::OutOfMemory
-    )
-}
 
 fn assert_written(
     rt: &impl Abort,
@@ -51,13 +34,10 @@ fn assert_written(
 #[test]
 fn entries_are_written_in_order(rt: HostRuntime) -> Result<(), Fail> {
     let alloc = rt.alloc();
-    assert_written(&rt, alloc, &entries(alloc)?, IN_ORDER)?;
-    assert_written(
-        &rt,
-        alloc,
-        &ample!(Tree::empty(alloc), AllocError)?,
-        b"unitadm-inventory 1\nend\n",
-    )?;
+    let entries = tree(alloc, ENTRIES)?;
+    assert_written(&rt, alloc, &entries, IN_ORDER)?;
+    let empty = ample!(empty(alloc), AllocError)?;
+    assert_written(&rt, alloc, &empty, b"unitadm-inventory 1\nend\n")?;
     Ok(())
 }
 
@@ -67,13 +47,6 @@ fn long_file(alloc: Global) -> Result<Vec<u8>, AllocError> {
     text.extend_from_slice(&[b'a'; 70000])?;
     text.extend_from_slice(b"\nend\n")?;
     Ok(text)
-}
-
-fn read(alloc: Global, text: &[u8]) -> Result<Tree, AllocError> {
-    match read_inventory(alloc, &mut FromRead::new(text)) {
-        Ok(tree) => Ok(tree),
-        Err(_) => Err(AllocError),
-    }
 }
 
 /// What is written into a list, which takes all but for want of memory.
@@ -87,7 +60,7 @@ fn written(alloc: Global, before: &[u8], tree: &Tree) -> Result<Vec<u8>, AllocEr
 
 /// Whether an inventory is written as it was read, behind another text.
 fn is_written_behind(alloc: Global, before: &[u8], text: &[u8]) -> Result<bool, AllocError> {
-    let tree = read(alloc, text)?;
+    let tree = tree(alloc, text)?;
     let written = written(alloc, before, &tree)?;
     Ok(written.strip_prefix(before) == Some(text))
 }
@@ -105,126 +78,85 @@ fn a_long_file_is_written_behind_a_text(rt: HostRuntime) -> Result<(), Fail> {
     Ok(())
 }
 
-/// The tree with the change made, where it is of an empty slot.
-fn filled(tree: &Tree, change: &Change) -> Result<Option<Tree>, AllocError> {
-    let made = change.copy()?;
-    if Slot::of(&made.path).is_none() || tree.get(&made.path).is_some() || made.before.is_some() {
-        return Ok(None);
-    }
-    Ok(Some(tree.with_changes(&[made])?))
-}
-
-/// The change that links `ssh.service` under another name.
-fn alias(alloc: Global) -> Result<Change, Fail> {
-    let text = b"/etc/systemd/system/sshd.service";
-    let path = ample!(TreePath::parse(alloc, text), PathError::OutOfMemory)?;
-    let entry = ample!(Entry::link(alloc, b"ssh.service"), TargetError::OutOfMemory)?;
-    Ok(Change {
-        path,
-        before: None,
-        after: Some(entry),
-    })
-}
-
-/// How many entries of the one tree are the same in the other.
-fn same_entries(one: &Tree, other: &Tree) -> u32 {
+/// How many entries of a tree are the same in its copy.
+fn count_copied(tree: &Tree) -> Result<u32, AllocError> {
+    let copy = tree.copy()?;
     let mut count = 0u32;
-    for (path, entry) in one.iter() {
-        if other
-            .get(path)
-            .is_some_and(|there| there.bytes() == entry.bytes())
-        {
-            count = count.saturating_add(1);
+    for (path, entry) in copy.iter() {
+        match tree.get(path) {
+            Some(there) if there.bytes() == entry.bytes() => count = count.saturating_add(1),
+            _ => {}
         }
     }
-    count
+    Ok(count)
 }
 
-/// How many entries there are before and after a change that fills a slot, whether its entry stands after it alone, and how many entries a
-/// copy shares with the changed tree.
-fn told_of_filling(tree: &Tree, change: &Change) -> Result<(usize, usize, bool, u32), AllocError> {
-    let Some(changed) = filled(tree, change)? else {
-        return Ok((tree.len(), 0, false, 0));
-    };
-    let copy = changed.copy()?;
-    let is_new = changed.get(&change.path).is_some() && tree.get(&change.path).is_none();
-    Ok((
-        tree.len(),
-        changed.len(),
-        is_new,
-        same_entries(&copy, &changed),
-    ))
-}
-
-fn told_of_an_alias(alloc: Global) -> Result<(usize, usize, bool, u32), Fail> {
-    let change = alias(alloc)?;
-    let tree = entries(alloc)?;
-    Ok(ample!(told_of_filling(&tree, &change), AllocError)?)
+/// How many entries there are before and after a change that fills a slot with a link, whether its entry stands after it alone, and how many
+/// entries a copy shares with the changed tree.
+fn told_of_filling(
+    alloc: Global,
+    slot: &[u8],
+    target: &[u8],
+) -> Result<(usize, usize, bool, u32), AllocError> {
+    let tree = tree(alloc, ENTRIES)?;
+    let slot = path(alloc, slot)?;
+    let changes = [change(alloc, &tree, slot.copy()?, target)?];
+    let changed = changed(alloc, &tree, &changes, false)?;
+    let is_new = changed.get(&slot).is_some() && tree.get(&slot).is_none();
+    Ok((tree.len(), changed.len(), is_new, count_copied(&changed)?))
 }
 
 #[test]
 fn trees_change_at_slots(rt: HostRuntime) -> Result<(), Fail> {
-    let told = told_of_an_alias(rt.alloc())?;
+    let told = ample!(
+        told_of_filling(
+            rt.alloc(),
+            b"/etc/systemd/system/sshd.service",
+            b"ssh.service"
+        ),
+        AllocError
+    )?;
     assert_eq!(rt; told, (3, 4, true, 4));
     Ok(())
 }
 
-/// Whether the changes come to the same in place as on a copy.
-fn are_made_alike(alloc: Global, tree: &Tree, changes: &[Change]) -> Result<bool, AllocError>
-    requires slots { All (λ change. is_slot change.path ≡ true) changes.now }
-    requires from { AreFrom tree.now changes.now }
-{
-    let mut made = tree.copy()?;
-    made.make_changes(changes)?;
-    let changed = tree.with_changes(changes)?;
-    Ok(written(alloc, b"", &made)? == written(alloc, b"", &changed)?)
-}
-
-/// Whether the change fills an empty slot.
-fn fills(tree: &Tree, change: &Change) -> bool
-    ensures slot { result ≡ true → is_slot change.now.path ≡ true }
-    ensures from { result ≡ true → map.get tree.now change.now.path ≡ change.now.before }
-{
-    Slot::of(&change.path).is_some() && tree.get(&change.path).is_none() && change.before.is_none()
-}
-
-/// Whether no change, one and both come to the same in place as on a copy, where these fill two empty slots.
-fn two_are_made_alike(
+/// What is written of the tree with these changes.
+fn written_changed(
     alloc: Global,
     tree: &Tree,
-    one: &Change,
-    other: &Change,
-) -> Result<bool, AllocError> {
-    if !fills(tree, one) || !fills(tree, other) || one.path == other.path {
-        return Ok(false);
-    }
-    Ok(
-        are_made_alike(alloc, tree, &[])?
-            && are_made_alike(alloc, tree, &[one.copy()?])?
-            && are_made_alike(alloc, tree, &[one.copy()?, other.copy()?])?,
-    )
+    changes: &[Change],
+    in_place: bool,
+) -> Result<Vec<u8>, AllocError> {
+    let changed = changed(alloc, tree, changes, in_place)?;
+    written(alloc, b"", &changed)
 }
 
-/// The change that links `/dev/null` where nothing stands.
-fn mask(alloc: Global, at: &[u8]) -> Result<Change, Fail> {
-    let path = ample!(TreePath::parse(alloc, at), PathError::OutOfMemory)?;
-    let entry = ample!(Entry::link(alloc, b"/dev/null"), TargetError::OutOfMemory)?;
-    Ok(Change {
-        path,
-        before: None,
-        after: Some(entry),
-    })
+/// Whether the changes come to the same in place as on a copy.
+fn are_made_alike(alloc: Global, tree: &Tree, changes: &[Change]) -> Result<bool, AllocError> {
+    let in_place = written_changed(alloc, tree, changes, true)?;
+    Ok(in_place == written_changed(alloc, tree, changes, false)?)
+}
+
+/// Whether changes that mask these units come to the same in place as on a copy: none of them, one, and so on to all.
+fn masks_are_made_alike(alloc: Global, slots: &[&[u8]]) -> Result<bool, AllocError> {
+    let tree = tree(alloc, ENTRIES)?;
+    let mut changes = Vec::new(alloc);
+    for slot in slots {
+        if !are_made_alike(alloc, &tree, &changes)? {
+            return Ok(false);
+        }
+        changes.push(change(alloc, &tree, path(alloc, slot)?, b"/dev/null")?)?;
+    }
+    are_made_alike(alloc, &tree, &changes)
 }
 
 #[test]
 fn changes_are_made_in_place_as_on_a_copy(rt: HostRuntime) -> Result<(), Fail> {
-    let tree = entries(rt.alloc())?;
-    let one = mask(rt.alloc(), b"/etc/systemd/system/a.service")?;
-    let other = mask(rt.alloc(), b"/etc/systemd/system/b.service")?;
-    let alike = ample!(
-        two_are_made_alike(rt.alloc(), &tree, &one, &other),
-        AllocError
-    )?;
+    let slots: [&[u8]; 2] = [
+        b"/etc/systemd/system/a.service",
+        b"/etc/systemd/system/b.service",
+    ];
+    let alike = ample!(masks_are_made_alike(rt.alloc(), &slots), AllocError)?;
     assert!(rt; alike);
     Ok(())
 }

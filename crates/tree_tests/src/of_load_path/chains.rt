@@ -1,14 +1,13 @@
 //! Chains of links.
 use super::trees::{
-    Leads, Row, Wanted, assert_finds, assert_leads, assert_looks_at, count_leading,
+    Leads, Row, UNIT, Wanted, assert_finds, assert_leads, assert_looks_at, count_leading,
     count_looked_at, is_led,
 };
-use link_tree::{FromRead, Place, Tree, read_inventory};
+use link_tree::Place;
+use sample_values::tree;
 use std::alloc::{AllocError, Global};
 use std::test::Fail;
 use unit_name::ample;
-
-const UNIT: &[u8] = b"[Unit]\n";
 
 /// Nine links, the first at `a1.service`, of which the last leads to this target, and a file at `ae.service`.
 fn nine_links(target: &'static [u8]) -> [Row<'static>; 10] {
@@ -140,15 +139,8 @@ const LED_FROM_ANYWHERE: [(&[u8], Leads, usize); 5] = [
     (b"/lib/systemd/system/a.service", Leads::Missing, 1),
 ];
 
-fn anywhere(alloc: Global) -> Result<Tree, AllocError> {
-    match read_inventory(alloc, &mut FromRead::new(ANYWHERE)) {
-        Ok(tree) => Ok(tree),
-        Err(_) => Err(AllocError),
-    }
-}
-
 fn count_leading_from_anywhere(alloc: Global) -> Result<usize, AllocError> {
-    let tree = anywhere(alloc)?;
+    let tree = tree(alloc, ANYWHERE)?;
     count_leading(alloc, &tree, &LED_FROM_ANYWHERE)
 }
 

@@ -1,12 +1,11 @@
 //! Aliases, and the files that are no unit's.
-use super::trees::{Row, Wanted, assert_finds, count_looked_at, named};
+use super::trees::{Row, UNIT, Wanted, assert_finds, count_looked_at};
 use link_tree::Place;
 use load_path::put_in;
+use sample_values::name;
 use std::alloc::{AllocError, Global};
 use std::test::Fail;
 use unit_name::{Kind, UnitName, ample};
-
-const UNIT: &[u8] = b"[Unit]\n";
 
 const ALIASES: [Row; 7] = [
     Row::File(Place::Vendor, b"a.service", UNIT),
@@ -204,7 +203,7 @@ fn is_instance(
     instance: Option<&[u8]>,
     text: Option<&[u8]>,
 ) -> Result<bool, AllocError> {
-    let template = named(alloc, b"t@.service")?;
+    let template = name(alloc, b"t@.service")?;
     match instance_of(alloc, &template, instance)? {
         Some(name) => Ok(text == Some(name.text())),
         None => Ok(text.is_none()),

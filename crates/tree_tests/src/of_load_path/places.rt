@@ -1,12 +1,10 @@
 //! Directories, masks and the paths that are looked at.
-use super::trees::{Row, Wanted, assert_finds, assert_looks_at, count_looked_at};
+use super::trees::{Row, UNIT, Wanted, assert_finds, assert_looks_at, count_looked_at};
 use link_tree::Place;
 use std::alloc::{AllocError, Global};
 use std::process::Abort;
 use std::test::Fail;
 use unit_name::ample;
-
-const UNIT: &[u8] = b"[Unit]\n";
 
 const IN_DIRECTORIES: [Row; 4] = [
     Row::File(Place::Vendor, b"a.service", UNIT),

@@ -1,11 +1,16 @@
 //! Trees of units, and what is found in them.
+use crate::of_link_tree::changes::empty;
 use crate::of_link_tree::names::have_texts;
-use link_tree::{Entry, Place, Tree, TreePath};
+use link_tree::{Entry, Place, Tree};
 use load_path::{Cells, End, Found, find, follow, follow_entry_into};
+use sample_values::{file, link, name, path};
 use std::alloc::{AllocError, Global};
 use std::process::Abort;
 use std::test::Fail;
-use unit_name::{UnitName, ample};
+use unit_name::ample;
+
+/// What a unit's file holds: an empty one would be a mask.
+pub(crate) const UNIT: &[u8] = b"[Unit]\n";
 
 /// An entry in a directory of units, under a name.
 #[derive(Clone, Copy)]
@@ -33,43 +38,15 @@ pub(crate) enum Leads<'a> {
     Missing,
 }
 
-pub(crate) fn named(alloc: Global, text: &[u8]) -> Result<UnitName, AllocError> {
-    match UnitName::parse(alloc, text) {
-        Ok(name) => Ok(name),
-        Err(_) => Err(AllocError),
-    }
-}
-
-fn path(alloc: Global, text: &[u8]) -> Result<TreePath, AllocError> {
-    match TreePath::parse(alloc, text) {
-        Ok(path) => Ok(path),
-        Err(_) => Err(AllocError),
-    }
-}
-
-fn file(alloc: Global, bytes: &[u8]) -> Result<Entry, AllocError> {
-    match Entry::file(alloc, bytes) {
-        Ok(file) => Ok(file),
-        Err(_) => Err(AllocError),
-    }
-}
-
-fn link(alloc: Global, target: &[u8]) -> Result<Entry, AllocError> {
-    match Entry::link(alloc, target) {
-        Ok(link) => Ok(link),
-        Err(_) => Err(AllocError),
-    }
-}
-
 fn put(
     alloc: Global,
     tree: &mut Tree,
     place: Place,
-    name: &[u8],
+    unit: &[u8],
     entry: Entry,
 ) -> Result<(), AllocError> {
-    let name = named(alloc, name)?;
-    let slot = place.slot(alloc, &name)?;
+    let unit = name(alloc, unit)?;
+    let slot = place.slot(alloc, &unit)?;
     tree.set(&slot, Some(entry))
 }
 
@@ -80,8 +57,8 @@ fn put_row(alloc: Global, tree: &mut Tree, row: &Row) -> Result<(), AllocError> 
     }
 }
 
-fn tree(alloc: Global, rows: &[Row]) -> Result<Tree, AllocError> {
-    let mut tree = Tree::empty(alloc)?;
+fn tree_of(alloc: Global, rows: &[Row]) -> Result<Box<Tree>, AllocError> {
+    let mut tree = empty(alloc)?;
     for row in rows {
         put_row(alloc, &mut tree, row)?;
     }
@@ -120,9 +97,9 @@ fn is_wanted(found: &Found, wanted: Wanted) -> bool {
     }
 }
 
-fn finds(alloc: Global, tree: &Tree, name: &[u8], wanted: Wanted) -> Result<bool, AllocError> {
-    let name = named(alloc, name)?;
-    let look = find(alloc, tree, &name)?;
+fn finds(alloc: Global, tree: &Tree, unit: &[u8], wanted: Wanted) -> Result<bool, AllocError> {
+    let unit = name(alloc, unit)?;
+    let look = find(alloc, tree, &unit)?;
     Ok(is_wanted(&look.found, wanted))
 }
 
@@ -132,7 +109,7 @@ fn count_found(
     rows: &[Row],
     names: &[(&[u8], Wanted)],
 ) -> Result<usize, AllocError> {
-    let tree = tree(alloc, rows)?;
+    let tree = tree_of(alloc, rows)?;
     let mut count = 0usize;
     for (name, wanted) in names {
         if !finds(alloc, &tree, name, *wanted)? {
@@ -156,10 +133,10 @@ pub(crate) fn assert_finds(
 }
 
 /// The paths that are looked at for a name.
-fn looked_at(alloc: Global, rows: &[Row], name: &[u8]) -> Result<Cells, AllocError> {
-    let tree = tree(alloc, rows)?;
-    let name = named(alloc, name)?;
-    Ok(find(alloc, &tree, &name)?.cells)
+fn looked_at(alloc: Global, rows: &[Row], unit: &[u8]) -> Result<Cells, AllocError> {
+    let tree = tree_of(alloc, rows)?;
+    let unit = name(alloc, unit)?;
+    Ok(find(alloc, &tree, &unit)?.cells)
 }
 
 fn looks_at(alloc: Global, rows: &[Row], name: &[u8], paths: &[&[u8]]) -> Result<bool, AllocError> {
@@ -240,7 +217,7 @@ fn count_leading_in(
     rows: &[Row],
     paths: &[(&[u8], Leads, usize)],
 ) -> Result<usize, AllocError> {
-    let tree = tree(alloc, rows)?;
+    let tree = tree_of(alloc, rows)?;
     count_leading(alloc, &tree, paths)
 }
 
@@ -276,7 +253,7 @@ pub(crate) fn is_led(
     at: &[u8],
     paths: &[&[u8]],
 ) -> Result<bool, AllocError> {
-    let tree = tree(alloc, rows)?;
+    let tree = tree_of(alloc, rows)?;
     match led(alloc, &tree, at)? {
         Some(cells) => Ok(have_texts(cells.as_slice(), paths)),
         None => Ok(false),
