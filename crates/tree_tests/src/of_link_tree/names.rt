@@ -37,7 +37,7 @@ pub(crate) fn have_texts(paths: &[TreePath], texts: &[&[u8]]) -> bool {
 }
 
 /// A scope, a name, and the links of the scope that belong to the name.
-type Row<'a> = (Scope, &'a [u8], &'a [&'a [u8]]);
+type Row = (Scope, &'static [u8], &'static [&'static [u8]]);
 
 /// Whether these are the links that belong to the name.
 fn belong(alloc: Global, tree: &Tree, row: &Row) -> Result<bool, AllocError> {
@@ -59,55 +59,56 @@ fn count_belonging(alloc: Global, rows: &[Row]) -> Result<usize, AllocError> {
     Ok(count)
 }
 
+const BELONGING: [Row; 11] = [
+    (
+        Scope::Etc,
+        b"ssh.service",
+        &[
+            b"/etc/systemd/system/multi-user.target.wants/ssh.service",
+            b"/etc/systemd/system/rescue.target.wants/ssh.service",
+            b"/etc/systemd/system/sshd.service",
+        ],
+    ),
+    (
+        Scope::Etc,
+        b"sshd.service",
+        &[b"/etc/systemd/system/sshd.service"],
+    ),
+    (
+        Scope::Run,
+        b"ssh.service",
+        &[b"/run/systemd/system/multi-user.target.wants/ssh.service"],
+    ),
+    (Scope::Run, b"sshd.service", &[]),
+    (
+        Scope::Etc,
+        b"getty@tty1.service",
+        &[b"/etc/systemd/system/getty.target.wants/getty@tty1.service"],
+    ),
+    (
+        Scope::Etc,
+        b"getty@.service",
+        &[b"/etc/systemd/system/getty.target.wants/getty@tty1.service"],
+    ),
+    (Scope::Etc, b"getty@tty9.service", &[]),
+    (
+        Scope::Etc,
+        b"autovt@.service",
+        &[b"/etc/systemd/system/autovt@.service"],
+    ),
+    (Scope::Etc, b"masked.service", &[]),
+    (
+        Scope::Etc,
+        b"own.service",
+        &[b"/etc/systemd/system/own.service"],
+    ),
+    (Scope::Etc, b"file.service", &[]),
+];
+
 #[test]
 fn links_are_looked_up_by_their_names(rt: HostRuntime) -> Result<(), Fail> {
-    let rows: [Row; 11] = [
-        (
-            Scope::Etc,
-            b"ssh.service",
-            &[
-                b"/etc/systemd/system/multi-user.target.wants/ssh.service",
-                b"/etc/systemd/system/rescue.target.wants/ssh.service",
-                b"/etc/systemd/system/sshd.service",
-            ],
-        ),
-        (
-            Scope::Etc,
-            b"sshd.service",
-            &[b"/etc/systemd/system/sshd.service"],
-        ),
-        (
-            Scope::Run,
-            b"ssh.service",
-            &[b"/run/systemd/system/multi-user.target.wants/ssh.service"],
-        ),
-        (Scope::Run, b"sshd.service", &[]),
-        (
-            Scope::Etc,
-            b"getty@tty1.service",
-            &[b"/etc/systemd/system/getty.target.wants/getty@tty1.service"],
-        ),
-        (
-            Scope::Etc,
-            b"getty@.service",
-            &[b"/etc/systemd/system/getty.target.wants/getty@tty1.service"],
-        ),
-        (Scope::Etc, b"getty@tty9.service", &[]),
-        (
-            Scope::Etc,
-            b"autovt@.service",
-            &[b"/etc/systemd/system/autovt@.service"],
-        ),
-        (Scope::Etc, b"masked.service", &[]),
-        (
-            Scope::Etc,
-            b"own.service",
-            &[b"/etc/systemd/system/own.service"],
-        ),
-        (Scope::Etc, b"file.service", &[]),
-    ];
-    let count = count_belonging(rt.alloc(), &rows)?;
-    assert_eq!(rt; count, rows.len());
+    let count = count_belonging(rt.alloc(), &BELONGING)?;
+    assert_eq!(rt; count, BELONGING.len());
     Ok(())
 }
 
