@@ -38,7 +38,8 @@ fn operators(alloc: Global, letters: &[u8]) -> Result<Operators, AllocError> {
 }
 
 /// A tree with one entry, at the slot of c.
-pub(crate) const FIRST: &[u8] = b"unitadm-inventory 1\nF\t0\t/etc/systemd/system/c.service\n\nend\n";
+pub(crate) const FIRST: &[u8] =
+    b"unitadm-inventory 1\nF\t0\t/etc/systemd/system/c.service\n\nend\n";
 
 /// A history of that tree, shared by alice and bob.
 fn shared(alloc: Global) -> Result<Box<SharedAdmin<Step>>, AllocError> {

@@ -56,7 +56,10 @@ fn add_happening(
     match how {
         b's' => add(events, Event::Snap(0)),
         b'c' => add(events, Event::Commit(0, alice()?)),
-        b'p' => add(events, Event::Plan(0, Box::into_inner(action(alloc, line)?))),
+        b'p' => add(
+            events,
+            Event::Plan(0, Box::into_inner(action(alloc, line)?)),
+        ),
         _ => add_call(alloc, line, events),
     }
 }

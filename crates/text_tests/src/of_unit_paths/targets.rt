@@ -75,10 +75,7 @@ fn links_lead_to_no_longer_path(rt: HostRuntime) -> Result<(), Fail> {
     let mut long = [b'a'; 4096];
     long[0] = b'/';
     let longest = long.get(..4095).unwrap_or(&[]);
-    let leads = ample!(
-        leads_to(rt.alloc(), b"/a/b", longest, longest),
-        AllocError
-    )?;
+    let leads = ample!(leads_to(rt.alloc(), b"/a/b", longest, longest), AllocError)?;
     assert!(rt; leads);
     let leads_nowhere = ample!(leads_to(rt.alloc(), b"/a/b", &long, b""), AllocError)?;
     assert!(rt; leads_nowhere);
