@@ -1,35 +1,22 @@
 //! Commands that follow one another.
 use super::commands::{assert_disabled, assert_enabled, disable, enable, enable_then_disable};
 use crate::outcomes::assert_told;
-use footprint::Then;
+use footprint::{Operation, Then};
 use link_tree::Scope;
 use std::alloc::Global;
 use std::process::Abort;
 use std::test::Fail;
+use unit_name::ample;
 
-/// An enable and then the same once more come to this.
-fn assert_enabled_twice(
+/// A command and then the same once more come to this.
+fn assert_told_twice<O: Operation>(
     rt: &impl Abort,
     alloc: Global,
-    name: &[u8],
+    first: O,
     inventory: &[u8],
     text: &[u8],
 ) -> Result<(), Fail> {
-    let first = enable(alloc, Scope::Etc, name)?;
-    let second = enable(alloc, Scope::Etc, name)?;
-    assert_told(rt, alloc, Then { first, second }, inventory, text)
-}
-
-/// A disable and then the same once more come to this.
-fn assert_disabled_twice(
-    rt: &impl Abort,
-    alloc: Global,
-    name: &[u8],
-    inventory: &[u8],
-    text: &[u8],
-) -> Result<(), Fail> {
-    let first = disable(alloc, Scope::Etc, name)?;
-    let second = disable(alloc, Scope::Etc, name)?;
+    let second = ample!(first.copy(), AllocError)?;
     assert_told(rt, alloc, Then { first, second }, inventory, text)
 }
 
@@ -44,7 +31,8 @@ fn enable_again_changes_nothing(rt: HostRuntime) -> Result<(), Fail> {
     let text = b"done\n\
         + /etc/systemd/system/m.target.wants/b.service -> /usr/lib/systemd/system/b.service\n\
         + /etc/systemd/system/x.service -> /usr/lib/systemd/system/a.service\n";
-    assert_enabled_twice(&rt, rt.alloc(), b"a.service", PAIR, text)
+    let first = enable(rt.alloc(), Scope::Etc, b"a.service")?;
+    assert_told_twice(&rt, rt.alloc(), first, PAIR, text)
 }
 
 /// An enable and then a disable of a unit come to this.
@@ -78,7 +66,8 @@ fn enable_again_may_find_more(rt: HostRuntime) -> Result<(), Fail> {
     let text = b"done\n  ! a@.service: Also a@1.service: dangling\n\
         + /etc/systemd/system/b@.service -> /usr/lib/systemd/system/a@.service\n\
         + /etc/systemd/system/b@1.service -> /usr/lib/systemd/system/a@.service\n";
-    assert_enabled_twice(&rt, alloc, b"a@.service", tree, text)
+    let first = enable(alloc, Scope::Etc, b"a@.service")?;
+    assert_told_twice(&rt, alloc, first, tree, text)
 }
 
 /// The link that goes was the way to a unit, and a file of that name in another directory comes to light.
@@ -97,7 +86,8 @@ fn disable_again_may_find_another_file(rt: HostRuntime) -> Result<(), Fail> {
     let text = b"done\n\
         - /etc/systemd/system/a.service -> /opt/a.service\n\
         - /etc/systemd/system/m.target.wants/b.service -> /usr/lib/systemd/system/b.service\n";
-    assert_disabled_twice(&rt, alloc, b"a.service", tree, text)
+    let first = disable(alloc, Scope::Etc, b"a.service")?;
+    assert_told_twice(&rt, alloc, first, tree, text)
 }
 
 /// The alias that is made hides a unit, which is named no more.
