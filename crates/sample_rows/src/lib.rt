@@ -1,0 +1,11 @@
+//! Rows of tests: a text with a line for each row, in place of a function of its own for each.
+//!
+//! A row is KIND, ONE, TWO and ANSWER, with tabs between them. In these, `\n`, `\r`, `\t`, `\\` and `\xHH` are one byte
+//! each. Fields that are missing at the end are empty. Empty lines and lines that begin with `#` are no rows.
+#![tactic(auto)]
+
+mod fields;
+mod running;
+
+pub use fields::Row;
+pub use running::unlike;
