@@ -1,4 +1,4 @@
-"""Trees of so many entries, as inventories."""
+"""Trees of a given number of entries, and scripts of calls on them."""
 import os
 from typing import NamedTuple
 
@@ -9,7 +9,8 @@ INSTALL = f"[Install]\nWantedBy={TARGETS[1]}\n"
 
 
 class Tree(NamedTuple):
-    """The texts of the entries in random order; the units of /usr/lib, those that are wanted, the files in /opt, the masks."""
+    """The entries as texts in random order, and names of units: those in /usr/lib, those that a
+    target wants, those in /opt, and those that are masked."""
 
     entries: list
     units: list
@@ -23,8 +24,12 @@ def names(what, count):
 
 
 def tree(size, chance):
-    """Half of the entries are unit files of 200 to 4,000 bytes, one in four of these in /opt and the others in
-    /usr/lib/systemd/system, which all are to be wanted by multi-user.target; the others are masks, aliases and links of units that another target wants."""
+    """A tree of about so many entries.
+
+    Half of them are unit files of 200 to 4,000 bytes, each with WantedBy=multi-user.target: a
+    quarter of the files are in /opt, the others in /usr/lib/systemd/system. The other half are
+    masks, aliases, and links to units that another target wants.
+    """
     units, apps = names("unit", size * 3 // 8 - len(TARGETS)), names("app", size // 8)
     masks, wanted = names("mask", size // 6), chance.sample(units, size // 6)
     aliases = names("alias", size // 2 - len(masks) - len(wanted))
@@ -41,14 +46,16 @@ def tree(size, chance):
     return Tree(entries, units, wanted, apps, masks)
 
 
-def write(out, entries, calls):
-    """Writes a script of an operator's calls on such a tree."""
-    out.writelines(["unitadm-inventory 1\n", *entries, "end\n== calls\n"])
-    out.writelines(f"alice {call}\n" for call in calls)
+def write(path, entries, calls, operators=("alice",)):
+    """Writes a script to a file: an inventory of these entries, and the calls, of which the
+    operators make one each in turn."""
+    with open(path, "w") as out:
+        out.writelines(["unitadm-inventory 1\n", *entries, "end\n== calls\n"])
+        out.writelines(f"{operators[n % len(operators)]} {call}\n" for n, call in enumerate(calls))
 
 
 def lay(root, entries):
-    """Makes the files and links of these entries beneath a directory."""
+    """Makes the files and links of these entries below a directory."""
     for text in entries:
         kind, one, two = text.split("\n", 1)[0].split("\t")
         path = root + (two if kind == "F" else one)

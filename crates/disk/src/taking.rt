@@ -58,10 +58,11 @@ impl Taken {
         if self.found.has(slot) {
             return Ok(());
         }
+        let path = slot.copy()?;
         match disk.look(alloc, slot)? {
             Found::Nothing => Ok(()),
-            Found::Entry(entry) => self.add(alloc, slot.copy()?, entry),
-            Found::Odd(oddity) => Err(CaptureError::Odd(slot.copy()?, oddity)),
+            Found::Entry(entry) => self.add(alloc, path, entry),
+            Found::Odd(oddity) => Err(CaptureError::Odd(path, oddity)),
         }
     }
 

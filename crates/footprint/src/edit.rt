@@ -1,12 +1,15 @@
 //! Trees that are edited.
-ghost use Rattle.std.specs.Prelude.{◌≡◌, true, All, IfOk};
+ghost use Rattle.std.specs.Prelude.{◌≡◌, [], true, All, Ok, IfOk, OnOk};
 ghost use Rattle.std.specs.Option.{option_copied};
 ghost use Rattle.std.specs.FinMap as map;
 ghost use Rattle.unit_paths.specs.Slots.{is_slot};
 ghost use Rattle.link_tree.specs.Trees.{set_entry};
-ghost use Rattle.link_tree.specs.Differences.{changes_between};
+ghost use Rattle.link_tree.specs.Differences.{changes_between, with_change};
+ghost use Rattle.footprint.specs.declared.answer.Answer.TheVariants.{Refused};
 ghost use Rattle.footprint.specs.Placing.{ruled_at};
-ghost use Rattle.footprint.specs.Edits.{stepped, ended};
+ghost use Rattle.footprint.specs.Readings.{reading_of};
+ghost use Rattle.footprint.specs.Edits.{GoesOn, stepped, ended};
+ghost use Rattle.footprint.specs.Steps.{all_at_once};
 
 use crate::answer::Answer;
 use crate::changes::Changes;
@@ -15,6 +18,7 @@ use crate::net::NetChanges;
 use crate::outcome::Outcome;
 use crate::reading::Reading;
 use crate::refusal::Refusal;
+use crate::wanted::WantedLinks;
 use link_tree::{Entry, Tree, TreePath};
 use std::alloc::{AllocError, Global};
 use std::marker::Model;
@@ -43,6 +47,23 @@ impl<'a> Model for Edit<'a> {
     ghost view = { λ edit. (edit.first.now, edit.tree) };
 
     ghost invariant = { λ edit. IsEdit edit.first.now edit.tree edit.changes };
+}
+
+/// Puts an entry at a slot of a tree instead of what is there, or with `None` removes that, and notes how the slot then differs from
+/// the first tree.
+pub(crate) fn put_noted(
+    first: &Tree,
+    tree: &mut Tree,
+    changes: &mut NetChanges,
+    slot: &TreePath,
+    entry: Option<Entry>,
+) -> Result<(), AllocError>
+    requires { is_slot slot.now ≡ true }
+    ensures put { OnOk result (tree.new ≡ set_entry tree.old slot.now entry) }
+    ensures noted { OnOk result (changes.new ≡ with_change changes.old slot.now (map.get first.now slot.now) entry) }
+{
+    changes.note(slot, first.get(slot), &entry)?;
+    tree.set(slot, entry)
 }
 
 impl<'a> Edit<'a> {
@@ -77,11 +98,12 @@ impl<'a> Edit<'a> {
         requires { is_slot slot.now ≡ true }
         ensures { IfOk result (λ edit. edit ≡ (self.entry.0, set_entry self.entry.1 slot.now entry)) }
     {
-        let first = self.first;
-        let mut tree = self.tree;
-        let mut changes = self.changes;
-        changes.note(slot, first.get(slot), &entry)?;
-        tree.set(slot, entry)?;
+        let Edit {
+            first,
+            mut tree,
+            mut changes,
+        } = self;
+        put_noted(first, &mut tree, &mut changes, slot, entry)?;
         Ok(Edit {
             first,
             tree,
@@ -102,6 +124,32 @@ impl<'a> Edit<'a> {
         match ruled {
             Ok(entry) => Ok(Ok(self.with(slot, entry)?)),
             Err(refusal) => Ok(Err(refusal)),
+        }
+    }
+
+    /// Makes all links that are wanted in the tree as it is now, and takes away what is not to stand. The cell of each slot is added
+    /// to the keys, also where something else stands or nothing is done. `Exists` names the least path, in byte order, where
+    /// something is in the way of a link. The outer error is want of memory alone.
+    pub fn all_at_once(
+        self,
+        alloc: Global,
+        wanted: &WantedLinks,
+        keys: &mut Keys,
+    ) -> Result<Result<Edit<'a>, Refusal>, AllocError>
+        ensures { IfOk result (GoesOn (all_at_once wanted.now) self.entry keys.old keys.new) }
+    {
+        let Edit {
+            first,
+            mut tree,
+            mut changes,
+        } = self;
+        match wanted.place_in(alloc, first, &mut tree, &mut changes, keys)? {
+            None => Ok(Ok(Edit {
+                first,
+                tree,
+                changes,
+            })),
+            Some(refusal) => Ok(Err(refusal)),
         }
     }
 
@@ -128,18 +176,46 @@ impl Outcome {
         ensures outcome { IfOk result (λ outcome. outcome ≡ ended tree.now keys notices done.entry) }
         ensures slots { IfOk result (λ outcome. All (λ change. is_slot change.path ≡ true) outcome.changes) }
     {
-        let reading = Reading::of(alloc, tree, keys)?;
         match done {
-            Ok(edit) => Ok(Outcome {
-                answer: Answer::Done(notices),
-                changes: edit.into_changes(alloc)?,
-                reading,
-            }),
-            Err(refusal) => Ok(Outcome {
-                answer: Answer::Refused(refusal),
-                changes: Changes::none(alloc),
-                reading,
-            }),
+            Ok(edit) => Outcome::done(alloc, tree, keys, notices, edit),
+            Err(refusal) => Outcome::refused(alloc, tree, keys, refusal),
         }
+    }
+
+    /// The outcome of a command that is carried out.
+    fn done(
+        alloc: Global,
+        tree: &Tree,
+        keys: Keys,
+        notices: Notices,
+        edit: Edit<'_>,
+    ) -> Result<Outcome, AllocError>
+        ensures outcome { IfOk result (λ outcome. outcome ≡ ended tree.now keys notices (Ok edit.entry)) }
+        ensures slots { IfOk result (λ outcome. All (λ change. is_slot change.path ≡ true) outcome.changes) }
+    {
+        let changes = edit.into_changes(alloc)?;
+        let reading = Reading::of(alloc, tree, keys)?;
+        Ok(Outcome {
+            answer: Answer::Done(notices),
+            changes,
+            reading,
+        })
+    }
+
+    /// The outcome of a command that is refused.
+    fn refused(
+        alloc: Global,
+        tree: &Tree,
+        keys: Keys,
+        refusal: Refusal,
+    ) -> Result<Outcome, AllocError>
+        ensures { IfOk result (λ outcome. outcome ≡ record { answer = Refused refusal; changes = []; reading = reading_of keys tree.now }) }
+    {
+        let read = Reading::of(alloc, tree, keys)?;
+        Ok(Outcome {
+            answer: Answer::Refused(refusal),
+            changes: Changes::none(alloc),
+            reading: read,
+        })
     }
 }

@@ -1,5 +1,5 @@
 //! Two readings as one: of a tree, and of the tree after changes of it.
-ghost use Rattle.std.specs.Prelude.{◌≡◌, ◌++◌, ◌∷◌, ◌<◌, ◌+◌, [], length, IfOk, IfSome, MatchOption};
+ghost use Rattle.std.specs.Prelude.{◌≡◌, ◌++◌, ◌∷◌, ◌<◌, ◌+◌, [], length, IfOk, IfSome, MatchOption, OnOk};
 ghost use Rattle.std.specs.List.{list_any};
 ghost use Rattle.link_tree.specs.Trees.{AreFrom, after_changes};
 ghost use Rattle.footprint.specs.Keys as keys;
@@ -85,6 +85,26 @@ fn next_of_both(
     }
 }
 
+/// Adds to a reading what is left of both, as observations of the tree.
+fn read_both(
+    alloc: Global,
+    tree: &Tree,
+    changes: &Changes,
+    first: &mut Observations,
+    second: &mut Observations,
+    reading: &mut Reading,
+) -> Result<(), AllocError>
+    requires from { AreFrom tree.now changes.now }
+    requires first { IsReading tree.now first.old }
+    requires second { IsReading (after_changes changes.now tree.now) second.old }
+    ensures { OnOk result (reading.new ≡ reading.old ++ reading_of (keys_of first.old ++ keys_of second.old) tree.now) }
+{
+    'keys: while let Some(observation) = next_of_both(alloc, tree, changes, first, second)? {
+        reading.push(observation)?;
+    }
+    Ok(())
+}
+
 impl Reading {
     /// The reading of the tree by the keys of both, where the later one is of the tree after changes.
     pub(crate) fn and_then(
@@ -99,18 +119,10 @@ impl Reading {
         requires second { IsReading (after_changes changes.now tree.now) later }
         ensures { IfOk result (λ reading. reading ≡ reading_of (keys_of self ++ keys_of later) tree.now) }
     {
-        let mut reading = Reading::none(alloc);
         let mut first = self.into_observations();
         let mut second = later.into_observations();
-        'keys: while let Some(observation) = next_of_both(
-            alloc,
-            tree,
-            changes,
-            &mut first,
-            &mut second,
-        )? {
-            reading.push(observation)?;
-        }
+        let mut reading = Reading::none(alloc);
+        read_both(alloc, tree, changes, &mut first, &mut second, &mut reading)?;
         Ok(reading)
     }
 }

@@ -1,5 +1,5 @@
 //! Two operations, one after the other.
-ghost use Rattle.std.specs.Prelude.{◌≡◌, [], if◌then◌else◌, All, true, IfOk};
+ghost use Rattle.std.specs.Prelude.{◌≡◌, [], if◌then◌else◌, All, true, IfOk, OnOk};
 ghost use Rattle.unit_paths.specs.Slots.{is_slot};
 ghost use Rattle.link_tree.specs.Trees.{AreFrom, after_changes};
 ghost use Rattle.footprint.specs.Merging.{IsReading};
@@ -12,8 +12,10 @@ use crate::changes::Changes;
 use crate::net::net_changes;
 use crate::operation::Operation;
 use crate::outcome::Outcome;
+use crate::reading::Reading;
 use link_tree::Tree;
 use std::alloc::{AllocError, Global};
+use std::mem::replace;
 
 /// Two operations, one after the other, all or nothing. The second runs on the tree after the first; a refusal of the first is the
 /// outcome, and the second isn't run. The answer is that of the second, with the notices of the first too where both are
@@ -36,18 +38,20 @@ impl Answer {
         }
     }
 
-    /// The answer of this and a later operation: the later one's, with the notices of both where both are done.
-    fn and_then(self, later: Answer) -> Result<Answer, AllocError>
-        ensures { IfOk result (λ answer. answer ≡ answer_of_both self later) }
+    /// Makes this answer, which is that of the later operation, the answer of both: if both are done, it gets the notices of the first
+    /// too.
+    fn follow(&mut self, first: Answer) -> Result<(), AllocError>
+        ensures { OnOk result (self.new ≡ answer_of_both first self.old) }
     {
-        match (self, later) {
-            (Answer::Done(notices), Answer::Done(more)) => {
-                let mut notices = notices;
-                notices.add_all(&more)?;
-                Ok(Answer::Done(notices))
+        match (self, first) {
+            (Answer::Done(more), Answer::Done(first)) => {
+                let mut notices = first;
+                notices.add_all(more)?;
+                *more = notices;
             }
-            (_, later) => Ok(later),
+            (_, first) => drop(first),
         }
+        Ok(())
     }
 }
 
@@ -78,17 +82,31 @@ impl Outcome {
         requires second_reading { IsReading (after_changes self.changes tree.now) later.reading }
         ensures { IfOk result (λ outcome. outcome ≡ outcome_of_both tree.now self later) }
     {
-        let refused = later.answer.is_refused();
-        let changes = changes_of_both(alloc, tree, &self.changes, &later.changes, refused)?;
-        let reading = self
-            .reading
-            .and_then(alloc, tree, &self.changes, later.reading)?;
-        let answer = self.answer.and_then(later.answer)?;
-        Ok(Outcome {
+        let mut outcome = later;
+        outcome.follow(alloc, tree, self)?;
+        Ok(outcome)
+    }
+
+    /// Makes this outcome, which is that of the later operation on the tree after the changes of the first, the outcome of both on the
+    /// tree.
+    fn follow(&mut self, alloc: Global, tree: &Tree, first: Outcome) -> Result<(), AllocError>
+        requires first { AreChanges tree.now first.changes }
+        requires second { AreChanges (after_changes first.changes tree.now) self.old.changes }
+        requires first_reading { IsReading tree.now first.reading }
+        requires second_reading { IsReading (after_changes first.changes tree.now) self.old.reading }
+        ensures { OnOk result (self.new ≡ outcome_of_both tree.now first self.old) }
+    {
+        let Outcome {
             answer,
             changes,
             reading,
-        })
+        } = first;
+        let refused = self.answer.is_refused();
+        self.answer.follow(answer)?;
+        self.changes = changes_of_both(alloc, tree, &changes, &self.changes, refused)?;
+        let later = replace(&mut self.reading, Reading::none(alloc));
+        self.reading = reading.and_then(alloc, tree, &changes, later)?;
+        Ok(())
     }
 }
 

@@ -1,19 +1,20 @@
 //! Links that are wanted, and are made all at once.
-ghost use Rattle.std.specs.Prelude.{◌≡◌, ◌++◌, true, Some, None, map as list_map, IfOk, OnOk, OnErr};
+ghost use Rattle.std.specs.Prelude.{◌≡◌, ◌++◌, true, Some, None, Ok, Err, map as list_map, IfOk, OnOk, OnErr, MatchOption};
 ghost use Rattle.std.specs.FinMap as map;
 ghost use Rattle.unit_paths.specs.Slots.{is_slot};
 ghost use Rattle.footprint.specs.declared.key.Key.TheVariants.{Cell};
-ghost use Rattle.footprint.specs.Edits.{GoesOn};
+ghost use Rattle.footprint.specs.EditLaws.{IsEdit};
+ghost use Rattle.footprint.specs.Edits.{stepped};
 ghost use Rattle.footprint.specs.Keys.{StandAtSlots};
-ghost use Rattle.footprint.specs.Placing.{cleared};
-ghost use Rattle.footprint.specs.Steps.{all_at_once};
+ghost use Rattle.footprint.specs.Placing.{all_wanted, cleared};
 
-use crate::edit::Edit;
+use crate::edit::put_noted;
 use crate::key::Key;
 use crate::keys::Keys;
+use crate::net::NetChanges;
 use crate::refusal::Refusal;
 use crate::rules::wanted_at;
-use link_tree::{TreePart, TreePath};
+use link_tree::{Tree, TreePart, TreePath};
 use std::alloc::{AllocError, Global};
 use std::collections::BTreeMap;
 use std::marker::Model;
@@ -107,30 +108,47 @@ impl WantedLinks {
         }
         Ok(())
     }
-}
 
-impl<'a> Edit<'a> {
-    /// Makes all links that are wanted in the tree as it is now, and takes away what is not to stand. The cell of each slot is added
-    /// to the keys, also where something else stands or nothing is done. `Exists` names the least path, in byte order, where
-    /// something is in the way of a link. The outer error is want of memory alone.
-    pub fn all_at_once(
-        self,
+    /// Makes all links that are wanted in a tree, and removes what is not to be there; the changes are those from the first tree. The
+    /// cell of each slot is added to the keys. What is returned says why this is refused, if it is: at the least path that has a
+    /// reason. If it is refused or memory runs out, some of the links may have been made.
+    pub(crate) fn place_in(
+        &self,
         alloc: Global,
-        wanted: &WantedLinks,
+        first: &Tree,
+        tree: &mut Tree,
+        changes: &mut NetChanges,
         keys: &mut Keys,
-    ) -> Result<Result<Edit<'a>, Refusal>, AllocError>
-        ensures { IfOk result (GoesOn (all_at_once wanted.now) self.entry keys.old keys.new) }
+    ) -> Result<Option<Refusal>, AllocError>
+        requires { IsEdit first.now tree.old changes.old }
+        ensures looked { OnOk result (keys.new ≡ keys.old ++ list_map Cell (map.keys self.now)) }
+        ensures placed { let ruling = all_wanted (map.entries self.now) tree.old in IfOk result (λ refused. MatchOption refused (IsEdit first.now tree.new changes.new × (Ok (first.now, tree.new) ≡ stepped ruling (first.now, tree.old))) (λ refusal. Err refusal ≡ stepped ruling (first.now, tree.old))) }
     {
-        wanted.push_cells(keys)?;
-        let before = self.tree().copy()?;
-        let mut edit = self;
-        for (slot, file) in wanted.by_path.iter() {
+        self.push_cells(keys)?;
+        let before = tree.copy()?;
+        self.place_each(alloc, &before, first, tree, changes)
+    }
+
+    /// The same, by what was in the tree before.
+    fn place_each(
+        &self,
+        alloc: Global,
+        before: &Tree,
+        first: &Tree,
+        tree: &mut Tree,
+        changes: &mut NetChanges,
+    ) -> Result<Option<Refusal>, AllocError>
+        requires edit { IsEdit first.now tree.old changes.old }
+        requires same { before.now ≡ tree.old }
+        ensures { let ruling = all_wanted (map.entries self.now) tree.old in IfOk result (λ refused. MatchOption refused (IsEdit first.now tree.new changes.new × (Ok (first.now, tree.new) ≡ stepped ruling (first.now, tree.old))) (λ refusal. Err refusal ≡ stepped ruling (first.now, tree.old))) }
+    {
+        for (slot, file) in self.by_path.iter() {
             let ruled = wanted_at(alloc, file.as_ref(), slot, before.get(slot))?;
-            match edit.ruled(slot, ruled)? {
-                Ok(next) => edit = next,
-                Err(refusal) => return Ok(Err(refusal)),
+            match ruled {
+                Ok(entry) => put_noted(first, tree, changes, slot, entry)?,
+                Err(refusal) => return Ok(Some(refusal)),
             }
         }
-        Ok(Ok(edit))
+        Ok(None)
     }
 }

@@ -12,15 +12,12 @@ fn entry(alloc: Global, text: &[u8]) -> Result<Option<Entry>, AllocError> {
     }
 }
 
-/// The change at a path from one entry to another.
-pub(crate) fn change(
-    alloc: Global,
-    at: &[u8],
-    before: &[u8],
-    after: &[u8],
-) -> Result<Change, AllocError> {
-    let before = entry(alloc, before)?;
-    let after = entry(alloc, after)?;
+/// The change at a path from one entry to another: these three, with `|` between them.
+pub(crate) fn change(alloc: Global, text: &[u8]) -> Result<Change, AllocError> {
+    let mut parts = text.split(|b| *b == b'|');
+    let at = parts.next().unwrap_or(b"");
+    let before = entry(alloc, parts.next().unwrap_or(b""))?;
+    let after = entry(alloc, parts.next().unwrap_or(b""))?;
     let path = path(alloc, at)?;
     Ok(Change {
         path,

@@ -10,13 +10,19 @@ pub(crate) const EMPTY: &[u8] = b"unitadm-inventory 1\nend\n";
 
 /// A key: `etc:NAME`, `run:NAME`, `presets`, `links`, or the path of a cell.
 pub(crate) fn key(alloc: Global, text: &[u8]) -> Result<Key, AllocError> {
-    match text {
-        b"presets" => Ok(Key::Presets),
-        b"links" => Ok(Key::Links),
-        [b'e', b't', b'c', b':', text @ ..] => Ok(Key::Marked(Scope::Etc, name(alloc, text)?)),
-        [b'r', b'u', b'n', b':', text @ ..] => Ok(Key::Marked(Scope::Run, name(alloc, text)?)),
-        _ => Ok(Key::Cell(path(alloc, text)?)),
+    if text == b"presets".as_slice() {
+        return Ok(Key::Presets);
     }
+    if text == b"links".as_slice() {
+        return Ok(Key::Links);
+    }
+    if let Some(text) = text.strip_prefix(b"etc:") {
+        return Ok(Key::Marked(Scope::Etc, name(alloc, text)?));
+    }
+    if let Some(text) = text.strip_prefix(b"run:") {
+        return Ok(Key::Marked(Scope::Run, name(alloc, text)?));
+    }
+    Ok(Key::Cell(path(alloc, text)?))
 }
 
 fn push_parsed(alloc: Global, keys: &mut Keys, text: &[u8]) -> Result<(), AllocError> {
@@ -38,7 +44,7 @@ fn read(alloc: Global, inventory: &[u8], texts: &[u8]) -> Result<Box<Reading>, A
     Ok(Box::new(alloc, Reading::of(alloc, &tree, keys)?)?)
 }
 
-/// What the tree of an inventory is read as by keys that have spaces between them, asked for again where a growth was refused.
+/// What the tree of an inventory is read as by keys that have spaces between them, asked for again if a growth was refused.
 pub(crate) fn reading(
     alloc: Global,
     inventory: &[u8],

@@ -1,3 +1,4 @@
+mod going_on;
 mod indexes;
 mod listing;
 mod looking_up;

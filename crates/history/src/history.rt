@@ -321,8 +321,9 @@ impl<O: Operation> History<O> {
         ensures number { IfOk result (λ m. m ≡ length self.new.rows) }
         ensures err { OnErr result (self.new ≡ self.old) }
     {
+        self.rows.reserve(1)?;
         let row = Row::of_undo(alloc, operator, n, RowReply::UndoRefused(refusal));
-        self.rows.push(row)?;
+        self.rows.push_reserved(row);
         Ok(self.rows.len() as u32)
     }
 
@@ -337,10 +338,10 @@ impl<O: Operation> History<O> {
     {
         let place = n as usize - 1;
         let back = self.rows[place].changes.inverse()?;
-        let row = Row::of_undo(alloc, operator, n, RowReply::Undid(n));
         self.rows.reserve(1)?;
         self.tree.make_changes(back.as_slice())?;
         self.readers.remove(&self.rows[place].reading, n);
+        let row = Row::of_undo(alloc, operator, n, RowReply::Undid(n));
         self.rows.push_reserved(row);
         let by = self.rows.len() as u32;
         self.rows[place].undone_by = Some(by);

@@ -56,10 +56,8 @@ impl<O: Operation> Plan<O> {
     pub fn into_op(self) -> O
         ensures { result ≡ self.operation }
     {
-        let Plan {
-            operation,
-            outcome: _,
-        } = self;
+        let Plan { operation, outcome } = self;
+        drop(outcome);
         operation
     }
 

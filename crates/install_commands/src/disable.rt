@@ -9,7 +9,7 @@ ghost use Rattle.install_commands.specs.Disable.{with_real, reals_behind, is_its
 ghost use Rattle.footprint.specs.Commands.{unless_refused};
 ghost use Rattle.install_commands.specs.Disable as disabling;
 
-use crate::enable::closed;
+use crate::enable::{closed, placed};
 use footprint::{Edit, Key, Keys, Notices, Operation, Outcome, Refusal, Units, WantedLinks};
 use link_tree::{Scope, Tree, TreePath};
 use load_path::{Cells, Found};
@@ -129,11 +129,19 @@ fn each_once(alloc: Global, names: &[UnitName]) -> Result<Units, AllocError>
     Ok(once)
 }
 
+/// These names with more of them behind, each once.
+fn joined_once(alloc: Global, mut names: Units, more: &[UnitName]) -> Result<Units, AllocError>
+    ensures { IfOk result (λ once. once ≡ each_once (names ++ more.now)) }
+{
+    push_all(&mut names, more)?;
+    each_once(alloc, names.as_slice())
+}
+
 /// The closure of the units that are found as themselves, behind these names. The outer error is want of memory alone.
 fn selves_named(
     alloc: Global,
     tree: &Tree,
-    mut names: Units,
+    names: Units,
     selves: &[UnitName],
     keys: &mut Keys,
 ) -> Result<Result<Named, Refusal>, AllocError>
@@ -141,8 +149,7 @@ fn selves_named(
 {
     match closed(alloc, tree, selves, keys)? {
         Ok(closed) => {
-            push_all(&mut names, closed.units.as_slice())?;
-            let names = each_once(alloc, names.as_slice())?;
+            let names = joined_once(alloc, names, closed.units.as_slice())?;
             let notices = closed.notices;
             Ok(Ok(Named { names, notices }))
         }
@@ -216,6 +223,22 @@ fn links_unwanted(
     WantedLinks::cleared(alloc, &links)
 }
 
+/// The same, but nothing is wanted at the paths that are kept.
+fn links_unwanted_but(
+    alloc: Global,
+    tree: &Tree,
+    scope: Scope,
+    names: &[UnitName],
+    kept: &[TreePath],
+    keys: &mut Keys,
+) -> Result<WantedLinks, AllocError>
+    ensures { IfOk result (Asks tree.now (giving (entries_of_all (list_map (Marked scope) names.now)) (λ links. but_at (cleared links) kept.now)) keys.old keys.new) }
+{
+    let mut wanted = links_unwanted(alloc, tree, scope, names, keys)?;
+    leave_all(&mut wanted, kept);
+    Ok(wanted)
+}
+
 /// The links of the scope that belong to one of the names go, but those that are kept stay.
 pub(crate) fn links_removed_but<'a>(
     alloc: Global,
@@ -227,10 +250,9 @@ pub(crate) fn links_removed_but<'a>(
 ) -> Result<(Notices, Result<Edit<'a>, Refusal>), AllocError>
     ensures { IfOk result (λ done. CarriesOn (disabling.links_removed_but scope kept.now named) edit.entry keys.old keys.new done.0 done.1) }
 {
-    let mut wanted = links_unwanted(alloc, edit.tree(), scope, named.names.as_slice(), keys)?;
-    leave_all(&mut wanted, kept);
-    let done = edit.all_at_once(alloc, &wanted, keys)?;
-    Ok((named.notices, done))
+    let names = named.names.as_slice();
+    let wanted = links_unwanted_but(alloc, edit.tree(), scope, names, kept, keys)?;
+    placed(alloc, edit, &wanted, named.notices, keys)
 }
 
 /// All links of the scope that belong to one of the names go, unless there was a refusal.

@@ -1,10 +1,12 @@
 //! enable.
 ghost use Rattle.std.specs.Prelude.{◌≡◌, IfOk};
 ghost use Rattle.install_section.specs.Closure as closures;
-ghost use Rattle.footprint.specs.Edits.{Carries, CarriesOn};
+ghost use Rattle.install_section.specs.Wanted.{wanted};
+ghost use Rattle.footprint.specs.Edits.{Carries, CarriesOn, GoesOn};
 ghost use Rattle.footprint.specs.Inquiry.{Asks, by_cells, giving};
+ghost use Rattle.footprint.specs.Steps.{all_at_once};
 ghost use Rattle.install_commands.specs.Enable as enabling;
-ghost use Rattle.install_commands.specs.Enable.{unless_too_many, to_stand, links_made, enable_command};
+ghost use Rattle.install_commands.specs.Enable.{unless_too_many, unless_at_odds, to_stand, links_made, enable_command};
 ghost use Rattle.footprint.specs.Commands.{unless_refused};
 
 use crate::check::checked;
@@ -47,6 +49,41 @@ pub(crate) fn closed(
     }
 }
 
+/// The links that units want, or what is wrong with them. The paths that are looked at are added to the keys.
+fn wanted_asked(
+    alloc: Global,
+    tree: &Tree,
+    scope: Scope,
+    skip: bool,
+    units: &[UnitName],
+    keys: &mut Keys,
+) -> Result<Result<Wanted, WantedFault>, AllocError>
+    ensures { IfOk result (Asks tree.now (by_cells (wanted units.now scope skip)) keys.old keys.new) }
+{
+    let mut cells = Cells::new(alloc);
+    let wanted = wanted_into(alloc, tree, units, scope, skip, &mut cells)?;
+    keys.push_cells(cells)?;
+    Ok(wanted)
+}
+
+/// What is wanted, with these notices first, or the refusal.
+fn unless_at_odds(
+    mut notices: Notices,
+    wanted: Result<Wanted, WantedFault>,
+) -> Result<Result<Wanted, Refusal>, AllocError>
+    ensures { IfOk result (λ told. told ≡ unless_at_odds notices wanted) }
+{
+    match wanted {
+        Ok(wanted) => {
+            notices.add_all(&wanted.notices)?;
+            let links = wanted.links;
+            Ok(Ok(Wanted { links, notices }))
+        }
+        Err(WantedFault::NeedsInstance(unit)) => Ok(Err(Refusal::NeedsInstance(unit))),
+        Err(WantedFault::Clash(path)) => Ok(Err(Refusal::Clash(path))),
+    }
+}
+
 /// The links that the units of a closure want, or why not; with `skip` a word that would need an instance asks for nothing.
 fn closed_want(
     alloc: Global,
@@ -58,19 +95,8 @@ fn closed_want(
 ) -> Result<Result<Wanted, Refusal>, AllocError>
     ensures { IfOk result (Asks tree.now (enabling.closed_want scope skip closed) keys.old keys.new) }
 {
-    let Closed { units, mut notices } = closed;
-    let mut cells = Cells::new(alloc);
-    let wanted = wanted_into(alloc, tree, units.as_slice(), scope, skip, &mut cells)?;
-    keys.push_cells(cells)?;
-    match wanted {
-        Ok(wanted) => {
-            notices.add_all(&wanted.notices)?;
-            let links = wanted.links;
-            Ok(Ok(Wanted { links, notices }))
-        }
-        Err(WantedFault::NeedsInstance(unit)) => Ok(Err(Refusal::NeedsInstance(unit))),
-        Err(WantedFault::Clash(path)) => Ok(Err(Refusal::Clash(path))),
-    }
+    let wanted = wanted_asked(alloc, tree, scope, skip, closed.units.as_slice(), keys)?;
+    unless_at_odds(closed.notices, wanted)
 }
 
 /// The links that units want, and those that they name; with `skip` a word that would need an instance asks for nothing. The outer
@@ -119,6 +145,20 @@ fn to_stand(alloc: Global, links: &Links) -> Result<WantedLinks, AllocError>
     Ok(wanted)
 }
 
+/// All that is wanted is placed at once, and these notices are told.
+pub(crate) fn placed<'a>(
+    alloc: Global,
+    edit: Edit<'a>,
+    wanted: &WantedLinks,
+    notices: Notices,
+    keys: &mut Keys,
+) -> Result<(Notices, Result<Edit<'a>, Refusal>), AllocError>
+    ensures { IfOk result (λ done. (done.0 ≡ notices) × GoesOn (all_at_once wanted.now) edit.entry keys.old keys.new done.1) }
+{
+    let done = edit.all_at_once(alloc, wanted, keys)?;
+    Ok((notices, done))
+}
+
 /// The links that are wanted are made, all at once, unless there was a refusal.
 fn made<'a>(
     alloc: Global,
@@ -131,8 +171,7 @@ fn made<'a>(
     match wanted {
         Ok(wanted) => {
             let links = to_stand(alloc, &wanted.links)?;
-            let done = edit.all_at_once(alloc, &links, keys)?;
-            Ok((wanted.notices, done))
+            placed(alloc, edit, &links, wanted.notices, keys)
         }
         Err(refusal) => Ok((Notices::none(alloc), Err(refusal))),
     }

@@ -3,6 +3,7 @@ pub mod Sections
 pub mod SectionLaws
 pub mod Closure
 pub mod ClosureErrors
+pub mod Growing
 pub mod ClosureLaws
 pub mod Wishes
 pub mod WishSlots

@@ -1,8 +1,10 @@
 //! The units that are enabled and disabled together.
-ghost use Rattle.std.specs.Prelude.{◌≡◌, IfOk, OnOk};
-ghost use Rattle.load_path.specs.Search.{Finds, with_cell, each_once};
-ghost use Rattle.install_section.specs.Closure.{why_not, and_then, closed_with, joined, all_joined, skipping, joined_unless, with_name, with_words, with_section, with_unit, closed_from, closure};
+ghost use Rattle.std.specs.Prelude.{◌≡◌, ◌++◌, Some, IfOk, OnOk};
+ghost use Rattle.load_path.specs.Search.{Finds, giving, with_cell, with_cells, each_once};
+ghost use Rattle.load_path.specs.Find.{find};
+ghost use Rattle.install_section.specs.Closure.{why_not, and_then, closed_with, joined, all_joined, skipping, joined_unless, unless_too_many, with_name, with_words, with_section, with_unit, closed_from, closure};
 ghost use Rattle.install_section.specs.ClosureErrors.{Closes};
+ghost use Rattle.install_section.specs.Growing.{grown};
 ghost use Rattle.install_section.specs.Words.{named_by};
 
 use crate::closed::{Closed, Closure, ClosureError, ClosureFault};
@@ -54,159 +56,167 @@ pub fn closure_into(
 ) -> Result<Result<Closed, ClosureFault>, AllocError>
     ensures { IfOk result (λ closed. Finds tree.now (closure given.now) cells.old cells.new closed) }
 {
-    match all_joined(given, Members::none(alloc))? {
+    let mut closed = Closed {
+        units: Members::none(alloc),
+        notices: Notices::none(alloc),
+    };
+    match add_all(alloc, tree, given, &mut closed, cells)? {
         Err(fault) => Ok(Err(fault)),
-        Ok(units) => {
-            let notices = Notices::none(alloc);
-            closed(alloc, tree, Closed { units, notices }, cells)
-        }
+        Ok(()) => Ok(Ok(closed)),
     }
 }
 
-/// These units and the given ones, each once.
-fn all_joined(
-    given: &[UnitName],
-    units: Members,
-) -> Result<Result<Members, ClosureFault>, AllocError>
-    ensures { IfOk result (λ all. all ≡ all_joined given.now units) }
-{
-    let mut units = units;
-    for name in given {
-        match units.joined(name.copy()?)? {
-            Err(fault) => return Ok(Err(fault)),
-            Ok(more) => units = more,
-        }
-    }
-    Ok(Ok(units))
-}
-
-/// Unit after unit, what each names.
-fn closed(
+/// The given units join, and then, unit after unit, what each names.
+fn add_all(
     alloc: Global,
     tree: &Tree,
-    begun: Closed,
+    given: &[UnitName],
+    closed: &mut Closed,
     cells: &mut Cells,
-) -> Result<Result<Closed, ClosureFault>, AllocError>
-    ensures { IfOk result (λ closed. Finds tree.now (closed_from 1024 0 begun) cells.old cells.new closed) }
+) -> Result<Result<(), ClosureFault>, AllocError>
+    ensures { IfOk result (λ end. Finds tree.now (unless_too_many (closed_from 1024 0) (and_then (closed_with closed.old.notices) (all_joined given.now closed.old.units))) cells.old cells.new (grown end closed.new)) }
 {
-    let mut closed = begun;
-    for place in 0..MAX_UNITS {
-        let unit = match closed.units.get(place) {
-            None => return Ok(Ok(closed)),
-            Some(unit) => unit.copy()?,
-        };
-        match with_unit(alloc, tree, &unit, closed, cells)? {
+    match join_all(given, &mut closed.units)? {
+        Err(fault) => Ok(Err(fault)),
+        Ok(()) => close(alloc, tree, closed, cells),
+    }
+}
+
+/// The given units join.
+fn join_all(given: &[UnitName], units: &mut Members) -> Result<Result<(), ClosureFault>, AllocError>
+    ensures { IfOk result (λ end. grown end units.new ≡ all_joined given.now units.old) }
+{
+    for name in given {
+        match units.join(name.copy()?)? {
             Err(fault) => return Ok(Err(fault)),
-            Ok(more) => closed = more,
+            Ok(()) => {}
         }
     }
-    Ok(Ok(closed))
+    Ok(Ok(()))
+}
+
+/// Unit after unit, what each names joins.
+fn close(
+    alloc: Global,
+    tree: &Tree,
+    closed: &mut Closed,
+    cells: &mut Cells,
+) -> Result<Result<(), ClosureFault>, AllocError>
+    ensures { IfOk result (λ end. Finds tree.now (closed_from 1024 0 closed.old) cells.old cells.new (grown end closed.new)) }
+{
+    for place in 0..MAX_UNITS {
+        let unit = match closed.units.get(place) {
+            None => return Ok(Ok(())),
+            Some(unit) => unit.copy()?,
+        };
+        match add_unit(alloc, tree, &unit, closed, cells)? {
+            Err(fault) => return Ok(Err(fault)),
+            Ok(()) => {}
+        }
+    }
+    Ok(Ok(()))
 }
 
 /// What a unit names joins.
 #[tactic(auto, unfolding(crate::specs::Closure::with_unit))]
-fn with_unit(
+fn add_unit(
     alloc: Global,
     tree: &Tree,
     unit: &UnitName,
-    closed: Closed,
+    closed: &mut Closed,
     cells: &mut Cells,
-) -> Result<Result<Closed, ClosureFault>, AllocError>
-    ensures { IfOk result (λ grown. Finds tree.now (with_unit unit.now closed) cells.old cells.new grown) }
+) -> Result<Result<(), ClosureFault>, AllocError>
+    ensures { IfOk result (λ end. Finds tree.now (with_unit unit.now closed.old) cells.old cells.new (grown end closed.new)) }
 {
-    let section = section_into(alloc, tree, unit, cells)?;
-    with_section(alloc, tree, unit, closed, section, cells)
-}
-
-fn with_section(
-    alloc: Global,
-    tree: &Tree,
-    unit: &UnitName,
-    closed: Closed,
-    section: Option<Section>,
-    cells: &mut Cells,
-) -> Result<Result<Closed, ClosureFault>, AllocError>
-    ensures { IfOk result (λ grown. Finds tree.now (with_section unit.now closed section) cells.old cells.new grown) }
-{
-    match section {
-        None => Ok(Ok(closed)),
-        Some(section) => {
-            let identity = section.identity_of(alloc, unit)?;
-            let words = section.text.also.as_slice();
-            with_words(alloc, tree, unit, &identity, words, closed, cells)
-        }
+    match section_into(alloc, tree, unit, cells)? {
+        None => Ok(Ok(())),
+        Some(section) => add_section(alloc, tree, unit, &section, closed, cells),
     }
 }
 
+/// What each word of a section's `Also=` names joins.
+fn add_section(
+    alloc: Global,
+    tree: &Tree,
+    unit: &UnitName,
+    section: &Section,
+    closed: &mut Closed,
+    cells: &mut Cells,
+) -> Result<Result<(), ClosureFault>, AllocError>
+    ensures { IfOk result (λ end. Finds tree.now (with_section unit.now closed.old (Some section.now)) cells.old cells.new (grown end closed.new)) }
+{
+    let identity = section.identity_of(alloc, unit)?;
+    let words = section.text.also.as_slice();
+    add_words(alloc, tree, unit, &identity, words, closed, cells)
+}
+
 /// What each word names joins.
-fn with_words(
+fn add_words(
     alloc: Global,
     tree: &Tree,
     unit: &UnitName,
     identity: &UnitName,
     words: &[Word],
-    closed: Closed,
+    closed: &mut Closed,
     cells: &mut Cells,
-) -> Result<Result<Closed, ClosureFault>, AllocError>
-    ensures { IfOk result (λ grown. Finds tree.now (with_words unit.now identity.now words.now closed) cells.old cells.new grown) }
+) -> Result<Result<(), ClosureFault>, AllocError>
+    ensures { IfOk result (λ end. Finds tree.now (with_words unit.now identity.now words.now closed.old) cells.old cells.new (grown end closed.new)) }
 {
-    let mut closed = closed;
     for word in words {
-        match with_word(alloc, tree, unit, identity, word, closed, cells)? {
+        match add_word(alloc, tree, unit, identity, word, closed, cells)? {
             Err(fault) => return Ok(Err(fault)),
-            Ok(more) => closed = more,
+            Ok(()) => {}
         }
     }
-    Ok(Ok(closed))
+    Ok(Ok(()))
 }
 
 /// What a word names joins, unless it is skipped.
-fn with_word(
+fn add_word(
     alloc: Global,
     tree: &Tree,
     unit: &UnitName,
     identity: &UnitName,
     word: &Word,
-    closed: Closed,
+    closed: &mut Closed,
     cells: &mut Cells,
-) -> Result<Result<Closed, ClosureFault>, AllocError>
-    ensures { IfOk result (λ grown. Finds tree.now (with_name unit.now word.now closed (named_by identity.now word.now)) cells.old cells.new grown) }
+) -> Result<Result<(), ClosureFault>, AllocError>
+    ensures { IfOk result (λ end. Finds tree.now (with_name unit.now word.now closed.old (named_by identity.now word.now)) cells.old cells.new (grown end closed.new)) }
 {
     match named_by(alloc, identity, word)? {
-        Err(reason) => skipping(unit, word, closed, reason),
-        Ok(name) => {
-            let found = find_into(alloc, tree, &name, cells)?;
-            match why_not(&name, &found) {
-                Some(reason) => skipping(unit, word, closed, reason),
-                None => joining(name, closed),
-            }
-        }
+        Err(reason) => skip(unit, word, closed, reason),
+        Ok(name) => match reason_against(alloc, tree, &name, cells)? {
+            Some(reason) => skip(unit, word, closed, reason),
+            None => closed.units.join(name),
+        },
     }
 }
 
 /// A word is skipped, with a notice.
-fn skipping(
+fn skip(
     unit: &UnitName,
     word: &Word,
-    closed: Closed,
+    closed: &mut Closed,
     reason: Reason,
-) -> Result<Result<Closed, ClosureFault>, AllocError>
-    ensures { IfOk result (λ grown. grown ≡ skipping unit.now word.now closed reason) }
+) -> Result<Result<(), ClosureFault>, AllocError>
+    ensures { IfOk result (λ end. grown end closed.new ≡ skipping unit.now word.now closed.old reason) }
 {
-    let Closed { units, mut notices } = closed;
-    notices.add(skipped(unit, NoticeKey::Also, word, reason)?)?;
-    Ok(Ok(Closed { units, notices }))
+    let notice = skipped(unit, NoticeKey::Also, word, reason)?;
+    closed.notices.add(notice)?;
+    Ok(Ok(()))
 }
 
-/// A unit joins.
-fn joining(name: UnitName, closed: Closed) -> Result<Result<Closed, ClosureFault>, AllocError>
-    ensures { IfOk result (λ grown. grown ≡ and_then (closed_with closed.notices) (joined closed.units name)) }
+/// Why a name doesn't join, by what it is found as.
+fn reason_against(
+    alloc: Global,
+    tree: &Tree,
+    name: &UnitName,
+    cells: &mut Cells,
+) -> Result<Option<Reason>, AllocError>
+    ensures { IfOk result (λ reason. Finds tree.now (giving (find name.now) (why_not name.now)) cells.old cells.new reason) }
 {
-    let Closed { units, notices } = closed;
-    match units.joined(name)? {
-        Err(fault) => Ok(Err(fault)),
-        Ok(units) => Ok(Ok(Closed { units, notices })),
-    }
+    let found = find_into(alloc, tree, name, cells)?;
+    Ok(why_not(name, &found))
 }
 
 /// Why what a name is found as doesn't join; `None` for a unit found as itself.
@@ -227,14 +237,20 @@ fn each_once(alloc: Global, cells: Cells) -> Result<Cells, AllocError>
     ensures { IfOk result (λ once. once ≡ each_once cells) }
 {
     let mut seen = IndexSet::new(alloc);
-    'seen: for path in cells.into_paths() {
-        note(&mut seen, path)?;
-    }
+    note_all(&mut seen, cells)?;
     let mut once = Cells::new(alloc);
-    'once: for path in seen {
-        once.push(path)?;
-    }
+    push_all(&mut once, seen)?;
     Ok(once)
+}
+
+/// These paths more, but for those that are there.
+fn note_all(seen: &mut IndexSet<TreePath>, cells: Cells) -> Result<(), AllocError>
+    ensures { OnOk result (seen.new.keys ≡ with_cells seen.old.keys cells) }
+{
+    for path in cells.into_paths() {
+        note(seen, path)?;
+    }
+    Ok(())
 }
 
 /// One path more, unless it is there.
@@ -243,5 +259,15 @@ fn note(seen: &mut IndexSet<TreePath>, path: TreePath) -> Result<(), AllocError>
     ensures { OnOk result (seen.new.keys ≡ with_cell seen.old.keys path) }
 {
     seen.insert(path)?;
+    Ok(())
+}
+
+/// The paths of a set, behind the others.
+fn push_all(once: &mut Cells, seen: IndexSet<TreePath>) -> Result<(), AllocError>
+    ensures { OnOk result (once.new ≡ once.old ++ seen.keys) }
+{
+    for path in seen {
+        once.push(path)?;
+    }
     Ok(())
 }

@@ -4,6 +4,7 @@ ghost use Rattle.std.specs.List.{list_any};
 ghost use Rattle.std.specs.Option.{option_copied};
 ghost use Rattle.std.specs.Str.{bytes_eq};
 ghost use Rattle.install_section.specs.Closure.{joined};
+ghost use Rattle.install_section.specs.Growing.{grown};
 
 use crate::closed::ClosureFault;
 use indexmap::IndexSet;
@@ -38,22 +39,19 @@ impl Members {
         }
     }
 
-    /// With this unit too, which goes last, unless it is there already.
+    /// Adds this unit, which is the last one then, unless it is there already.
     #[tactic(auto, unfolding(crate::specs::Closure::joined))]
-    pub(crate) fn joined(
-        mut self,
-        name: UnitName,
-    ) -> Result<Result<Members, ClosureFault>, AllocError>
-        ensures { IfOk result (λ members. members ≡ joined self name) }
+    pub(crate) fn join(&mut self, name: UnitName) -> Result<Result<(), ClosureFault>, AllocError>
+        ensures { IfOk result (λ end. grown end self.new ≡ joined self.old name) }
     {
         if self.names.contains(&name) {
-            return Ok(Ok(self));
+            return Ok(Ok(()));
         }
         if self.names.len() >= MAX_UNITS {
             return Ok(Err(ClosureFault::TooMany));
         }
         self.names.insert(name)?;
-        Ok(Ok(self))
+        Ok(Ok(()))
     }
 
     /// The names, in the order in which they were found.

@@ -2,7 +2,7 @@
 ghost use Rattle.std.specs.Prelude.{◌≡◌, ◌≤◌, length, IfOk};
 ghost use Rattle.std.specs.Option.{option_copied};
 ghost use Rattle.unit_file.specs.Reading.{text_of};
-ghost use Rattle.load_path.specs.Search.{Finds};
+ghost use Rattle.load_path.specs.Search.{Finds, giving, look};
 ghost use Rattle.install_section.specs.Sections.{bytes_in, section_by, section_of, is_empty, identity_in};
 
 use link_tree::{Entry, Tree, TreePath};
@@ -67,12 +67,24 @@ fn section_by(
 {
     match found {
         Found::Unit { file, .. } => {
-            cells.push(file.copy()?)?;
-            let text = text_in(alloc, tree.get(&file))?;
+            let text = text_at(alloc, tree, &file, cells)?;
             Ok(Some(Section { file, text }))
         }
         _ => Ok(None),
     }
+}
+
+/// What the file at a path asks for. The path is looked at.
+fn text_at(
+    alloc: Global,
+    tree: &Tree,
+    file: &TreePath,
+    cells: &mut Cells,
+) -> Result<InstallText, AllocError>
+    ensures { IfOk result (λ text. Finds tree.now (giving (look file.now) (λ entry. text_of (bytes_in entry))) cells.old cells.new text) }
+{
+    cells.push(file.copy()?)?;
+    text_in(alloc, tree.get(file))
 }
 
 /// What stands at a file's path asks for. It has no line that is too long, since a file has no more bytes than such a line.

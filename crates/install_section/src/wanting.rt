@@ -1,13 +1,14 @@
 //! The links that units want.
-ghost use Rattle.std.specs.Prelude.{◌≡◌, true, IfOk, OnOk};
+ghost use Rattle.std.specs.Prelude.{◌≡◌, true, Some, IfOk, OnOk};
 ghost use Rattle.std.specs.Ordering.{is_lt};
 ghost use Rattle.std.specs.FinMap as map;
 ghost use Rattle.unit_paths.specs.Slots.{is_slot};
 ghost use Rattle.unit_paths.specs.Places.{scope_place};
 ghost use Rattle.link_tree.specs.Trees.{path_cmp};
-ghost use Rattle.load_path.specs.Search.{Finds};
+ghost use Rattle.load_path.specs.Search.{Finds, giving};
 ghost use Rattle.unit_file.specs.Notices.{with_notice};
 ghost use Rattle.install_section.specs.Words.{skipped};
+ghost use Rattle.install_section.specs.Sections.{section_of};
 ghost use Rattle.install_section.specs.Wishes.{words_for, notice_key};
 ghost use Rattle.install_section.specs.Wanted.{least_with, with_link, with_nameless, with_wish, with_words, with_list, with_section, all_wants, no_wants, verdict, wanted};
 ghost use Rattle.install_section.specs.WantedErrors.{Gives};
@@ -71,10 +72,7 @@ pub fn wanted_into(
     ensures { IfOk result (λ given. Finds tree.now (wanted units.now scope skip) cells.old cells.new given) }
 {
     let mut wants = Wants::none(alloc);
-    for unit in units {
-        let section = section_into(alloc, tree, unit, cells)?;
-        wants.add_section(alloc, scope.place(), skip, unit, section)?;
-    }
+    wants.add_all(alloc, tree, units, scope.place(), skip, cells)?;
     Ok(wants.verdict())
 }
 
@@ -190,20 +188,17 @@ impl Wants {
         Ok(())
     }
 
-    /// What a unit wants.
+    /// What the section of a unit wants.
     fn add_section(
         &mut self,
         alloc: Global,
         place: Place,
         skip: bool,
         unit: &UnitName,
-        section: Option<Section>,
+        section: &Section,
     ) -> Result<(), AllocError>
-        ensures { OnOk result (self.new ≡ with_section place skip unit.now self.old section) }
+        ensures { OnOk result (self.new ≡ with_section place skip unit.now self.old (Some section.now)) }
     {
-        let Some(section) = section else {
-            return Ok(());
-        };
         let identity = section.identity_of(alloc, unit)?;
         self.add_list(
             alloc,
@@ -211,7 +206,7 @@ impl Wants {
             skip,
             unit,
             &identity,
-            &section,
+            section,
             LinkKey::WantedBy,
         )?;
         self.add_list(
@@ -220,18 +215,46 @@ impl Wants {
             skip,
             unit,
             &identity,
-            &section,
+            section,
             LinkKey::RequiredBy,
         )?;
-        self.add_list(
-            alloc,
-            place,
-            skip,
-            unit,
-            &identity,
-            &section,
-            LinkKey::Alias,
-        )
+        self.add_list(alloc, place, skip, unit, &identity, section, LinkKey::Alias)
+    }
+
+    /// What a unit wants, which is looked up.
+    fn add_unit(
+        &mut self,
+        alloc: Global,
+        tree: &Tree,
+        place: Place,
+        skip: bool,
+        unit: &UnitName,
+        cells: &mut Cells,
+    ) -> Result<(), AllocError>
+        ensures { OnOk result (Finds tree.now (giving (section_of unit.now) (with_section place skip unit.now self.old)) cells.old cells.new self.new) }
+    {
+        match section_into(alloc, tree, unit, cells)? {
+            None => Ok(()),
+            Some(section) => self.add_section(alloc, place, skip, unit, &section),
+        }
+    }
+
+    /// What units want, unit after unit.
+    fn add_all(
+        &mut self,
+        alloc: Global,
+        tree: &Tree,
+        units: &[UnitName],
+        place: Place,
+        skip: bool,
+        cells: &mut Cells,
+    ) -> Result<(), AllocError>
+        ensures { OnOk result (Finds tree.now (all_wants place skip units.now self.old) cells.old cells.new self.new) }
+    {
+        for unit in units {
+            self.add_unit(alloc, tree, place, skip, unit, cells)?;
+        }
+        Ok(())
     }
 
     /// What the units want, or what is wrong with it.

@@ -6,10 +6,12 @@ use crate::names::{is_for_dependencies, is_of_dependency, may_go_astray, spot_of
 use crate::reading::look_under;
 use crate::root::{Reached, Root};
 use crate::trouble::{Hindrance, Trouble, at, changed, hindered};
+use crate::way::Way;
 use disk::{Found, Listing};
 use link_tree::{Change, Entry, PathError, Target, TreePath, canonical};
 use std::alloc::Global;
 use std::collections::{BTreeMap, BTreeSet};
+use std::fs::DirEntry;
 use std::{fs, io};
 
 /// The files beneath a root, and which directories were gone through.
@@ -104,20 +106,7 @@ impl<'a> RootFiles<'a> {
     fn list_here(&self, alloc: Global, text: &str) -> Result<Listing, Trouble> {
         let mut paths = Vec::new(alloc);
         for found in at(alloc, text, fs::read_dir(self.rt, "."))? {
-            match found {
-                Ok(entry) => {
-                    let name = entry.file_name();
-                    let path = format!(in alloc; "{text}/{name}")?;
-                    match TreePath::parse(alloc, path.as_str().as_bytes()) {
-                        Ok(path) => paths.push(path)?,
-                        Err(PathError::BadPath) => {}
-                        Err(PathError::OutOfMemory) => return Err(Trouble::OutOfMemory),
-                    }
-                }
-                // (a name that isn't UTF-8 gives no path)
-                Err(e) if e.kind() == io::ErrorKind::InvalidFilename => {}
-                Err(e) => return at(alloc, text, Err(e)),
-            }
+            push_found(alloc, text, found, &mut paths)?;
         }
         Ok(Listing::Paths(paths))
     }
@@ -149,24 +138,54 @@ impl<'a> RootFiles<'a> {
         path: &TreePath,
         target: &Target,
     ) -> Result<bool, Trouble> {
-        let Some(written) = canonical(alloc, path, target.text())? else {
-            return Ok(false);
-        };
+        match canonical(alloc, path, target.text())? {
+            Some(written) => self.leads_to(alloc, path, target, &written),
+            None => Ok(false),
+        }
+    }
+
+    /// Whether a link leads to the directory of the path to which it leads by its text.
+    fn leads_to(
+        &mut self,
+        alloc: Global,
+        path: &TreePath,
+        target: &Target,
+        written: &TreePath,
+    ) -> Result<bool, Trouble> {
         let target = text_of(alloc, target.text())?;
         let (above, name) = target.rsplit_once('/').unwrap_or(("", target));
         if name == ".." || name == "." || name.is_empty() {
             return Ok(false);
         }
-        let spot = spot_of(alloc, path)?;
-        let joined = format!(in alloc; "{}/{above}", spot.directory)?;
-        let from = if target.starts_with('/') {
-            above
+        let really = if target.starts_with('/') {
+            self.root.way(self.rt, above)?
         } else {
-            joined.as_str()
+            self.way_from(alloc, path, above)?
         };
-        let really = self.root.way(self.rt, from)?;
-        let by_text = self.root.way(self.rt, spot_of(alloc, &written)?.directory)?;
-        Ok(match (by_text, really) {
+        self.is_way_to(alloc, written, &really)
+    }
+
+    /// The way from the directory of a path.
+    fn way_from(
+        &mut self,
+        alloc: Global,
+        path: &TreePath,
+        rest: &str,
+    ) -> Result<Option<Way>, Trouble> {
+        let spot = spot_of(alloc, path)?;
+        let joined = format!(in alloc; "{}/{rest}", spot.directory)?;
+        self.root.way(self.rt, joined.as_str())
+    }
+
+    /// Whether this is the way to the directory of a path.
+    fn is_way_to(
+        &mut self,
+        alloc: Global,
+        path: &TreePath,
+        way: &Option<Way>,
+    ) -> Result<bool, Trouble> {
+        let by_text = self.root.way(self.rt, spot_of(alloc, path)?.directory)?;
+        Ok(match (&by_text, way) {
             (Some(by_text), Some(really)) => by_text.names == really.names,
             _ => false,
         })
@@ -251,6 +270,36 @@ impl<'a> RootFiles<'a> {
             sync_here(self.rt, spot.directory)?;
         }
         Ok(())
+    }
+}
+
+/// Adds the path of what was found in a directory.
+fn push_found(
+    alloc: Global,
+    directory: &str,
+    found: io::Result<DirEntry>,
+    paths: &mut Vec<TreePath>,
+) -> Result<(), Trouble> {
+    match found {
+        Ok(entry) => push_named(alloc, directory, entry.file_name(), paths),
+        // (a name that isn't UTF-8 gives no path)
+        Err(e) if e.kind() == io::ErrorKind::InvalidFilename => Ok(()),
+        Err(e) => at(alloc, directory, Err(e)),
+    }
+}
+
+/// Adds the path of this name in a directory, if there is such a path.
+fn push_named(
+    alloc: Global,
+    directory: &str,
+    name: &str,
+    paths: &mut Vec<TreePath>,
+) -> Result<(), Trouble> {
+    let path = format!(in alloc; "{directory}/{name}")?;
+    match TreePath::parse(alloc, path.as_str().as_bytes()) {
+        Ok(path) => Ok(paths.push(path)?),
+        Err(PathError::BadPath) => Ok(()),
+        Err(PathError::OutOfMemory) => Err(Trouble::OutOfMemory),
     }
 }
 

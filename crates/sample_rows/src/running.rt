@@ -30,7 +30,7 @@ where
     Ok(())
 }
 
-/// The rows of a text that answer otherwise than they say, each on a line, and behind it what it answers. A row is asked
+/// The rows of a text that answer otherwise than they say, each on a line, and on the next what it answers. A row is asked
 /// again where a growth was refused.
 pub fn unlike<F>(alloc: Global, rows: &[u8], answer: F) -> Result<Vec<u8>, AllocError>
 where

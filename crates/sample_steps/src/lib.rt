@@ -1,4 +1,5 @@
-//! Operations on one slot, for tests of what runs operations: how they are called in a few bytes, and what rows say in a few bytes.
+//! Operations on one slot, for tests of what runs operations; the words by which scripts call them,
+//! and the words of replies.
 #![tactic(auto)]
 
 mod operation;
@@ -6,5 +7,5 @@ mod replies;
 mod words;
 
 pub use operation::Step;
-pub use replies::{digit, push_row, reply_text, unit_at};
-pub use words::{named, number, operator, request, slot_of, step};
+pub use replies::{begin_word, push_numbered, push_pair, push_reply, push_row, reply, unit_at};
+pub use words::{is, number, operator, parts, request, slot_of, step};

@@ -1,9 +1,15 @@
 //! The operation on one slot.
-ghost use Rattle.std.specs.Prelude.{◌≡◌, ◌∷◌, [], IfOk};
+ghost use Rattle.std.specs.Prelude.{◌≡◌, ◌∷◌, [], All, true, IfOk};
 ghost use Rattle.std.specs.FinMap as map;
+ghost use Rattle.unit_paths.specs.Slots.{is_slot};
+ghost use Rattle.footprint.specs.declared.answer.Answer.TheVariants.{State};
+ghost use Rattle.footprint.specs.declared.answer.StateWord.TheVariants.{Static};
 ghost use Rattle.footprint.specs.declared.key.Key.TheVariants.{Cell};
+ghost use Rattle.footprint.specs.Edits.{stepped};
+ghost use Rattle.footprint.specs.Operations.{outcome_of};
+ghost use Rattle.footprint.specs.Placing.{ruled_at};
 ghost use Rattle.footprint.specs.Readings.{reading_of};
-ghost use Rattle.sample_steps.specs.Samples.{left};
+ghost use Rattle.sample_steps.specs.Samples.{commanded, left};
 
 use footprint::{
     Answer, Changes, Edit, Key, Keys, Notices, Operation, Outcome, Reading, Refusal, StateWord,
@@ -20,12 +26,13 @@ pub struct Step {
 }
 
 impl Step {
-    fn read(&self, alloc: Global, tree: &Tree) -> Result<Reading, AllocError>
-        ensures { IfOk result (λ reading. reading ≡ reading_of (Cell self.now.slot ∷ []) tree.now) }
+    /// The one key: the cell of the slot.
+    fn keys(&self, alloc: Global) -> Result<Keys, AllocError>
+        ensures { IfOk result (λ keys. keys ≡ Cell self.now.slot ∷ []) }
     {
         let mut keys = Keys::none(alloc);
         keys.push(Key::Cell(self.slot.copy()?))?;
-        Reading::of(alloc, tree, keys)
+        Ok(keys)
     }
 
     /// What is to stand at the slot, or the refusal.
@@ -44,6 +51,43 @@ impl Step {
             (Some(false), Some(_)) => Ok(Ok(None)),
         }
     }
+
+    /// The tree with the slot as it is left, or the refusal.
+    fn edited<'a>(
+        &self,
+        alloc: Global,
+        tree: &'a Tree,
+    ) -> Result<Result<Edit<'a>, Refusal>, AllocError>
+        requires { is_slot self.now.slot ≡ true }
+        ensures { IfOk result (λ done. done ≡ stepped (ruled_at self.now.slot (left self.now.puts self.now.slot (map.get tree.now self.now.slot))) (tree.now, tree.now)) }
+    {
+        let left = self.left(alloc, tree)?;
+        Edit::new(alloc, tree)?.ruled(&self.slot, left)
+    }
+
+    /// What the command results in.
+    fn commanded(&self, alloc: Global, tree: &Tree) -> Result<Outcome, AllocError>
+        requires { is_slot self.now.slot ≡ true }
+        ensures outcome { IfOk result (λ outcome. outcome ≡ outcome_of (λ step. commanded step.puts step.slot) self.now tree.now) }
+        ensures slots { IfOk result (λ outcome. All (λ change. is_slot change.path ≡ true) outcome.changes) }
+    {
+        let keys = self.keys(alloc)?;
+        let done = self.edited(alloc, tree)?;
+        Outcome::of(alloc, tree, keys, Notices::none(alloc), done)
+    }
+
+    /// What the question results in.
+    fn asked(&self, alloc: Global, tree: &Tree) -> Result<Outcome, AllocError>
+        ensures { IfOk result (λ outcome. outcome ≡ record { answer = State Static; changes = []; reading = reading_of (Cell self.now.slot ∷ []) tree.now }) }
+    {
+        let keys = self.keys(alloc)?;
+        let reading = Reading::of(alloc, tree, keys)?;
+        Ok(Outcome {
+            answer: Answer::State(StateWord::Static),
+            changes: Changes::none(alloc),
+            reading,
+        })
+    }
 }
 
 impl Operation for Step {
@@ -57,30 +101,13 @@ impl Operation for Step {
     ghost laws = { step_laws (λ step. step.asks) (λ step. step.puts) (λ step. step.slot) };
 
     fn run(&self, alloc: Global, tree: &Tree) -> Result<Outcome, AllocError> {
-        let reading = self.read(alloc, tree)?;
         if self.asks {
-            return Ok(Outcome {
-                answer: Answer::State(StateWord::Static),
-                changes: Changes::none(alloc),
-                reading,
-            });
+            return self.asked(alloc, tree);
         }
         if Slot::of(&self.slot).is_none() {
             return Err(AllocError);
         }
-        let left = self.left(alloc, tree)?;
-        match Edit::new(alloc, tree)?.ruled(&self.slot, left)? {
-            Ok(edit) => Ok(Outcome {
-                answer: Answer::Done(Notices::none(alloc)),
-                changes: edit.into_changes(alloc)?,
-                reading,
-            }),
-            Err(refusal) => Ok(Outcome {
-                answer: Answer::Refused(refusal),
-                changes: Changes::none(alloc),
-                reading,
-            }),
-        }
+        self.commanded(alloc, tree)
     }
 
     fn asks_only(&self) -> bool {

@@ -1,43 +1,145 @@
-//! What rows and keys say, in a few bytes.
+//! The words of replies.
+//!
+//! | Word | What it says |
+//! |---|---|
+//! | `ok` | a command was carried out |
+//! | `exists:a` | a command was refused, since something is at the slot of a |
+//! | `absent:a` | a command was refused, since nothing is there |
+//! | `static` | a question was answered |
+//! | `undid:1` | row 1 was undone |
+//! | `no-such-row` | an undo was refused, since there is no such row |
+//! | `not-a-command` | an undo was refused, since the row is no accepted command |
+//! | `already-undone:2` | an undo was refused, since row 2 undid the row before |
+//! | `blocked:2` | an undo was refused, since row 2 looked at what the row changed |
+//!
+//! With the operator of a row: `alice:ok`.
 
 use crate::operation::Step;
-use crate::words::slot_of;
-use footprint::{Answer, Key};
+use crate::words::{is, number, parts, slot_of, slot_path};
+use footprint::{Answer, Key, Notices, Refusal, StateWord};
 use history::{Row, RowReply, UndoRefusal};
-use std::alloc::AllocError;
+use link_tree::{TreePath, push_decimal};
+use std::alloc::{AllocError, Global};
 
-/// A number as one byte: a digit below ten, and then what follows the digits.
-pub fn digit(n: u32) -> u8 {
-    u8::try_from(n).map_or(b'?', |n| b'0'.wrapping_add(n))
+/// Adds a space, if there are words before.
+pub fn begin_word(out: &mut Vec<u8>) -> Result<(), AllocError> {
+    if out.is_empty() {
+        return Ok(());
+    }
+    out.extend_from_slice(b" ")
 }
 
-/// The letter of the unit at whose slot a key looks.
-pub fn unit_at(key: &Key) -> u8 {
+/// Adds a word and its part: `stale:a`.
+pub fn push_pair(out: &mut Vec<u8>, word: &[u8], part: &[u8]) -> Result<(), AllocError> {
+    out.extend_from_slice(word)?;
+    out.extend_from_slice(b":")?;
+    out.extend_from_slice(part)
+}
+
+/// Adds a word and a number: `row:1`.
+pub fn push_numbered(out: &mut Vec<u8>, word: &[u8], n: u32) -> Result<(), AllocError> {
+    push_pair(out, word, b"")?;
+    push_decimal(out, n as usize)
+}
+
+/// The unit whose slot a path is.
+fn unit_of(path: &TreePath) -> &'static [u8] {
+    if path.text() == slot_of(b"a") {
+        return b"a";
+    }
+    if path.text() == slot_of(b"b") {
+        return b"b";
+    }
+    b"c"
+}
+
+/// The unit at whose slot a key looks.
+pub fn unit_at(key: &Key) -> &'static [u8] {
     match key {
-        Key::Cell(path) if path.text() == slot_of(b'a') => b'a',
-        Key::Cell(path) if path.text() == slot_of(b'b') => b'b',
-        Key::Cell(_) => b'c',
-        _ => b'?',
+        Key::Cell(path) => unit_of(path),
+        _ => b"?",
     }
 }
 
-/// What a reply says: that it was done, refused or told, or why an undo was refused; and the row that it names.
-pub fn reply_text(reply: &RowReply) -> [u8; 2] {
+fn push_answer(out: &mut Vec<u8>, answer: &Answer) -> Result<(), AllocError> {
+    match answer {
+        Answer::Done(_) => out.extend_from_slice(b"ok"),
+        Answer::State(StateWord::Static) => out.extend_from_slice(b"static"),
+        Answer::Refused(Refusal::Exists(path)) => push_pair(out, b"exists", unit_of(path)),
+        Answer::Refused(Refusal::Absent(path)) => push_pair(out, b"absent", unit_of(path)),
+        _ => out.extend_from_slice(b"another-answer"),
+    }
+}
+
+fn push_undo_refusal(out: &mut Vec<u8>, refusal: UndoRefusal) -> Result<(), AllocError> {
+    match refusal {
+        UndoRefusal::NoSuchRow => out.extend_from_slice(b"no-such-row"),
+        UndoRefusal::NotACommand => out.extend_from_slice(b"not-a-command"),
+        UndoRefusal::AlreadyUndone(n) => push_numbered(out, b"already-undone", n),
+        UndoRefusal::Blocked(n) => push_numbered(out, b"blocked", n),
+    }
+}
+
+/// Adds the word of a reply.
+pub fn push_reply(out: &mut Vec<u8>, reply: &RowReply) -> Result<(), AllocError> {
     match reply {
-        RowReply::Answered(Answer::Refused(_)) => *b"r-",
-        RowReply::Answered(Answer::State(_)) => *b"s-",
-        RowReply::Answered(_) => *b"k-",
-        RowReply::Undid(n) => [b'U', digit(*n)],
-        RowReply::UndoRefused(UndoRefusal::NoSuchRow) => *b"n-",
-        RowReply::UndoRefused(UndoRefusal::NotACommand) => *b"c-",
-        RowReply::UndoRefused(UndoRefusal::AlreadyUndone(n)) => [b'a', digit(*n)],
-        RowReply::UndoRefused(UndoRefusal::Blocked(n)) => [b'b', digit(*n)],
+        RowReply::Answered(answer) => push_answer(out, answer),
+        RowReply::Undid(n) => push_numbered(out, b"undid", *n),
+        RowReply::UndoRefused(refusal) => push_undo_refusal(out, *refusal),
     }
 }
 
-/// Adds the first letter of a row's operator, and what its reply says.
+/// Adds a row's operator and reply.
 pub fn push_row(out: &mut Vec<u8>, row: &Row<Step>) -> Result<(), AllocError> {
-    let operator = row.operator.text().first().copied().unwrap_or(b'?');
-    let [what, which] = reply_text(&row.reply);
-    Ok(out.extend_from_slice(&[operator, what, which])?)
+    push_pair(out, row.operator.text(), b"")?;
+    push_reply(out, &row.reply)
+}
+
+fn undo_refusal(word: &[u8]) -> Result<UndoRefusal, AllocError> {
+    let (first, n) = parts(word);
+    if is(first, b"no-such-row") {
+        return Ok(UndoRefusal::NoSuchRow);
+    }
+    if is(first, b"not-a-command") {
+        return Ok(UndoRefusal::NotACommand);
+    }
+    if is(first, b"already-undone") {
+        return Ok(UndoRefusal::AlreadyUndone(number(n)));
+    }
+    if is(first, b"blocked") {
+        return Ok(UndoRefusal::Blocked(number(n)));
+    }
+    Err(AllocError)
+}
+
+/// The answer of a word.
+fn answer(alloc: Global, word: &[u8]) -> Result<Option<Answer>, AllocError> {
+    let (first, unit) = parts(word);
+    if is(first, b"ok") {
+        return Ok(Some(Answer::Done(Notices::none(alloc))));
+    }
+    if is(first, b"static") {
+        return Ok(Some(Answer::State(StateWord::Static)));
+    }
+    if is(first, b"exists") {
+        let refusal = Refusal::Exists(slot_path(alloc, unit)?);
+        return Ok(Some(Answer::Refused(refusal)));
+    }
+    if is(first, b"absent") {
+        let refusal = Refusal::Absent(slot_path(alloc, unit)?);
+        return Ok(Some(Answer::Refused(refusal)));
+    }
+    Ok(None)
+}
+
+/// The reply of a word. Fails if the word is no reply, or if memory runs out.
+pub fn reply(alloc: Global, word: &[u8]) -> Result<RowReply, AllocError> {
+    let (first, n) = parts(word);
+    if is(first, b"undid") {
+        return Ok(RowReply::Undid(number(n)));
+    }
+    match answer(alloc, word)? {
+        Some(answer) => Ok(RowReply::Answered(answer)),
+        None => Ok(RowReply::UndoRefused(undo_refusal(word)?)),
+    }
 }

@@ -1,63 +1,102 @@
-//! What letters and digits stand for.
+//! The words of scripts.
+//!
+//! | Word | What it asks for |
+//! |---|---|
+//! | `put:a` | the step that puts an empty file at the slot of a, `/etc/systemd/system/a.service` |
+//! | `remove:a` | the step that removes the file there |
+//! | `look:a` | the step that only looks there, and changes nothing |
+//! | `ask:a` | the question that looks there |
+//! | `undo:1` | the undo of row 1 |
+//!
+//! The units are a, b and c. Operators are called by their names. Other words of tests are made of
+//! these, with colons between the parts: `alice:put:a`.
 
 use crate::operation::Step;
 use history::{Operator, Request};
 use link_tree::TreePath;
 use std::alloc::{AllocError, Global};
 
-/// The slot of the unit of a letter: `a`, `b`, and `c` for all others.
-pub fn slot_of(unit: u8) -> &'static [u8] {
-    match unit {
-        b'a' => b"/etc/systemd/system/a.service",
-        b'b' => b"/etc/systemd/system/b.service",
-        _ => b"/etc/systemd/system/c.service",
+/// The first part of a word, and the parts behind it.
+pub fn parts(word: &[u8]) -> (&[u8], &[u8]) {
+    let mut parts = word.splitn(2, |b| *b == b':');
+    let first = parts.next().unwrap_or(b"");
+    (first, parts.next().unwrap_or(b""))
+}
+
+/// Whether a word is this one. (A `match` on words is dear: it looks at them byte by byte.)
+pub fn is(word: &[u8], wanted: &[u8]) -> bool {
+    word == wanted
+}
+
+/// The number that these digits write.
+pub fn number(digits: &[u8]) -> u32 {
+    let mut number = 0u32;
+    for digit in digits {
+        let value = u32::from(digit.wrapping_sub(b'0'));
+        number = number.wrapping_mul(10).wrapping_add(value);
+    }
+    number
+}
+
+/// The slot of a unit: of a, of b, and of c for all others.
+pub fn slot_of(unit: &[u8]) -> &'static [u8] {
+    if is(unit, b"a") {
+        return b"/etc/systemd/system/a.service";
+    }
+    if is(unit, b"b") {
+        return b"/etc/systemd/system/b.service";
+    }
+    b"/etc/systemd/system/c.service"
+}
+
+/// The path of a unit's slot. Fails only if memory runs out.
+pub(crate) fn slot_path(alloc: Global, unit: &[u8]) -> Result<TreePath, AllocError> {
+    match TreePath::parse(alloc, slot_of(unit)) {
+        Ok(path) => Ok(path),
+        Err(_) => Err(AllocError),
     }
 }
 
-/// The step of a sign and a unit's letter: `+` puts a file at the slot of the unit, `-` takes it away, `=` looks there, and `?` only asks.
-/// Fails only where memory runs out.
-pub fn step(alloc: Global, sign: u8, unit: u8) -> Result<Step, AllocError> {
-    let Ok(slot) = TreePath::parse(alloc, slot_of(unit)) else {
+/// What a verb puts at the slot, and whether it only asks.
+fn meaning_of(verb: &[u8]) -> Option<(Option<bool>, bool)> {
+    if is(verb, b"put") {
+        return Some((Some(true), false));
+    }
+    if is(verb, b"remove") {
+        return Some((Some(false), false));
+    }
+    if is(verb, b"look") {
+        return Some((None, false));
+    }
+    is(verb, b"ask").then_some((None, true))
+}
+
+/// The step of a word. Fails if the word is no step, or if memory runs out.
+pub fn step(alloc: Global, word: &[u8]) -> Result<Step, AllocError> {
+    let (verb, unit) = parts(word);
+    let Some((puts, asks)) = meaning_of(verb) else {
         return Err(AllocError);
     };
     Ok(Step {
-        slot,
-        puts: match sign {
-            b'+' => Some(true),
-            b'-' => Some(false),
-            _ => None,
-        },
-        asks: sign == b'?',
+        slot: slot_path(alloc, unit)?,
+        puts,
+        asks,
     })
 }
 
-/// The request of a word: the step `+a`, or the undo `u1`. Fails where the word is neither, or memory runs out.
+/// The request of a word: a step or an undo. Fails if the word is neither, or if memory runs out.
 pub fn request(alloc: Global, word: &[u8]) -> Result<Request<Step>, AllocError> {
-    match word {
-        [b'u', n] => Ok(Request::Undo(number(*n))),
-        [sign, unit] => Ok(Request::Do(step(alloc, *sign, *unit)?)),
-        _ => Err(AllocError),
+    let (first, rest) = parts(word);
+    if is(first, b"undo") {
+        return Ok(Request::Undo(number(rest)));
     }
+    Ok(Request::Do(step(alloc, word)?))
 }
 
-/// The operator of this name. Fails where it is no operator's name.
+/// The operator of this name. Fails if it is no operator's name.
 pub fn operator(name: &[u8]) -> Result<Operator, AllocError> {
     match Operator::parse(name) {
         Ok(operator) => Ok(operator),
         Err(_) => Err(AllocError),
     }
-}
-
-/// The operator of a letter: alice of `A`, bob of `B`, and else one whose name is the letter.
-pub fn named(letter: u8) -> Result<Operator, AllocError> {
-    match letter {
-        b'A' => operator(b"alice"),
-        b'B' => operator(b"bob"),
-        _ => operator(&[letter]),
-    }
-}
-
-/// The number of a digit.
-pub fn number(digit: u8) -> u32 {
-    u32::from(digit.wrapping_sub(b'0'))
 }

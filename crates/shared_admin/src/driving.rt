@@ -4,7 +4,7 @@ ghost use Rattle.history.specs.Rows.{calls_of, run};
 ghost use Rattle.history.specs.declared.history.CallError.TheVariants as errors;
 ghost use Rattle.history.specs.declared.row.Request.TheVariants.{Do, Undo};
 ghost use Rattle.shared_admin.specs.declared.event.EventReply.TheVariants as replies;
-ghost use Rattle.shared_admin.specs.Events.{HasSlot, nothing_kept, Snaps, Plans, TakesPlan, Commits, Calls, Happens, IsDriven};
+ghost use Rattle.shared_admin.specs.Events.{HasSlot, nothing_kept, empty_slots, Snaps, Plans, TakesPlan, Commits, Calls, Happens, Plays, IsDriven};
 
 use crate::event::{Event, EventReply};
 use crate::snapshot::{Snapshot, plan, snapshot_of};
@@ -38,13 +38,26 @@ pub fn drive<O: Operation>(
     ensures legal { IfOk result (λ r. r.0.rows ≡ run O.asks O.meaning tree [] (calls_of r.0.rows)) }
 {
     let mut history = History::new(alloc, tree)?;
+    let replies = drive_on(alloc, &mut history, events)?;
+    Ok((history, replies))
+}
+
+/// Lets events happen one after another on a history, with slots that are empty at first.
+fn drive_on<O: Operation>(
+    alloc: Global,
+    history: &mut History<O>,
+    events: Vec<Event<O>>,
+) -> Result<Vec<EventReply>, AllocError>
+    requires { All (HasSlot {O = O}) events.items }
+    ensures { IfOk result (λ replies. Plays O.asks O.meaning history.old empty_slots events.items history.new replies.items) }
+{
     let mut slots = empty_slots(alloc)?;
     let mut replies = Vec::new(alloc);
     for event in events {
-        let reply = happen(alloc, &mut history, &mut slots, event)?;
+        let reply = happen(alloc, history, &mut slots, event)?;
         replies.push(reply)?;
     }
-    Ok((history, replies))
+    Ok(replies)
 }
 
 /// Sixteen slots that keep nothing. Fails only where memory runs out.
@@ -139,8 +152,14 @@ fn commit<O: Operation>(
 {
     match history.commit(operator, plan) {
         Ok(Commit::Committed(n)) => Ok(EventReply::Committed(n)),
-        Ok(Commit::Stale { plan: _, at }) => Ok(EventReply::Stale(at)),
-        Err(left) => no_row(left.why),
+        Ok(Commit::Stale { plan, at }) => {
+            drop(plan);
+            Ok(EventReply::Stale(at))
+        }
+        Err(left) => {
+            drop(left.plan);
+            no_row(left.why)
+        }
     }
 }
 

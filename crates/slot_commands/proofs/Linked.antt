@@ -106,7 +106,7 @@ module _ (slot target : List ℕ) (u : Entries) where
   linked : (v : Entries) → left_by ((ruled (link_at target) slot).conclusion u) u ≡ Ok v → Makes slot target u v
   linked v is = linked_at (map.get u slot) v refl is
 
--- what steps do that keep what stands, in turn, from a first tree on
+-- what steps do in turn, from a first tree on, if each keeps what is there
 module _ {A : Type 0} (first : Entries) (step : A → Step) (IsNew : Entries → A → List ℕ → Entry → Type 0) (IsDone : Entries → A → Type 0)
     (stays_new : (a : A) (u v : Entries) (path : List ℕ) (entry : Entry) → Keeps u v → IsNew u a path entry → IsNew v a path entry)
     (stays_done : (a : A) (u v : Entries) → Keeps u v → IsDone u a → IsDone v a) where
@@ -289,6 +289,7 @@ module _ (t : Entries) (file : List ℕ) where
   ]
 
   file_set : (name real : List ℕ) (u : Entries) → left_by ((default_file name real file).conclusion t) t ≡ Ok u → Relinks u
+  unfolding default_file
   file_set name real u is = elim (cases_Bool (is_target_type (type_of name))) [
     | inl target ↦ elim (cases_Bool (is_template_name real)) [
       | inl template ↦ (let left : left_by (Err (NeedsInstance real)) t ≡ Ok u = rw (target, template) at is in cc)

@@ -22,12 +22,12 @@ use Rattle.slot_commands.specs.declared.add_to.AddTo.{AddTo}
 use Rattle.slot_commands.specs.Effects.{Keeps, AddsOnly}
 use Rattle.footprint.specs.Units.{with_unit, IsFound}
 
--- the DefaultInstance= of a unit, by what stands at its file's path: systemd.unit(5), "[Install] Section Options"
+-- the DefaultInstance= of a unit, by what is at its file's path: systemd.unit(5), "[Install] Section Options"
 abbrev pub default_of : Option Entry → Option (List ℕ)
 default_of (Some (File contents)) = (text_of contents).default_instance
 default_of other = None
 
--- under which name a unit is listed, by its DefaultInstance=
+-- the name by which a unit is listed, by its DefaultInstance=
 abbrev pub name_listed : (by real : List ℕ) → (default : Option (List ℕ)) → Option (List ℕ)
 name_listed by real default = listed_name by real (identity_of real default)
 
@@ -62,7 +62,7 @@ add_meaning add = carried_out (silent (add_steps add))
 abbrev pub IsListed : Entries → (by unit name file : List ℕ) → Type 0
 IsListed t by unit name file = (real : List ℕ) × IsFound t unit real file × (name_listed by real (default_of (map.get t file)) ≡ Some name)
 
--- So it is in a tree on the way from one to another, as the units before it left it.
+-- The same in a tree between two others: the one that the units before it left.
 abbrev pub IsListedBetween : (t u : Entries) → (by unit name file : List ℕ) → Type 0
 IsListedBetween t u by unit name file = (m : Entries) × Keeps t m × Keeps m u × IsListed m by unit name file
 
@@ -77,7 +77,7 @@ abbrev pub IsAdded : AddTo → (by : List ℕ) → (t u : Entries) → (unit : L
 IsAdded add by t u unit =
     (name file : List ℕ) × IsListedBetween t u by unit name file × LeadsAs u (dependency_slot (scope_place add.scope) add.dependency by name) file
 
--- The target is found, all that stands stays, links to the units fill empty slots in its one directory, and each unit has such a
+-- The target is found, all that was there stays, links to the units fill empty slots in its one directory, and each unit has such a
 -- link then.
 pub record AddsDependencies (add : AddTo) (t u : Entries) : Type 0 where
   pub by : List ℕ
@@ -87,6 +87,6 @@ pub record AddsDependencies (add : AddTo) (t u : Entries) : Type 0 where
   pub only : AddsOnly (IsNewDependency add by t u) t u
   pub added : All (IsAdded add by t u) add.units
 
--- The law of add-wants and add-requires, where they are accepted.
+-- The law of add-wants and add-requires, if they are accepted.
 abbrev pub DependenciesAreAdded : Type 0
 DependenciesAreAdded = (add : AddTo) (t : Entries) → ((add_meaning add).conclusion t).answer ≡ Done map.empty → AddsDependencies add t (after_changes ((add_meaning add).conclusion t).changes t)

@@ -15,12 +15,12 @@ use Rattle.slot_commands.specs.declared.by_hand.PlaceEntry.{PlaceEntry}
 use Rattle.slot_commands.specs.declared.by_hand.RemoveEntry.{RemoveEntry}
 use Rattle.slot_commands.specs.Effects.{Refuses, Leaves}
 
--- an entry is placed where nothing stands
+-- an entry is placed if nothing is there
 abbrev pub place_at : Entry → Rule
 place_at entry path None = Ok (Some entry)
 place_at entry path (Some there) = Err (Exists path)
 
--- what stands there is taken away
+-- what is there is removed
 abbrev pub remove_at : Rule
 remove_at path None = Err (Absent path)
 remove_at path (Some there) = Ok None
@@ -42,11 +42,11 @@ place_meaning place = carried_out (silent (place_steps place))
 abbrev pub remove_meaning : RemoveEntry → Inquiry Effect
 remove_meaning remove = carried_out (silent (remove_steps remove))
 
--- what stands at a path where one entry was placed or taken away
+-- what is at a path after one entry was placed or removed
 abbrev pub with_one : Entries → (slot : List ℕ) → Option Entry → List ℕ → Option Entry
 with_one t slot entry path = if bytes_eq path slot then entry else map.get t path
 
--- The law of placing: exactly at an empty slot the entry is placed.
+-- The law of placing: the entry is placed exactly at an empty slot.
 abbrev pub FillsSlot : PlaceEntry → Entries → (slot : Bool) → (there : Option Entry) → Type 0
 FillsSlot place t false there = Refuses ((place_meaning place).conclusion t) (NotASlot place.path)
 FillsSlot place t true (Some there) = Refuses ((place_meaning place).conclusion t) (Exists place.path)
@@ -55,7 +55,7 @@ FillsSlot place t true None = Leaves ((place_meaning place).conclusion t) t (wit
 abbrev pub PlaceFills : Type 0
 PlaceFills = (place : PlaceEntry) (t : Entries) → FillsSlot place t (is_slot place.path) (map.get t place.path)
 
--- The law of removing: exactly from a slot that has one an entry is taken away.
+-- The law of removing: an entry is removed exactly from a slot that has one.
 abbrev pub EmptiesSlot : RemoveEntry → Entries → (slot : Bool) → (there : Option Entry) → Type 0
 EmptiesSlot remove t false there = Refuses ((remove_meaning remove).conclusion t) (NotASlot remove.path)
 EmptiesSlot remove t true None = Refuses ((remove_meaning remove).conclusion t) (Absent remove.path)

@@ -11,14 +11,14 @@ use Rattle.footprint.specs.Operations.{Effect}
 abbrev pub Refuses : Effect → Refusal → Type 0
 Refuses done refusal = (done.answer ≡ Refused refusal) × (done.changes ≡ [])
 
--- A command is accepted, and its changes leave a tree in which this stands at each path.
+-- A command is accepted, and its changes leave a tree that has this at each path.
 abbrev pub Leaves : Effect → Entries → (List ℕ → Option Entry) → Type 0
 Leaves done t there = (done.answer ≡ Done map.empty) × ((path : List ℕ) → map.get (after_changes done.changes t) path ≡ there path)
 
--- What stands in the one tree stands in the other.
+-- What is in the first tree is also in the second.
 abbrev pub Keeps : Entries → Entries → Type 0
 Keeps t u = (path : List ℕ) (entry : Entry) → map.get t path ≡ Some entry → map.get u path ≡ Some entry
 
--- What stands in the other alone is such an entry.
+-- What is only in the second tree is such an entry.
 abbrev pub AddsOnly : (List ℕ → Entry → Type 0) → Entries → Entries → Type 0
 AddsOnly IsNew t u = (path : List ℕ) (entry : Entry) → map.get t path ≡ None → map.get u path ≡ Some entry → IsNew path entry

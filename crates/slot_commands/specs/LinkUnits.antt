@@ -23,7 +23,7 @@ use Rattle.footprint.specs.Steps.{Step, nothing, refuse, ruled, each_in_turn, �
 use Rattle.slot_commands.specs.declared.link_units.LinkUnits.{LinkUnits}
 use Rattle.slot_commands.specs.Effects.{Keeps, AddsOnly}
 
--- a file is linked under its own name, unless it stands in a directory of units
+-- a file is linked under its own name, unless it is in a directory of units
 abbrev pub link_file : Place → (path : List ℕ) → Step
 link_file place path =
     if is_unit_name (name_at path) then (if is_unit_slot (slot_of path) then nothing else ruled (link_at path) (unit_slot place (name_at path)))
@@ -54,7 +54,7 @@ link_meaning link = carried_out (silent (link_steps link))
 abbrev pub IsLinkToOne : Place → (files : List (List ℕ)) → List ℕ → Entry → Type 0
 IsLinkToOne place files path entry = (file : List ℕ) × Contains files file × ((path ≡ unit_slot place (name_at file)) × (entry ≡ Link file))
 
--- A file stands in a directory of units, or a link under its name leads to it.
+-- A file is in a directory of units, or a link under its name leads to it.
 abbrev pub IsLinked : Place → Entries → (file : List ℕ) → Type 0
 IsLinked place t file = (is_unit_slot (slot_of file) ≡ true) ⊎ LeadsAs t (unit_slot place (name_at file)) file
 
@@ -64,6 +64,6 @@ pub record LinksFiles (place : Place) (files : List (List ℕ)) (t u : Entries) 
   pub only : AddsOnly (IsLinkToOne place files) t u
   pub linked : All (IsLinked place u) files
 
--- The law of link, where it is accepted.
+-- The law of link, if it is accepted.
 abbrev pub FilesAreLinked : Type 0
 FilesAreLinked = (link : LinkUnits) (t : Entries) → ((link_meaning link).conclusion t).answer ≡ Done map.empty → LinksFiles (scope_place link.scope) link.paths t (after_changes ((link_meaning link).conclusion t).changes t)

@@ -31,16 +31,16 @@ abbrev pub is_empty_file : Entry → Bool
 is_empty_file (File contents) = length contents == 0
 is_empty_file (Link target) = false
 
--- whether what stands at a slot masks its unit: a link to /dev/null or an empty file
+-- whether an entry at a slot masks its unit: a link to /dev/null or an empty file
 abbrev pub is_mask : List ℕ → Entry → Bool
 is_mask path entry = is_null_link path entry || is_empty_file entry
 
--- mask at one slot: an empty slot gets the link, and a link to /dev/null stays; anything else is in the way, an empty file too
+-- mask at one slot: an empty slot gets the link, and a link to /dev/null stays; anything else is in the way, even an empty file
 abbrev pub mask_at : Rule
 mask_at path None = Ok (Some mask_link)
 mask_at path (Some entry) = if is_null_link path entry then Ok (Some entry) else Err (Exists path)
 
--- unmask at one slot: a mask is taken away, and anything else stays
+-- unmask at one slot: a mask is removed, and anything else stays
 abbrev pub unmask_at : Rule
 unmask_at path None = Ok None
 unmask_at path (Some entry) = if is_mask path entry then Ok None else Ok (Some entry)
@@ -75,15 +75,15 @@ unmask_meaning unmask = carried_out (silent (unmask_steps unmask))
 abbrev pub slots_of : Scope → (units : List (List ℕ)) → List (List ℕ)
 slots_of scope units = list_map (unit_slot (scope_place scope)) units
 
--- whether anything but a link to /dev/null stands at a path, as any file does
+-- whether anything but a link to /dev/null is at a path, for example a file
 abbrev pub is_in_the_way : Entries → List ℕ → Bool
 is_in_the_way t path = option_map_or (λ entry. not (is_null_link path entry)) (map.get t path) false
 
--- what stands at a path where links to /dev/null fill some paths
+-- what is at a path after links to /dev/null have filled some paths
 abbrev pub masked : Entries → List (List ℕ) → List ℕ → Option Entry
 masked t paths path = if list_any (bytes_eq path) paths && is_none (map.get t path) then Some mask_link else map.get t path
 
--- The law of mask: it is refused for the first slot that has anything but a link to /dev/null. Where none has, such links fill the
+-- The law of mask: it is refused for the first slot that has anything but a link to /dev/null. If none has, such links fill the
 -- empty ones, and all else stays.
 abbrev pub FillsEmptySlots : Mask → Entries → Option (List ℕ) → Type 0
 FillsEmptySlots mask t (Some slot) = Refuses ((mask_meaning mask).conclusion t) (Exists slot)
@@ -92,14 +92,14 @@ FillsEmptySlots mask t None = Leaves ((mask_meaning mask).conclusion t) t (maske
 abbrev pub MaskFills : Type 0
 MaskFills = (mask : Mask) (t : Entries) → FillsEmptySlots mask t (find (is_in_the_way t) (slots_of mask.scope mask.units))
 
--- whether a mask stands at a path
+-- whether there is a mask at a path
 abbrev pub has_mask : List ℕ → Option Entry → Bool
 has_mask path there = option_map_or (is_mask path) there false
 
--- what stands at a path where masks are taken from some paths
+-- what is at a path after masks were removed from some paths
 abbrev pub unmasked : Entries → List (List ℕ) → List ℕ → Option Entry
 unmasked t paths path = if list_any (bytes_eq path) paths && has_mask path (map.get t path) then None else map.get t path
 
--- The law of unmask: it is never refused, the links to /dev/null and the empty files at its slots go, and all else stays.
+-- The law of unmask: it is never refused, the links to /dev/null and the empty files at its slots are removed, and all else stays.
 abbrev pub UnmaskEmpties : Type 0
 UnmaskEmpties = (unmask : Unmask) (t : Entries) → Leaves ((unmask_meaning unmask).conclusion t) t (unmasked t (slots_of unmask.scope unmask.units))

@@ -27,7 +27,7 @@ is_target_type (Some Target) = true
 is_target_type other = false
 
 -- by the name as it was given, and the own name and the file of the unit that was found
-abbrev pub default_file : (name real file : List ℕ) → Step
+unfoldable pub default_file : (name real file : List ℕ) → Step
 default_file name real file =
     if is_target_type (type_of name) then (if is_template_name real then refuse (NeedsInstance real) else ruled (relink_at file) default_slot)
     else refuse (BadType (Unit name))
@@ -45,6 +45,6 @@ SetsDefault set_default t u =
     (real : List ℕ) × (file : List ℕ) × IsFound t set_default.unit real file × LeadsAs u default_slot file
     × ((path : List ℕ) → bytes_eq path default_slot ≡ false → map.get u path ≡ map.get t path)
 
--- The law of set-default, where it is accepted.
+-- The law of set-default, if it is accepted.
 abbrev pub DefaultIsSet : Type 0
 DefaultIsSet = (set_default : SetDefault) (t : Entries) → ((default_meaning set_default).conclusion t).answer ≡ Done map.empty → SetsDefault set_default t (after_changes ((default_meaning set_default).conclusion t).changes t)

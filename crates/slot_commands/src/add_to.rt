@@ -1,25 +1,27 @@
 //! add-wants and add-requires.
 ghost use Rattle.std.specs.Prelude.{◌≡◌, IfOk};
-ghost use Rattle.std.specs.Option.{option_copied};
 ghost use Rattle.unit_file.specs.Identity.{identity_of};
 ghost use Rattle.unit_file.specs.Reading.{text_of};
 ghost use Rattle.unit_paths.specs.Places.{scope_place};
-ghost use Rattle.footprint.specs.Edits.{GoesOn};
 ghost use Rattle.slot_commands.specs.AddTo.{default_of, name_listed, add_file, add_unit, add_units, add_steps};
+ghost use Rattle.transaction.specs.Runs.{Runs, taking};
 
-use footprint::{Edit, Key, Keys, Notices, Operation, Outcome, Refusal, Units, link_at};
+use footprint::{Operation, Outcome, Refusal, Units, link_at};
 use link_tree::{Contents, Dependency, Entry, Scope, Tree, TreePath};
 use std::alloc::{AllocError, Global};
+use transaction::{Stop, Transaction};
 use unit_file::{
     InstallError, InstallFault, InstallText, identity, install_of, is_template, listed_name,
 };
 use unit_name::UnitName;
 
-/// systemctl(1), `add-wants` and `add-requires`: the target is to want or to require each unit, by a link in its
-/// directory of the scope, which has the target's own name. The target is looked up first, and then the units, one after another,
-/// each in the tree that the earlier ones left; the first refusal refuses the whole command. Each may be refused by `NotFound`,
-/// `Masked` or `Dangling`, a unit also by `NeedsInstance`, where it is a template without a `DefaultInstance=` that serves, and
-/// by `Exists`, where anything but a link to the same path stands at the slot.
+/// systemctl(1), `add-wants` and `add-requires`: the target wants or requires each unit from now
+/// on, by a link in the target's directory of the scope, which has the target's own name. The
+/// target is looked up first, and then the units, one after another, each in the tree that the
+/// earlier ones left; the first refusal refuses the whole command. The target and each unit may be
+/// refused by `NotFound`, `Masked` or `Dangling`; a unit also by `NeedsInstance`, if it is a
+/// template without a `DefaultInstance=` that makes an instance of it, and by `Exists`, if anything
+/// but a link to the same path is at the slot.
 #[derive(Debug, Drop)]
 pub struct AddTo {
     pub scope: Scope,
@@ -28,7 +30,7 @@ pub struct AddTo {
     pub units: Units,
 }
 
-/// What the file asks for when it is installed.
+/// The words of the [Install] section of a file.
 fn install_text(alloc: Global, contents: &Contents) -> Result<InstallText, AllocError>
     ensures { IfOk result (λ text. text ≡ text_of contents.now) }
 {
@@ -39,13 +41,13 @@ fn install_text(alloc: Global, contents: &Contents) -> Result<InstallText, Alloc
     }
 }
 
-/// The identity of a unit, by what stands at its file's path.
+/// The identity of a unit, by what is at its file's path.
 fn identity_by(
     alloc: Global,
     real: &UnitName,
-    there: Option<&Entry>,
+    there: &Option<Entry>,
 ) -> Result<UnitName, AllocError>
-    ensures { IfOk result (λ name. name ≡ identity_of real.now (default_of (option_copied there.entry))) }
+    ensures { IfOk result (λ name. name ≡ identity_of real.now (default_of there.now)) }
 {
     match there {
         Some(Entry::File(contents)) => identity(alloc, real, &install_text(alloc, contents)?),
@@ -53,15 +55,16 @@ fn identity_by(
     }
 }
 
-/// The name under which a unit is listed by another, if there is one that serves. The file is read for a template alone.
+/// The name by which a unit is listed by another, if there is one. The file is only read for a
+/// template.
 #[tactic(auto, unfolding(unit_file::specs::Listed::listed_name))]
 fn name_listed(
     alloc: Global,
     by: &UnitName,
     real: &UnitName,
-    there: Option<&Entry>,
+    there: &Option<Entry>,
 ) -> Result<Option<UnitName>, AllocError>
-    ensures { IfOk result (λ name. name ≡ name_listed by.now real.now (default_of (option_copied there.entry))) }
+    ensures { IfOk result (λ name. name ≡ name_listed by.now real.now (default_of there.now)) }
 {
     if !is_template(real) {
         return Ok(Some(real.copy()?));
@@ -76,79 +79,66 @@ fn name_listed(
 impl AddTo {
     /// A unit that was found is listed by another.
     #[tactic(auto, unfolding(crate::specs::AddTo::add_file))]
-    fn add_file<'a>(
+    fn add_file(
         &self,
         alloc: Global,
         by: &UnitName,
         real: UnitName,
         file: &TreePath,
-        edit: Edit<'a>,
-        keys: &mut Keys,
-    ) -> Result<Result<Edit<'a>, Refusal>, AllocError>
-        ensures { IfOk result (GoesOn (add_file (scope_place self.now.scope) self.now.dependency by.now real file.now) edit.entry keys.old keys.new) }
+        txn: &mut Transaction<'_>,
+    ) -> Result<(), Stop>
+        ensures { Runs (taking (add_file (scope_place self.now.scope) self.now.dependency by.now real file.now)) txn.old txn.new result }
     {
-        keys.push(Key::Cell(file.copy()?))?;
-        let Some(name) = name_listed(alloc, by, &real, edit.get(file))? else {
-            return Ok(Err(Refusal::NeedsInstance(real)));
+        let there = txn.get(file)?;
+        let Some(name) = name_listed(alloc, by, &real, &there)? else {
+            return Err(Stop::Refused(Refusal::NeedsInstance(real)));
         };
         let place = self.scope.place();
         let slot = place.dependency_slot(alloc, self.dependency, by, &name)?;
-        keys.push(Key::Cell(slot.copy()?))?;
-        let ruled = link_at(alloc, file, &slot, edit.get(&slot))?;
-        edit.ruled(&slot, ruled)
+        let there = txn.get(&slot)?;
+        match link_at(alloc, file, &slot, there.as_ref())? {
+            Ok(entry) => Ok(txn.put(alloc, &slot, entry)?),
+            Err(refusal) => Err(Stop::Refused(refusal)),
+        }
     }
 
     /// One unit is listed by another.
     #[tactic(auto, unfolding(crate::specs::AddTo::add_unit))]
-    fn add_unit<'a>(
+    fn add_unit(
         &self,
         alloc: Global,
         by: &UnitName,
         unit: &UnitName,
-        edit: Edit<'a>,
-        keys: &mut Keys,
-    ) -> Result<Result<Edit<'a>, Refusal>, AllocError>
-        ensures { IfOk result (GoesOn (add_unit (scope_place self.now.scope) self.now.dependency by.now unit.now) edit.entry keys.old keys.new) }
+        txn: &mut Transaction<'_>,
+    ) -> Result<(), Stop>
+        ensures { Runs (taking (add_unit (scope_place self.now.scope) self.now.dependency by.now unit.now)) txn.old txn.new result }
     {
-        match keys.find_unit(alloc, edit.tree(), unit)? {
-            Ok((real, file)) => self.add_file(alloc, by, real, &file, edit, keys),
-            Err(refusal) => Ok(Err(refusal)),
-        }
+        let (real, file) = txn.unit(alloc, unit)?;
+        self.add_file(alloc, by, real, &file, txn)
     }
 
-    /// Each unit is listed by another, on the tree that the earlier ones left.
-    fn add_units<'a>(
+    /// Units are listed by another, one after another.
+    #[tactic(auto, using(transaction::proofs::Turns::turns_conclude, transaction::proofs::Turns::turns_look))]
+    fn add_units(
         &self,
         alloc: Global,
         by: &UnitName,
         units: &[UnitName],
-        tree: &'a Tree,
-        keys: &mut Keys,
-    ) -> Result<Result<Edit<'a>, Refusal>, AllocError>
-        ensures { IfOk result (GoesOn (add_units (scope_place self.now.scope) self.now.dependency units.now by.now) (tree.now, tree.now) keys.old keys.new) }
+        txn: &mut Transaction<'_>,
+    ) -> Result<(), Stop>
+        ensures { Runs (taking (add_units (scope_place self.now.scope) self.now.dependency units.now by.now)) txn.old txn.new result }
     {
-        let mut edit = Edit::new(alloc, tree)?;
         for unit in units {
-            match self.add_unit(alloc, by, unit, edit, keys)? {
-                Ok(next) => edit = next,
-                Err(refusal) => return Ok(Err(refusal)),
-            }
+            self.add_unit(alloc, by, unit, txn)?;
         }
-        Ok(Ok(edit))
+        Ok(())
     }
 
-    fn added<'a>(
-        &self,
-        alloc: Global,
-        tree: &'a Tree,
-        keys: &mut Keys,
-    ) -> Result<Result<Edit<'a>, Refusal>, AllocError>
-        ensures { IfOk result (GoesOn (add_steps self.now) (tree.now, tree.now) keys.old keys.new) }
+    fn added(&self, alloc: Global, txn: &mut Transaction<'_>) -> Result<(), Stop>
+        ensures { Runs (taking (add_steps self.now)) txn.old txn.new result }
     {
-        match keys.find_unit(alloc, tree, &self.target)? {
-            Ok((by, _file)) => self.add_units(alloc, &by, self.units.as_slice(), tree, keys),
-            Err(refusal) => Ok(Err(refusal)),
-        }
+        let (by, _file) = txn.unit(alloc, &self.target)?;
+        self.add_units(alloc, &by, self.units.as_slice(), txn)
     }
 }
 
@@ -162,9 +152,9 @@ impl Operation for AddTo {
     ghost asks = { λ c. false };
 
     fn run(&self, alloc: Global, tree: &Tree) -> Result<Outcome, AllocError> {
-        let mut keys = Keys::none(alloc);
-        let done = self.added(alloc, tree, &mut keys)?;
-        Outcome::of(alloc, tree, keys, Notices::none(alloc), done)
+        let mut txn = Transaction::new(alloc, tree);
+        let done = self.added(alloc, &mut txn);
+        txn.outcome_of_steps(alloc, done)
     }
 
     fn asks_only(&self) -> bool {

@@ -1,68 +1,39 @@
 //! Entries that are placed and removed by hand.
-ghost use Rattle.std.specs.Prelude.{◌≡◌, IfOk};
-ghost use Rattle.std.specs.Option.{option_copied};
-ghost use Rattle.footprint.specs.Edits.{GoesOn};
-ghost use Rattle.slot_commands.specs.ByHand.{place_at, remove_at, place_steps, remove_steps};
+ghost use Rattle.slot_commands.specs.ByHand.{place_steps, remove_steps};
+ghost use Rattle.transaction.specs.Runs.{Runs, taking};
 
-use footprint::{Edit, Key, Keys, Notices, Operation, Outcome, Refusal};
+use footprint::{Operation, Outcome, Refusal};
 use link_tree::{Entry, Slot, Tree, TreePath};
 use std::alloc::{AllocError, Global};
+use transaction::{Stop, Transaction};
 
-/// Puts a file or a link into an empty slot. It is refused by `NotASlot`, where the path is none, and then by `Exists`, where
-/// anything stands there, an equal entry too.
+/// Puts a file or a link into an empty slot. It is refused by `NotASlot` if the path is no slot,
+/// and then by `Exists` if anything is there, even an equal entry.
 #[derive(Debug, Drop)]
 pub struct PlaceEntry {
     pub path: TreePath,
     pub entry: Entry,
 }
 
-/// Takes the entry of a slot away. It is refused by `NotASlot`, where the path is none, and then by `Absent`, where nothing stands
-/// there.
+/// Removes the entry of a slot. It is refused by `NotASlot` if the path is no slot, and then by
+/// `Absent` if nothing is there.
 #[derive(Debug, Drop)]
 pub struct RemoveEntry {
     pub path: TreePath,
 }
 
-fn place_at(
-    entry: &Entry,
-    path: &TreePath,
-    there: Option<&Entry>,
-) -> Result<Result<Option<Entry>, Refusal>, AllocError>
-    ensures { IfOk result (λ ruled. ruled ≡ place_at entry.now path.now (option_copied there.entry)) }
-{
-    match there {
-        None => Ok(Ok(Some(entry.copy()?))),
-        Some(_) => Ok(Err(Refusal::Exists(path.copy()?))),
-    }
-}
-
-fn remove_at(
-    path: &TreePath,
-    there: Option<&Entry>,
-) -> Result<Result<Option<Entry>, Refusal>, AllocError>
-    ensures { IfOk result (λ ruled. ruled ≡ remove_at path.now (option_copied there.entry)) }
-{
-    match there {
-        None => Ok(Err(Refusal::Absent(path.copy()?))),
-        Some(_) => Ok(Ok(None)),
-    }
-}
-
 impl PlaceEntry {
-    fn placed<'a>(
-        &self,
-        alloc: Global,
-        tree: &'a Tree,
-        keys: &mut Keys,
-    ) -> Result<Result<Edit<'a>, Refusal>, AllocError>
-        ensures { IfOk result (GoesOn (place_steps self.now) (tree.now, tree.now) keys.old keys.new) }
+    fn placed(&self, alloc: Global, txn: &mut Transaction<'_>) -> Result<(), Stop>
+        ensures { Runs (taking (place_steps self.now)) txn.old txn.new result }
     {
         if Slot::of(&self.path).is_none() {
-            return Ok(Err(Refusal::NotASlot(self.path.copy()?)));
+            return Err(Stop::Refused(Refusal::NotASlot(self.path.copy()?)));
         }
-        keys.push(Key::Cell(self.path.copy()?))?;
-        let ruled = place_at(&self.entry, &self.path, tree.get(&self.path))?;
-        Edit::new(alloc, tree)?.ruled(&self.path, ruled)
+        if txn.get(&self.path)?.is_some() {
+            return Err(Stop::Refused(Refusal::Exists(self.path.copy()?)));
+        }
+        txn.put(alloc, &self.path, Some(self.entry.copy()?))?;
+        Ok(())
     }
 }
 
@@ -76,9 +47,9 @@ impl Operation for PlaceEntry {
     ghost asks = { λ c. false };
 
     fn run(&self, alloc: Global, tree: &Tree) -> Result<Outcome, AllocError> {
-        let mut keys = Keys::none(alloc);
-        let done = self.placed(alloc, tree, &mut keys)?;
-        Outcome::of(alloc, tree, keys, Notices::none(alloc), done)
+        let mut txn = Transaction::new(alloc, tree);
+        let done = self.placed(alloc, &mut txn);
+        txn.outcome_of_steps(alloc, done)
     }
 
     fn asks_only(&self) -> bool {
@@ -100,20 +71,17 @@ impl Operation for PlaceEntry {
 }
 
 impl RemoveEntry {
-    fn removed<'a>(
-        &self,
-        alloc: Global,
-        tree: &'a Tree,
-        keys: &mut Keys,
-    ) -> Result<Result<Edit<'a>, Refusal>, AllocError>
-        ensures { IfOk result (GoesOn (remove_steps self.now) (tree.now, tree.now) keys.old keys.new) }
+    fn removed(&self, alloc: Global, txn: &mut Transaction<'_>) -> Result<(), Stop>
+        ensures { Runs (taking (remove_steps self.now)) txn.old txn.new result }
     {
         if Slot::of(&self.path).is_none() {
-            return Ok(Err(Refusal::NotASlot(self.path.copy()?)));
+            return Err(Stop::Refused(Refusal::NotASlot(self.path.copy()?)));
         }
-        keys.push(Key::Cell(self.path.copy()?))?;
-        let ruled = remove_at(&self.path, tree.get(&self.path))?;
-        Edit::new(alloc, tree)?.ruled(&self.path, ruled)
+        if txn.get(&self.path)?.is_none() {
+            return Err(Stop::Refused(Refusal::Absent(self.path.copy()?)));
+        }
+        txn.put(alloc, &self.path, None)?;
+        Ok(())
     }
 }
 
@@ -127,9 +95,9 @@ impl Operation for RemoveEntry {
     ghost asks = { λ c. false };
 
     fn run(&self, alloc: Global, tree: &Tree) -> Result<Outcome, AllocError> {
-        let mut keys = Keys::none(alloc);
-        let done = self.removed(alloc, tree, &mut keys)?;
-        Outcome::of(alloc, tree, keys, Notices::none(alloc), done)
+        let mut txn = Transaction::new(alloc, tree);
+        let done = self.removed(alloc, &mut txn);
+        txn.outcome_of_steps(alloc, done)
     }
 
     fn asks_only(&self) -> bool {

@@ -1,45 +1,47 @@
-//! What holds of the commands on all trees: each function does nothing, and its contract is the law.
+//! What holds of the commands on all trees: each function does nothing, and its contract is the
+//! law.
 ghost use Rattle.slot_commands.specs.Masks.{MaskFills, UnmaskEmpties};
 ghost use Rattle.slot_commands.specs.LinkUnits.{FilesAreLinked};
 ghost use Rattle.slot_commands.specs.AddTo.{DependenciesAreAdded};
 ghost use Rattle.slot_commands.specs.SetDefault.{DefaultIsSet};
 ghost use Rattle.slot_commands.specs.ByHand.{PlaceFills, RemoveEmpties};
 
-/// Links to `/dev/null` fill empty slots. The command is refused for the first slot where anything else stands, a file
-/// too.
+/// Links to `/dev/null` fill empty slots. The command is refused for the first slot where anything
+/// else is, even a file.
 pub fn masks_fill_empty_slots()
     ensures { MaskFills }
 {}
 
-/// `unmask` takes links to `/dev/null` and empty files away, and is never refused.
+/// `unmask` removes links to `/dev/null` and empty files, and is never refused.
 pub fn unmask_takes_masks_away()
     ensures { UnmaskEmpties }
 {}
 
-/// An accepted `link` fills empty slots of the scope with links to the files, under their names. All else stays, and each
-/// file that doesn't stand among the units is linked then.
+/// An accepted `link` fills empty slots of the scope with links to the files, under their names.
+/// All else stays, and each file that isn't in a directory of units is linked then.
 pub fn files_are_linked_under_their_names()
     ensures { FilesAreLinked }
 {}
 
-/// An accepted `add-wants` or `add-requires` has found its target and each of the units, and then a link in the one directory
-/// of the target, under the name by which each is listed, leads to its file. These alone are new, and all else stays.
+/// An accepted `add-wants` or `add-requires` has found its target and each of the units. A link in
+/// the one directory of the target, under the name by which each unit is listed, then leads to its
+/// file. Only these are new, and all else stays.
 pub fn dependencies_are_links_of_the_target()
     ensures { DependenciesAreAdded }
 {}
 
-/// An accepted `set-default` has found its unit, and the link of `default.target` leads to the unit's file. All else
-/// stays.
+/// An accepted `set-default` has found its unit, and the link `default.target` leads to the unit's
+/// file. All else stays.
 pub fn the_default_leads_to_the_units_file()
     ensures { DefaultIsSet }
 {}
 
-/// By hand an entry is placed exactly where a slot is empty. All else stays.
+/// By hand an entry is placed exactly if its slot is empty. All else stays.
 pub fn entries_are_placed_in_empty_slots()
     ensures { PlaceFills }
 {}
 
-/// By hand an entry is taken away exactly where a slot has one. All else stays.
+/// By hand an entry is removed exactly if its slot has one. All else stays.
 pub fn entries_are_removed_from_slots()
     ensures { RemoveEmpties }
 {}

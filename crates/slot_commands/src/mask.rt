@@ -1,24 +1,25 @@
 //! mask and unmask.
 ghost use Rattle.std.specs.Prelude.{◌≡◌, IfOk, Ok};
-ghost use Rattle.std.specs.Option.{option_copied};
-ghost use Rattle.footprint.specs.Edits.{GoesOn};
 ghost use Rattle.slot_commands.specs.Masks.{mask_link, is_empty_file, is_mask, mask_at, unmask_at, rule_of, ruled_unit, each_ruled};
+ghost use Rattle.transaction.specs.Runs.{Gives, Runs, taking};
 
-use footprint::{Edit, Key, Keys, Notices, Operation, Outcome, Refusal, Units};
+use footprint::{Operation, Outcome, Refusal, Units};
 use link_tree::{Entry, Scope, TargetError, Tree, TreePath, is_null_link};
 use std::alloc::{AllocError, Global};
+use transaction::{Stop, Transaction};
 use unit_name::UnitName;
 
-/// systemctl(1), `mask`: links each unit to `/dev/null` in the scope, where nothing stands. A link to there stays. Anything else that
-/// stands there, an empty file too, refuses the whole command (`Exists`, for the first such slot). No unit is looked up.
+/// systemctl(1), `mask`: links each unit to `/dev/null` in the scope if its slot is empty. A link
+/// that is there and leads to `/dev/null` is kept. Anything else there, even an empty file, refuses
+/// the whole command (`Exists`, for the first such slot). No unit is looked up.
 #[derive(Debug, Drop)]
 pub struct Mask {
     pub scope: Scope,
     pub units: Units,
 }
 
-/// systemctl(1), `unmask`: takes the mask of each unit away in the scope, a link to `/dev/null` or an empty file. Anything else
-/// stays. It is never refused, and no unit is looked up.
+/// systemctl(1), `unmask`: removes the mask of each unit in the scope, a link to `/dev/null` or an
+/// empty file. Anything else is kept. It is never refused, and no unit is looked up.
 #[derive(Debug, Drop)]
 pub struct Unmask {
     pub scope: Scope,
@@ -51,92 +52,86 @@ fn is_empty_file(entry: &Entry) -> bool
     }
 }
 
-/// Whether what stands at a slot masks its unit.
+/// Whether an entry at a slot masks its unit.
 fn is_mask(slot: &TreePath, entry: &Entry) -> bool
     ensures { result ≡ is_mask slot.now entry.now }
 {
     is_null_link(slot, entry) || is_empty_file(entry)
 }
 
-fn mask_at(
-    alloc: Global,
-    slot: &TreePath,
-    there: Option<&Entry>,
-) -> Result<Result<Option<Entry>, Refusal>, AllocError>
-    ensures { IfOk result (λ ruled. ruled ≡ mask_at slot.now (option_copied there.entry)) }
+fn mask_at(alloc: Global, slot: &TreePath, there: Option<Entry>) -> Result<Option<Entry>, Stop>
+    ensures { Gives (mask_at slot.now there) result }
 {
     match there {
-        None => Ok(Ok(Some(mask_link(alloc)?))),
+        None => Ok(Some(mask_link(alloc)?)),
         Some(entry) => {
-            if is_null_link(slot, entry) {
-                Ok(Ok(Some(entry.copy()?)))
+            if is_null_link(slot, &entry) {
+                Ok(Some(entry))
             } else {
-                Ok(Err(Refusal::Exists(slot.copy()?)))
+                Err(Stop::Refused(Refusal::Exists(slot.copy()?)))
             }
         }
     }
 }
 
-fn unmask_at(slot: &TreePath, there: Option<&Entry>) -> Result<Option<Entry>, AllocError>
-    ensures { IfOk result (λ left. Ok left ≡ unmask_at slot.now (option_copied there.entry)) }
+fn unmask_at(slot: &TreePath, there: Option<Entry>) -> Option<Entry>
+    ensures { Ok result ≡ unmask_at slot.now there }
 {
     match there {
-        Some(entry) if !is_mask(slot, entry) => Ok(Some(entry.copy()?)),
-        _ => Ok(None),
+        Some(entry) => {
+            if is_mask(slot, &entry) {
+                None
+            } else {
+                Some(entry)
+            }
+        }
+        None => None,
     }
 }
 
 impl Rule {
-    fn at(
-        self,
-        alloc: Global,
-        slot: &TreePath,
-        there: Option<&Entry>,
-    ) -> Result<Result<Option<Entry>, Refusal>, AllocError>
-        ensures { IfOk result (λ ruled. ruled ≡ rule_of self slot.now (option_copied there.entry)) }
+    /// What the rule leaves at a slot.
+    fn at(self, alloc: Global, slot: &TreePath, there: Option<Entry>) -> Result<Option<Entry>, Stop>
+        ensures { Gives (rule_of self slot.now there) result }
     {
         match self {
             Rule::Mask => mask_at(alloc, slot, there),
-            Rule::Unmask => Ok(Ok(unmask_at(slot, there)?)),
+            Rule::Unmask => Ok(unmask_at(slot, there)),
         }
     }
 
     /// Follows the rule at the slot of a unit.
-    fn step<'a>(
+    fn step(
         self,
         alloc: Global,
         scope: Scope,
         unit: &UnitName,
-        edit: Edit<'a>,
-        keys: &mut Keys,
-    ) -> Result<Result<Edit<'a>, Refusal>, AllocError>
-        ensures { IfOk result (GoesOn (ruled_unit (rule_of self) scope unit.now) edit.entry keys.old keys.new) }
+        txn: &mut Transaction<'_>,
+    ) -> Result<(), Stop>
+        ensures { Runs (taking (ruled_unit (rule_of self) scope unit.now)) txn.old txn.new result }
     {
         let slot = scope.place().slot(alloc, unit)?;
-        keys.push(Key::Cell(slot.copy()?))?;
-        let ruled = self.at(alloc, &slot, edit.get(&slot))?;
-        edit.ruled(&slot, ruled)
+        let there = txn.get(&slot)?;
+        let entry = self.at(alloc, &slot, there)?;
+        txn.put(alloc, &slot, entry)?;
+        Ok(())
     }
 
-    /// Follows the rule at the slot of each unit, on the tree that the earlier ones left.
-    fn each<'a>(
+    /// Follows the rule at the slots of units, one after another.
+    #[tactic(auto, using(transaction::proofs::Turns::turns_conclude, transaction::proofs::Turns::turns_look))]
+    fn each(
         self,
         alloc: Global,
         scope: Scope,
         units: &[UnitName],
-        tree: &'a Tree,
-        keys: &mut Keys,
-    ) -> Result<Result<Edit<'a>, Refusal>, AllocError>
-        ensures { IfOk result (GoesOn (each_ruled (rule_of self) scope units.now) (tree.now, tree.now) keys.old keys.new) }
+        txn: &mut Transaction<'_>,
+    ) -> Result<(), Stop>
+        ensures { Runs (taking (each_ruled (rule_of self) scope units.now)) txn.old txn.new result }
     {
-        let mut edit = Edit::new(alloc, tree)?;
         for unit in units {
-            match self.step(alloc, scope, unit, edit, keys)? {
-                Ok(next) => edit = next,
-                Err(refusal) => return Ok(Err(refusal)),
-            }
+            self.step(alloc, scope, unit, txn)?;
         }
-        Ok(Ok(edit))
+        Ok(())
     }
 }
 
@@ -150,9 +145,9 @@ impl Operation for Mask {
     ghost asks = { λ c. false };
 
     fn run(&self, alloc: Global, tree: &Tree) -> Result<Outcome, AllocError> {
-        let mut keys = Keys::none(alloc);
-        let done = Rule::Mask.each(alloc, self.scope, self.units.as_slice(), tree, &mut keys)?;
-        Outcome::of(alloc, tree, keys, Notices::none(alloc), done)
+        let mut txn = Transaction::new(alloc, tree);
+        let done = Rule::Mask.each(alloc, self.scope, self.units.as_slice(), &mut txn);
+        txn.outcome_of_steps(alloc, done)
     }
 
     fn asks_only(&self) -> bool {
@@ -183,9 +178,9 @@ impl Operation for Unmask {
     ghost asks = { λ c. false };
 
     fn run(&self, alloc: Global, tree: &Tree) -> Result<Outcome, AllocError> {
-        let mut keys = Keys::none(alloc);
-        let done = Rule::Unmask.each(alloc, self.scope, self.units.as_slice(), tree, &mut keys)?;
-        Outcome::of(alloc, tree, keys, Notices::none(alloc), done)
+        let mut txn = Transaction::new(alloc, tree);
+        let done = Rule::Unmask.each(alloc, self.scope, self.units.as_slice(), &mut txn);
+        txn.outcome_of_steps(alloc, done)
     }
 
     fn asks_only(&self) -> bool {

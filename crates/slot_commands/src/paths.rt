@@ -29,7 +29,7 @@ impl Paths {
         }
     }
 
-    /// Adds a path. Where memory runs out the list stays as it was.
+    /// Adds a path. If memory runs out, the list stays as it was.
     pub fn push(&mut self, path: TreePath) -> Result<(), AllocError>
         ensures ok { OnOk result (self.new ≡ self.old ++ path ∷ []) }
         ensures err { OnErr result (self.new ≡ self.old) }
@@ -51,7 +51,7 @@ impl Paths {
         self.as_slice() == other.as_slice()
     }
 
-    /// A copy of the paths. Fails only where memory runs out.
+    /// A copy of the paths. Fails only if memory runs out.
     pub fn copy(&self) -> Result<Paths, AllocError>
         ensures { IfOk result (λ paths. paths ≡ self.now) }
     {

@@ -2,25 +2,26 @@
 ghost use Rattle.std.specs.Prelude.{◌≡◌, true, IfOk};
 ghost use Rattle.unit_name.specs.Name.{type_of};
 ghost use Rattle.unit_paths.specs.Slots.{is_slot};
-ghost use Rattle.footprint.specs.Edits.{GoesOn};
 ghost use Rattle.slot_commands.specs.SetDefault.{default_slot, is_target_type, default_file, default_steps};
+ghost use Rattle.transaction.specs.Runs.{Runs, taking};
 
-use footprint::{Edit, Key, Keys, Notices, Operation, Outcome, Refusal, Subject, relink_at};
+use footprint::{Operation, Outcome, Refusal, Subject, relink_at};
 use link_tree::{PathError, Tree, TreePath};
 use std::alloc::{AllocError, Global};
+use transaction::{Stop, Transaction};
 use unit_file::is_template;
 use unit_name::{UnitName, UnitType};
 
-/// systemctl(1), `set-default`: `/etc/systemd/system/default.target` becomes a link to the file of a target, in place of any other
-/// link there. The faults, in this order: `NotFound`, `Masked` or `Dangling`, where the unit isn't found; `BadType`, where the name
-/// that was given is no target's; `NeedsInstance`, where the unit's own name is that of a template; `Exists`, where a file stands
-/// there.
+/// systemctl(1), `set-default`: `/etc/systemd/system/default.target` becomes a link to the file of
+/// a target, and replaces any other link there. The faults, in this order: `NotFound`, `Masked` or
+/// `Dangling` if the unit isn't found; `BadType` if the name that was given is no target's;
+/// `NeedsInstance` if the unit's own name is that of a template; `Exists` if a file is there.
 #[derive(Debug, Drop)]
 pub struct SetDefault {
     pub unit: UnitName,
 }
 
-/// Where the link stands that names the default target.
+/// The path of the link that names the default target.
 fn default_slot(alloc: Global) -> Result<TreePath, AllocError>
     ensures path { IfOk result (λ path. path ≡ default_slot) }
     ensures slot { IfOk result (λ path. is_slot path ≡ true) }
@@ -42,40 +43,36 @@ fn is_target(name: &UnitName) -> bool
 }
 
 impl SetDefault {
-    fn default_file<'a>(
+    /// The unit was found, with this name of its own and this file.
+    #[tactic(auto, unfolding(crate::specs::SetDefault::default_file))]
+    fn default_file(
         &self,
         alloc: Global,
         real: UnitName,
         file: &TreePath,
-        tree: &'a Tree,
-        keys: &mut Keys,
-    ) -> Result<Result<Edit<'a>, Refusal>, AllocError>
-        ensures { IfOk result (GoesOn (default_file self.now.unit real file.now) (tree.now, tree.now) keys.old keys.new) }
+        txn: &mut Transaction<'_>,
+    ) -> Result<(), Stop>
+        ensures { Runs (taking (default_file self.now.unit real file.now)) txn.old txn.new result }
     {
         if !is_target(&self.unit) {
-            return Ok(Err(Refusal::BadType(Subject::Unit(self.unit.copy()?))));
+            return Err(Stop::Refused(Refusal::BadType(Subject::Unit(self.unit.copy()?))));
         }
         if is_template(&real) {
-            return Ok(Err(Refusal::NeedsInstance(real)));
+            return Err(Stop::Refused(Refusal::NeedsInstance(real)));
         }
         let slot = default_slot(alloc)?;
-        keys.push(Key::Cell(slot.copy()?))?;
-        let ruled = relink_at(alloc, file, &slot, tree.get(&slot))?;
-        Edit::new(alloc, tree)?.ruled(&slot, ruled)
+        let there = txn.get(&slot)?;
+        match relink_at(alloc, file, &slot, there.as_ref())? {
+            Ok(entry) => Ok(txn.put(alloc, &slot, entry)?),
+            Err(refusal) => Err(Stop::Refused(refusal)),
+        }
     }
 
-    fn made<'a>(
-        &self,
-        alloc: Global,
-        tree: &'a Tree,
-        keys: &mut Keys,
-    ) -> Result<Result<Edit<'a>, Refusal>, AllocError>
-        ensures { IfOk result (GoesOn (default_steps self.now) (tree.now, tree.now) keys.old keys.new) }
+    fn made(&self, alloc: Global, txn: &mut Transaction<'_>) -> Result<(), Stop>
+        ensures { Runs (taking (default_steps self.now)) txn.old txn.new result }
     {
-        match keys.find_unit(alloc, tree, &self.unit)? {
-            Ok((real, file)) => self.default_file(alloc, real, &file, tree, keys),
-            Err(refusal) => Ok(Err(refusal)),
-        }
+        let (real, file) = txn.unit(alloc, &self.unit)?;
+        self.default_file(alloc, real, &file, txn)
     }
 }
 
@@ -89,9 +86,9 @@ impl Operation for SetDefault {
     ghost asks = { λ c. false };
 
     fn run(&self, alloc: Global, tree: &Tree) -> Result<Outcome, AllocError> {
-        let mut keys = Keys::none(alloc);
-        let done = self.made(alloc, tree, &mut keys)?;
-        Outcome::of(alloc, tree, keys, Notices::none(alloc), done)
+        let mut txn = Transaction::new(alloc, tree);
+        let done = self.made(alloc, &mut txn);
+        txn.outcome_of_steps(alloc, done)
     }
 
     fn asks_only(&self) -> bool {

@@ -55,13 +55,18 @@ abbrev pub by_links : (unit file : List ℕ) → Place → Option Section → (e
 by_links unit file place section etc run =
     if is_enabled_in Etc unit etc then Enabled else if is_enabled_in Run unit run then EnabledRuntime else by_file file place section
 
+-- the word for a unit that is found under its own name and has this section
+abbrev pub linked_word : (unit file : List ℕ) → Place → Option Section → Inquiry StateWord
+linked_word unit file place section = do
+  etc ← entries_seen (Marked Etc unit)
+  run ← entries_seen (Marked Run unit)
+  over (by_links unit file place section etc run)
+
 -- the word for a unit that is found under its own name
 abbrev pub unit_word : (unit file : List ℕ) → Place → Inquiry StateWord
 unit_word unit file place = do
   section ← by_cells (section_of unit)
-  etc ← entries_seen (Marked Etc unit)
-  run ← entries_seen (Marked Run unit)
-  over (by_links unit file place section etc run)
+  linked_word unit file place section
 
 abbrev pub named_word : (name real file : List ℕ) → Place → Inquiry StateWord
 named_word name real file place = if bytes_eq real name then unit_word name file place else over Alias

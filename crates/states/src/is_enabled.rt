@@ -1,7 +1,8 @@
 //! is-enabled.
 ghost use Rattle.std.specs.Prelude.{◌≡◌, IfOk};
 ghost use Rattle.std.specs.Option.{option_copied};
-ghost use Rattle.footprint.specs.Inquiry.{Asks};
+ghost use Rattle.footprint.specs.Inquiry.{Asks, by_cells};
+ghost use Rattle.install_section.specs.Sections.{section_of};
 ghost use Rattle.states.specs.IsEnabled as states;
 ghost use Rattle.states.specs.IsEnabled.{by_place, has_other, asks_for_none, by_lists, by_file, by_links, state_word};
 
@@ -119,6 +120,38 @@ fn by_links(
     Ok(by_file(file, place, section))
 }
 
+/// The section of a unit's file.
+fn section_asked(
+    alloc: Global,
+    tree: &Tree,
+    unit: &UnitName,
+    keys: &mut Keys,
+) -> Result<Option<Section>, AllocError>
+    ensures { IfOk result (Asks tree.now (by_cells (section_of unit.now)) keys.old keys.new) }
+{
+    let mut cells = Cells::new(alloc);
+    let section = section_into(alloc, tree, unit, &mut cells)?;
+    keys.push_cells(cells)?;
+    Ok(section)
+}
+
+/// The word for a unit that is found under its own name and has this section.
+fn linked_word(
+    alloc: Global,
+    tree: &Tree,
+    unit: &UnitName,
+    file: &TreePath,
+    place: Place,
+    section: Option<&Section>,
+    keys: &mut Keys,
+) -> Result<StateWord, AllocError>
+    ensures { IfOk result (Asks tree.now (states.linked_word unit.now file.now place (option_copied section.entry)) keys.old keys.new) }
+{
+    let etc = keys.entries(alloc, tree, Key::Marked(Scope::Etc, unit.copy()?))?;
+    let run = keys.entries(alloc, tree, Key::Marked(Scope::Run, unit.copy()?))?;
+    by_links(alloc, unit, file, place, section, &etc, &run)
+}
+
 /// The word for a unit that is found under its own name.
 fn unit_word(
     alloc: Global,
@@ -130,12 +163,8 @@ fn unit_word(
 ) -> Result<StateWord, AllocError>
     ensures { IfOk result (Asks tree.now (states.unit_word unit.now file.now place) keys.old keys.new) }
 {
-    let mut cells = Cells::new(alloc);
-    let section = section_into(alloc, tree, unit, &mut cells)?;
-    keys.push_cells(cells)?;
-    let etc = keys.entries(alloc, tree, Key::Marked(Scope::Etc, unit.copy()?))?;
-    let run = keys.entries(alloc, tree, Key::Marked(Scope::Run, unit.copy()?))?;
-    by_links(alloc, unit, file, place, section.as_ref(), &etc, &run)
+    let section = section_asked(alloc, tree, unit, keys)?;
+    linked_word(alloc, tree, unit, file, place, section.as_ref(), keys)
 }
 
 /// The word for a unit that is found, by its own name.

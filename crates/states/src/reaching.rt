@@ -4,7 +4,7 @@ ghost use Rattle.std.specs.Option.{option_copied};
 ghost use Rattle.std.specs.FinMap as map;
 ghost use Rattle.unit_name.specs.Parts.{kind_of};
 ghost use Rattle.unit_name.specs.Name.{instance_of};
-ghost use Rattle.states.specs.Dependencies.{end_for, ends_for, next_names, dependencies};
+ghost use Rattle.states.specs.Dependencies.{end_for, ends_for, next_names, dependencies, set_of};
 ghost use Rattle.states.specs.Reaching.{ends_at, with_name, with_names, AreReached, names_but};
 
 use crate::ends::Ends;
@@ -113,18 +113,37 @@ impl Names {
     fn in_order_without(self, alloc: Global, left_out: &UnitName) -> Result<Units, AllocError>
         ensures { IfOk result (λ names. names ≡ names_but self left_out.now) }
     {
+        let set = self.set_without(alloc, left_out)?;
+        in_order(alloc, set)
+    }
+
+    /// The set of the names but for one.
+    fn set_without(
+        self,
+        alloc: Global,
+        left_out: &UnitName,
+    ) -> Result<BTreeSet<UnitName>, AllocError>
+        ensures { IfOk result (λ set. set_of set.keys ≡ map.remove (set_of self) left_out.now) }
+    {
         let mut set = BTreeSet::new(alloc);
         for name in self.names {
             if name != *left_out {
                 set.insert(name)?;
             }
         }
-        let mut names = Units::none(alloc);
-        for name in set {
-            names.push(name)?;
-        }
-        Ok(names)
+        Ok(set)
     }
+}
+
+/// The names of a set, in byte order.
+fn in_order(alloc: Global, set: BTreeSet<UnitName>) -> Result<Units, AllocError>
+    ensures { IfOk result (λ names. names ≡ map.keys (set_of set.keys)) }
+{
+    let mut names = Units::none(alloc);
+    for name in set {
+        names.push(name)?;
+    }
+    Ok(names)
 }
 
 /// Where a step from a template to `end` leads its instance; `None` where it leads it nowhere.

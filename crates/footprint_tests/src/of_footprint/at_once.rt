@@ -3,13 +3,12 @@ use super::texts::{push_key, read_as};
 use footprint::{Answer, Edit, Key, Keys, Notices, Outcome, Refusal, WantedLinks};
 use link_tree::{Change, Entry, Scope, Slot, Tree, TreePath};
 use load_path::{End, Found};
+use sample_rows::{Row, unlike};
 use sample_values::{name, path, tree};
 use std::alloc::{AllocError, Global};
-use std::process::Abort;
 use std::test::Fail;
-use unit_name::ample;
 
-/// `b` leads to its file in another spelling, `c` elsewhere, and a file stands at `d`.
+/// `b` leads to its file in another spelling, `c` elsewhere, and a file is at `d`.
 const TREE: &[u8] = b"unitadm-inventory 1
 L\t/etc/systemd/system/b.service\t../../../usr/lib/systemd/system/b.service
 L\t/etc/systemd/system/c.service\t/opt/c.service
@@ -21,7 +20,42 @@ a
 end
 ";
 
-/// Wants a link at a slot by `+`, and else nothing there.
+const ROWS: &[u8] = b"\
+    # wanted: how TREE changes if links are wanted (`+z`: z.service leads to its file) or not\n\
+    # (`-c`: nothing is there), all at once. For each change the entry before and the one after,\n\
+    # and behind `|` the cells that are read.\n\
+    wanted\t+z -c +b -d -y +a\t\ta.service + /usr/lib/systemd/system/a.service\\n\
+        c.service - /opt/c.service\\nd.service - d\\n\
+        z.service + /usr/lib/systemd/system/z.service\\n\
+        | a.service b.service c.service d.service y.service z.service\n\
+    # The least path at which something else exists is refused, and all are read.\n\
+    wanted\t+d +z +c +a\t\texists c.service| a.service c.service d.service z.service\n\
+    wanted\t+d -c\t\texists d.service| c.service d.service\n\
+    # What is wanted last counts.\n\
+    wanted\t+c -c\t\tc.service - /opt/c.service\\n| c.service\n\
+    wanted\t-c +c\t\texists c.service| c.service\n\
+    # cleared: the same if the links in `/etc` are cleared that belong to ONE or TWO.\n\
+    cleared\ta.service\tb.service\t\
+        b.service - ../../../usr/lib/systemd/system/b.service\\n\
+        a.service - /usr/lib/systemd/system/a.service\\n\
+        | b.service a.service\n\
+    # looks: what is found if a unit is looked up, a link is followed and the links of\n\
+    # dependencies are counted. All that is looked at is noted: these keys come last.\n\
+    looks\ta.service /etc/systemd/system/c.service links\t\t\
+        /usr/lib/systemd/system/a.service\\n\
+        /etc/systemd/system/c.service\\n\
+        1\\n\
+        /etc/systemd/system/a.service\\n\
+        /run/systemd/system/a.service\\n\
+        /usr/local/lib/systemd/system/a.service\\n\
+        /usr/lib/systemd/system/a.service\\n\
+        /etc/systemd/system/c.service\\n\
+        /opt/c.service\\n\
+        links\\n\n\
+    # reads: what the keys ONE read. No presets are an empty set.\n\
+    reads\tpresets\t\tpresets\\nunitadm-inventory 1\\nend\\n\n";
+
+/// Wants a link at a slot by `+`, and otherwise none there.
 fn put(
     wanted: &mut WantedLinks,
     sign: u8,
@@ -46,7 +80,7 @@ fn put_at(
 ) -> Result<(), AllocError> {
     let at = path(alloc, at)?;
     let file = path(alloc, file)?;
-    ample!(put(wanted, sign, &at, &file), AllocError)
+    put(wanted, sign, &at, &file)
 }
 
 fn want(alloc: Global, wanted: &mut WantedLinks, word: &[u8]) -> Result<(), AllocError> {
@@ -60,7 +94,7 @@ fn want(alloc: Global, wanted: &mut WantedLinks, word: &[u8]) -> Result<(), Allo
     put_at(alloc, wanted, *sign, &at, &file)
 }
 
-/// Wants links, each to the file of its name: `+a` a link for `a`, `-a` nothing there.
+/// Wants links, each to the file of its name: `+a` a link at `a.service`, `-a` none there.
 fn wanted(alloc: Global, words: &[u8]) -> Result<WantedLinks, AllocError> {
     let mut wanted = WantedLinks::none(alloc);
     for word in words.split(|b| *b == b' ') {
@@ -84,8 +118,8 @@ fn push_change(text: &mut Vec<u8>, change: &Change) -> Result<(), AllocError> {
     text.extend_from_slice(b"\n")
 }
 
-/// The letters of the paths that were changed, with what stood there and what stands there, or the refusal, and then the letters of
-/// the cells that were read.
+/// The names at which something was changed, with the entry before and the one after, or the refusal; and then the names of the cells
+/// that were read.
 fn push_outcome(text: &mut Vec<u8>, outcome: &Outcome) -> Result<(), AllocError> {
     if let Answer::Refused(Refusal::Exists(path)) = &outcome.answer {
         text.extend_from_slice(b"exists ")?;
@@ -110,7 +144,7 @@ fn text_of(alloc: Global, outcome: &Outcome) -> Result<Vec<u8>, AllocError> {
     Ok(text)
 }
 
-/// What is told of links that are wanted, where these keys were looked at before.
+/// What is reported of links that are wanted, if these keys were looked at before.
 fn made(
     alloc: Global,
     tree: &Tree,
@@ -125,52 +159,11 @@ fn made(
     text_of(alloc, &outcome)
 }
 
-/// What is told of the links that are wanted by these words.
+/// What is reported of the links that are wanted by these words.
 fn told(alloc: Global, words: &[u8]) -> Result<Vec<u8>, AllocError> {
     let tree = tree(alloc, TREE)?;
     let wanted = wanted(alloc, words)?;
     made(alloc, &tree, Keys::none(alloc), &wanted)
-}
-
-fn assert_made(rt: &impl Abort, alloc: Global, words: &[u8], text: &[u8]) -> Result<(), Fail> {
-    let told = ample!(told(alloc, words), AllocError)?;
-    assert_eq!(rt; told.as_slice(), text);
-    Ok(())
-}
-
-#[test]
-fn links_are_made_and_taken_away_all_at_once(rt: HostRuntime) -> Result<(), Fail> {
-    assert_made(
-        &rt,
-        rt.alloc(),
-        b"+z -c +b -d -y +a",
-        b"a.service + /usr/lib/systemd/system/a.service\n\
-        c.service - /opt/c.service\n\
-        d.service - d\n\
-        z.service + /usr/lib/systemd/system/z.service\n\
-        | a.service b.service c.service d.service y.service z.service",
-    )
-}
-
-#[test]
-fn the_least_path_is_refused_and_all_are_read(rt: HostRuntime) -> Result<(), Fail> {
-    let alloc = rt.alloc();
-    let text = b"exists c.service| a.service c.service d.service z.service";
-    assert_made(&rt, alloc, b"+d +z +c +a", text)?;
-    let text = b"exists d.service| c.service d.service";
-    assert_made(&rt, alloc, b"+d -c", text)
-}
-
-#[test]
-fn what_is_wanted_last_counts(rt: HostRuntime) -> Result<(), Fail> {
-    let alloc = rt.alloc();
-    assert_made(
-        &rt,
-        alloc,
-        b"+c -c",
-        b"c.service - /opt/c.service\n| c.service",
-    )?;
-    assert_made(&rt, alloc, b"-c +c", b"exists c.service| c.service")
 }
 
 fn push_line(text: &mut Vec<u8>, line: &[u8]) -> Result<(), AllocError> {
@@ -226,64 +219,51 @@ fn follow(
     push_end(text, &end)
 }
 
-fn count_links(alloc: Global, tree: &Tree, keys: &mut Keys) -> Result<usize, AllocError> {
-    let entries = keys.entries(alloc, tree, Key::Links)?;
-    Ok(entries.len())
+fn count_links(
+    alloc: Global,
+    tree: &Tree,
+    keys: &mut Keys,
+    text: &mut Vec<u8>,
+) -> Result<(), AllocError> {
+    let count = keys.entries(alloc, tree, Key::Links)?.len();
+    let line = format!(in alloc; "{count}\n")?;
+    text.extend_from_slice(line.as_bytes())
 }
 
-/// Looks a unit up, follows a link, and counts the links of dependencies.
-fn look(alloc: Global, tree: &Tree, keys: &mut Keys, text: &mut Vec<u8>) -> Result<(), AllocError> {
-    find(alloc, tree, b"a.service", keys, text)?;
-    follow(alloc, tree, b"/etc/systemd/system/c.service", keys, text)?;
-    match count_links(alloc, tree, keys)? {
-        1 => push_line(text, b"1"),
-        _ => push_line(text, b"?"),
+/// Looks a unit up, follows a link, or counts the links of dependencies.
+fn look(
+    alloc: Global,
+    tree: &Tree,
+    word: &[u8],
+    keys: &mut Keys,
+    text: &mut Vec<u8>,
+) -> Result<(), AllocError> {
+    if word == b"links".as_slice() {
+        return count_links(alloc, tree, keys, text);
     }
+    if word.starts_with(b"/") {
+        return follow(alloc, tree, word, keys, text);
+    }
+    find(alloc, tree, word, keys, text)
 }
 
-fn push_looked(alloc: Global, text: &mut Vec<u8>) -> Result<(), AllocError> {
+fn push_looks(alloc: Global, words: &[u8], text: &mut Vec<u8>) -> Result<(), AllocError> {
     let tree = tree(alloc, TREE)?;
     let mut keys = Keys::none(alloc);
-    look(alloc, &tree, &mut keys, text)?;
+    for word in words.split(|b| *b == b' ') {
+        look(alloc, &tree, word, &mut keys, text)?;
+    }
     push_keys(text, &keys)
 }
 
-/// What is found for a unit, behind a link and of the links of dependencies, and the keys of all that, a line for each.
-fn looked(alloc: Global) -> Result<Vec<u8>, AllocError> {
+/// What is found, a line for each, and the keys of all that.
+fn looks(alloc: Global, words: &[u8]) -> Result<Vec<u8>, AllocError> {
     let mut text = Vec::new(alloc);
-    push_looked(alloc, &mut text)?;
+    push_looks(alloc, words, &mut text)?;
     Ok(text)
 }
 
-#[test]
-fn what_is_looked_at_is_noted(rt: HostRuntime) -> Result<(), Fail> {
-    let looked = ample!(looked(rt.alloc()), AllocError)?;
-    let text = b"/usr/lib/systemd/system/a.service
-/etc/systemd/system/c.service
-1
-/etc/systemd/system/a.service
-/run/systemd/system/a.service
-/usr/local/lib/systemd/system/a.service
-/usr/lib/systemd/system/a.service
-/etc/systemd/system/c.service
-/opt/c.service
-links
-";
-    assert_eq!(rt; looked.as_slice(), text.as_slice());
-    Ok(())
-}
-
-#[test]
-fn no_presets_are_an_empty_set(rt: HostRuntime) -> Result<(), Fail> {
-    let read = read_as(rt.alloc(), TREE, b"presets")?;
-    assert_eq!(rt;
-        read.as_slice(),
-        b"presets\nunitadm-inventory 1\nend\n".as_slice()
-    );
-    Ok(())
-}
-
-/// Wants nothing in `/etc` where a link belongs to one of two names.
+/// Wants none of the links in `/etc` that belong to one of two names.
 fn wanted_away(
     alloc: Global,
     tree: &Tree,
@@ -298,7 +278,7 @@ fn wanted_away(
     WantedLinks::cleared(alloc, &links)
 }
 
-/// What is told where the links in `/etc` are taken away that belong to one of two names.
+/// What is made if the links in `/etc` are cleared that belong to one of two names.
 fn cleared(alloc: Global, one: &[u8], other: &[u8]) -> Result<Vec<u8>, AllocError> {
     let tree = tree(alloc, TREE)?;
     let mut keys = Keys::none(alloc);
@@ -306,12 +286,26 @@ fn cleared(alloc: Global, one: &[u8], other: &[u8]) -> Result<Vec<u8>, AllocErro
     made(alloc, &tree, keys, &wanted)
 }
 
+fn answer(alloc: Global, row: &Row) -> Result<Vec<u8>, AllocError> {
+    let kind = row.kind.as_slice();
+    if kind == b"wanted".as_slice() {
+        return told(alloc, &row.one);
+    }
+    if kind == b"cleared".as_slice() {
+        return cleared(alloc, &row.one, &row.two);
+    }
+    if kind == b"looks".as_slice() {
+        return looks(alloc, &row.one);
+    }
+    if kind == b"reads".as_slice() {
+        return read_as(alloc, TREE, &row.one);
+    }
+    Vec::from_slice(alloc, b"unknown kind")
+}
+
 #[test]
-fn links_of_several_names_are_taken_away(rt: HostRuntime) -> Result<(), Fail> {
-    let told = ample!(cleared(rt.alloc(), b"a.service", b"b.service"), AllocError)?;
-    let text = b"b.service - ../../../usr/lib/systemd/system/b.service\n\
-        a.service - /usr/lib/systemd/system/a.service\n\
-        | b.service a.service";
-    assert_eq!(rt; told.as_slice(), text.as_slice());
+fn links_are_made_and_cleared_all_at_once(rt: HostRuntime) -> Result<(), Fail> {
+    let found = unlike(rt.alloc(), ROWS, answer)?;
+    assert_eq!(rt; found.as_slice(), b"".as_slice());
     Ok(())
 }

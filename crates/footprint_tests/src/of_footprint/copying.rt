@@ -4,12 +4,46 @@ use footprint::{
     Answer, Changes, Edit, Notice, NoticeKey, Notices, Reason, Refusal, StateWord, Units,
 };
 use link_tree::{Slot, Tree, TreePath};
+use sample_rows::{Row, unlike};
 use sample_values::{link, name, path, tree};
 use std::alloc::{AllocError, Global};
 use std::fmt::Debug;
 use std::test::Fail;
 use unit_file::Word;
-use unit_name::{UnitName, ample};
+
+const TREE: &[u8] = b"unitadm-inventory 1
+L\t/etc/systemd/system/a.service\tc.service
+F\t1\t/etc/systemd/system/b.service
+b
+end
+";
+
+const ROWS: &[u8] = b"\
+    # key, reading, changes, answer: whether a copy is the same as the original, or is shown\n\
+    # alike.\n\
+    key\t/a/b\t\tthe same\n\
+    key\tetc:a.service\t\tthe same\n\
+    key\trun:b.service\t\tthe same\n\
+    key\tpresets\t\tthe same\n\
+    key\tlinks\t\tthe same\n\
+    # A reading by the keys ONE, and how many observations its copy has.\n\
+    reading\t/etc/systemd/system/a.service /a etc:a.service links\t\t4, shown alike\n\
+    # The changes of TREE if ONE is linked elsewhere and TWO is removed, and how many their copy\n\
+    # has.\n\
+    changes\t/etc/systemd/system/a.service\t/etc/systemd/system/b.service\t2, shown alike\n\
+    answer\tdone\t\tthe same, shown alike\n\
+    answer\tstate\t\tthe same, shown alike\n\
+    answer\tname\t\tthe same, shown alike\n\
+    answer\tnames\t\tthe same, shown alike\n\
+    answer\trefused\t\tthe same, shown alike\n";
+
+fn key_copied(alloc: Global, text: &[u8]) -> Result<Vec<u8>, AllocError> {
+    let key = key(alloc, text)?;
+    match key.copy()? == key {
+        true => Vec::from_slice(alloc, b"the same"),
+        false => Vec::from_slice(alloc, b"another"),
+    }
+}
 
 /// Whether two values are shown by the same text.
 fn are_shown_alike<T: Debug>(alloc: Global, one: &T, other: &T) -> Result<bool, AllocError> {
@@ -18,42 +52,20 @@ fn are_shown_alike<T: Debug>(alloc: Global, one: &T, other: &T) -> Result<bool, 
     Ok(one == other)
 }
 
-fn is_key_copied(alloc: Global, text: &[u8]) -> Result<bool, AllocError> {
-    let key = key(alloc, text)?;
-    Ok(key.copy()? == key)
+fn count_text(alloc: Global, count: usize, are_alike: bool) -> Result<Vec<u8>, AllocError> {
+    let shown = if are_alike { "alike" } else { "otherwise" };
+    Ok(format!(in alloc; "{count}, shown {shown}")?.into_bytes())
 }
 
-#[test]
-fn keys_are_copied(rt: HostRuntime) -> Result<(), Fail> {
-    let texts = b"/a/b etc:a.service run:b.service presets links";
-    for text in texts.split(|b| *b == b' ') {
-        assert!(rt;
-            ample!(is_key_copied(rt.alloc(), text), AllocError)?,
-            "{text:?}"
-        );
-    }
-    Ok(())
-}
-
-/// How many observations the copy of a reading has, and whether it is shown as the reading is.
-fn copied_reading(alloc: Global) -> Result<(usize, bool), AllocError> {
+fn reading_copied(alloc: Global, keys: &[u8]) -> Result<Vec<u8>, AllocError> {
     let inventory = b"unitadm-inventory 1\nL\t/etc/systemd/system/a.service\tb.service\nend\n";
-    let keys = b"/etc/systemd/system/a.service /a etc:a.service links";
     let reading = reading(alloc, inventory, keys)?;
     let copy = Box::new(alloc, reading.copy()?)?;
-    Ok((
-        copy.as_slice().len(),
-        are_shown_alike(alloc, &*copy, &*reading)?,
-    ))
+    let are_alike = are_shown_alike(alloc, &*copy, &*reading)?;
+    count_text(alloc, copy.as_slice().len(), are_alike)
 }
 
-#[test]
-fn readings_are_copied(rt: HostRuntime) -> Result<(), Fail> {
-    assert_eq!(rt; ample!(copied_reading(rt.alloc()), AllocError)?, (4, true));
-    Ok(())
-}
-
-/// The changes where a link comes in place of what stands at one slot, and what stands at another goes.
+/// The changes if one slot is linked elsewhere, and another is cleared.
 fn edited(
     alloc: Global,
     tree: &Tree,
@@ -68,30 +80,18 @@ fn edited(
     edit.with(cleared, None)?.into_changes(alloc)
 }
 
-fn changes(alloc: Global) -> Result<Changes, AllocError> {
-    let tree = tree(
-        alloc,
-        b"unitadm-inventory 1\nL\t/etc/systemd/system/a.service\tc.service\nF\t1\t/etc/systemd/system/b.service\nb\nend\n",
-    )?;
-    let relinked = path(alloc, b"/etc/systemd/system/a.service")?;
-    let cleared = path(alloc, b"/etc/systemd/system/b.service")?;
+fn changes(alloc: Global, relinked: &[u8], cleared: &[u8]) -> Result<Changes, AllocError> {
+    let tree = tree(alloc, TREE)?;
+    let relinked = path(alloc, relinked)?;
+    let cleared = path(alloc, cleared)?;
     edited(alloc, &tree, &relinked, &cleared)
 }
 
-/// How many changes a copy of changes has, and whether it is shown as they are.
-fn copied_changes(alloc: Global) -> Result<(usize, bool), AllocError> {
-    let changes = changes(alloc)?;
+fn changes_copied(alloc: Global, relinked: &[u8], cleared: &[u8]) -> Result<Vec<u8>, AllocError> {
+    let changes = changes(alloc, relinked, cleared)?;
     let copy = changes.copy()?;
-    Ok((
-        copy.as_slice().len(),
-        are_shown_alike(alloc, &copy, &changes)?,
-    ))
-}
-
-#[test]
-fn changes_are_copied(rt: HostRuntime) -> Result<(), Fail> {
-    assert_eq!(rt; ample!(copied_changes(rt.alloc()), AllocError)?, (2, true));
-    Ok(())
+    let are_alike = are_shown_alike(alloc, &copy, &changes)?;
+    count_text(alloc, copy.as_slice().len(), are_alike)
 }
 
 fn notice(alloc: Global) -> Result<Notice, AllocError> {
@@ -109,13 +109,9 @@ fn notices(alloc: Global) -> Result<Notices, AllocError> {
     Ok(notices)
 }
 
-fn push_copy(names: &mut Units, name: &UnitName) -> Result<(), AllocError> {
-    names.push(name.copy()?)
-}
-
 fn push_name(alloc: Global, names: &mut Units, text: &[u8]) -> Result<(), AllocError> {
     let name = name(alloc, text)?;
-    ample!(push_copy(names, &name), AllocError)
+    names.push(name)
 }
 
 fn names(alloc: Global) -> Result<Units, AllocError> {
@@ -126,32 +122,48 @@ fn names(alloc: Global) -> Result<Units, AllocError> {
     Ok(names)
 }
 
-/// An answer of each kind, by its number.
-fn answer(alloc: Global, number: usize) -> Result<Box<Answer>, AllocError> {
-    let answer = match number {
-        0 => Answer::Done(notices(alloc)?),
-        1 => Answer::State(StateWord::LinkedRuntime),
-        2 => Answer::Name(name(alloc, b"a.target")?),
-        3 => Answer::Names(names(alloc)?),
+fn answer_named(alloc: Global, word: &[u8]) -> Result<Box<Answer>, AllocError> {
+    let answer = match word {
+        b"done" => Answer::Done(notices(alloc)?),
+        b"state" => Answer::State(StateWord::LinkedRuntime),
+        b"name" => Answer::Name(name(alloc, b"a.target")?),
+        b"names" => Answer::Names(names(alloc)?),
         _ => Answer::Refused(Refusal::Clash(path(alloc, b"/b")?)),
     };
     Ok(Box::new(alloc, answer)?)
 }
 
-/// Whether a copy of an answer is the same, and shown as the answer is.
-fn is_answer_copied(alloc: Global, number: usize) -> Result<bool, AllocError> {
-    let answer = answer(alloc, number)?;
+fn answer_copied(alloc: Global, word: &[u8]) -> Result<Vec<u8>, AllocError> {
+    let answer = answer_named(alloc, word)?;
     let copy = Box::new(alloc, answer.copy()?)?;
-    Ok(copy.same(&answer) && are_shown_alike(alloc, &*copy, &*answer)?)
+    let are_alike = are_shown_alike(alloc, &*copy, &*answer)?;
+    match (copy.same(&answer), are_alike) {
+        (true, true) => Vec::from_slice(alloc, b"the same, shown alike"),
+        (true, false) => Vec::from_slice(alloc, b"the same, shown otherwise"),
+        (false, _) => Vec::from_slice(alloc, b"another"),
+    }
+}
+
+fn answer(alloc: Global, row: &Row) -> Result<Vec<u8>, AllocError> {
+    let kind = row.kind.as_slice();
+    if kind == b"key".as_slice() {
+        return key_copied(alloc, &row.one);
+    }
+    if kind == b"reading".as_slice() {
+        return reading_copied(alloc, &row.one);
+    }
+    if kind == b"changes".as_slice() {
+        return changes_copied(alloc, &row.one, &row.two);
+    }
+    if kind == b"answer".as_slice() {
+        return answer_copied(alloc, &row.one);
+    }
+    Vec::from_slice(alloc, b"unknown kind")
 }
 
 #[test]
-fn answers_are_copied(rt: HostRuntime) -> Result<(), Fail> {
-    for number in 0..5 {
-        assert!(rt;
-            ample!(is_answer_copied(rt.alloc(), number), AllocError)?,
-            "{number}"
-        );
-    }
+fn copies_are_the_same_and_shown_alike(rt: HostRuntime) -> Result<(), Fail> {
+    let found = unlike(rt.alloc(), ROWS, answer)?;
+    assert_eq!(rt; found.as_slice(), b"".as_slice());
     Ok(())
 }

@@ -2,13 +2,13 @@
 use super::texts::{push_key, read_as};
 use crate::keys::{EMPTY, reading};
 use footprint::agrees;
+use link_tree::Tree;
+use sample_rows::{Row, unlike};
 use sample_values::tree;
 use std::alloc::{AllocError, Global};
-use std::process::Abort;
 use std::test::Fail;
-use unit_name::ample;
 
-/// An alias, a dependency, a mask and a file of presets.
+/// An alias, a dependency, a mask and a preset file.
 const SMALL: &[u8] = b"unitadm-inventory 1
 F\t9\t/etc/systemd/system-preset/1.preset
 enable *
@@ -19,171 +19,149 @@ L\t/run/systemd/system/a.service\t/dev/null
 end
 ";
 
-/// What `SMALL` is read as by each of the keys once, in their order.
-const READ: &[u8] = b"/etc/systemd/system/a.service absent
-/etc/systemd/system/b.service a.service
-etc:a.service
-unitadm-inventory 1
-L\t/etc/systemd/system/b.service\ta.service
-L\t/etc/systemd/system/c.target.wants/a.service\t/usr/lib/systemd/system/a.service
-end
-etc:b.service
-unitadm-inventory 1
-L\t/etc/systemd/system/b.service\ta.service
-end
-run:a.service
-unitadm-inventory 1
-end
-presets
-unitadm-inventory 1
-F\t9\t/etc/systemd/system-preset/1.preset
-enable *
+const ROWS: &[u8] = b"\
+    # reads: what SMALL is read as by the keys ONE, each key once and in their order: the entry\n\
+    # at a path, or the inventory of what a set has.\n\
+    reads\t\
+        links run:a.service etc:b.service presets /etc/systemd/system/b.service etc:a.service \
+        links presets etc:b.service /etc/systemd/system/a.service /etc/systemd/system/b.service\t\t\
+        /etc/systemd/system/a.service absent\\n\
+        /etc/systemd/system/b.service a.service\\n\
+        etc:a.service\\n\
+        unitadm-inventory 1\\n\
+        L\\t/etc/systemd/system/b.service\\ta.service\\n\
+        L\\t/etc/systemd/system/c.target.wants/a.service\\t/usr/lib/systemd/system/a.service\\n\
+        end\\n\
+        etc:b.service\\n\
+        unitadm-inventory 1\\n\
+        L\\t/etc/systemd/system/b.service\\ta.service\\n\
+        end\\n\
+        run:a.service\\n\
+        unitadm-inventory 1\\n\
+        end\\n\
+        presets\\n\
+        unitadm-inventory 1\\n\
+        F\\t9\\t/etc/systemd/system-preset/1.preset\\n\
+        enable *\\n\
+        \\n\
+        end\\n\
+        links\\n\
+        unitadm-inventory 1\\n\
+        L\\t/etc/systemd/system/c.target.wants/a.service\\t/usr/lib/systemd/system/a.service\\n\
+        end\\n\n\
+    # Three sets have entries in common.\n\
+    reads\tlinks etc:b.service /etc/systemd/system/b.service etc:a.service\t\t\
+        /etc/systemd/system/b.service a.service\\n\
+        etc:a.service\\n\
+        unitadm-inventory 1\\n\
+        L\\t/etc/systemd/system/b.service\\ta.service\\n\
+        L\\t/etc/systemd/system/c.target.wants/a.service\\t/usr/lib/systemd/system/a.service\\n\
+        end\\n\
+        etc:b.service\\n\
+        unitadm-inventory 1\\n\
+        L\\t/etc/systemd/system/b.service\\ta.service\\n\
+        end\\n\
+        links\\n\
+        unitadm-inventory 1\\n\
+        L\\t/etc/systemd/system/c.target.wants/a.service\\t/usr/lib/systemd/system/a.service\\n\
+        end\\n\n\
+    # conflict: the first of the keys ONE, by which SMALL is read, that says something else of\n\
+    # the tree TWO. A tree agrees with its own reading.\n\
+    conflict\tlinks etc:x.service etc:b.service presets\tsmall\tnone\n\
+    conflict\tlinks etc:x.service etc:b.service presets\t\
+        /etc/systemd/system/x.service -> /dev/null\tetc:b.service\n\
+    # conflict with nothing: the same of a tree without entries that is read.\n\
+    conflict with nothing\t/etc/systemd/system/x.service\t\tnone\n\
+    conflict with nothing\t/etc/systemd/system/x.service\t\
+        /etc/systemd/system/x.service -> /dev/null\t/etc/systemd/system/x.service\n\
+    conflict with nothing\tlinks etc:x.service etc:b.service presets\t\tnone\n\
+    # Sets are compared whole: one link more, none, and another target are conflicts. A mask is\n\
+    # no dependency.\n\
+    conflict\tlinks\t\
+        /etc/systemd/system/c.target.wants/a.service -> /usr/lib/systemd/system/a.service|\
+        /etc/systemd/system/x.service -> /dev/null\tnone\n\
+    conflict\tlinks\t\
+        /etc/systemd/system/c.target.wants/a.service -> /usr/lib/systemd/system/a.service|\
+        /run/systemd/system/c.target.requires/a.service -> /usr/lib/systemd/system/a.service\t\
+        links\n\
+    conflict\tlinks\t\tlinks\n\
+    conflict\tlinks\t\
+        /etc/systemd/system/c.target.wants/a.service -> /usr/local/lib/systemd/system/a.service\t\
+        links\n\
+    # So are the links that belong to a name in a scope.\n\
+    conflict\tetc:b.service\t/etc/systemd/system/b.service -> a.service|\
+        /etc/systemd/system/x.service -> /dev/null|/run/systemd/system/b.service -> a.service\t\
+        none\n\
+    conflict\tetc:b.service\t/etc/systemd/system/b.service -> a.service|\
+        /etc/systemd/system/x.service -> b.service\tetc:b.service\n\
+    conflict\tetc:b.service\t\tetc:b.service\n\
+    conflict\tetc:b.service\t/etc/systemd/system/b.service -> c.service\tetc:b.service\n";
 
-end
-links
-unitadm-inventory 1
-L\t/etc/systemd/system/c.target.wants/a.service\t/usr/lib/systemd/system/a.service
-end
-";
-
-fn assert_read(rt: &impl Abort, alloc: Global, keys: &[u8], text: &[u8]) -> Result<(), Fail> {
-    let read = read_as(alloc, SMALL, keys)?;
-    assert_eq!(rt; read.as_slice(), text);
-    Ok(())
+/// Adds a link to an inventory: its path, an arrow and its target.
+fn push_link(inventory: &mut Vec<u8>, link: &[u8]) -> Result<(), AllocError> {
+    let mut words = link.split(|b| *b == b' ');
+    inventory.extend_from_slice(b"L\t")?;
+    inventory.extend_from_slice(words.next().unwrap_or(b""))?;
+    let _arrow = words.next();
+    inventory.extend_from_slice(b"\t")?;
+    inventory.extend_from_slice(words.next().unwrap_or(b""))?;
+    inventory.extend_from_slice(b"\n")
 }
 
-#[test]
-fn keys_are_read_once_in_their_order(rt: HostRuntime) -> Result<(), Fail> {
-    let keys =
-        b"links run:a.service etc:b.service presets /etc/systemd/system/b.service etc:a.service links presets etc:b.service /etc/systemd/system/a.service /etc/systemd/system/b.service";
-    assert_read(&rt, rt.alloc(), keys, READ)
+fn inventory_of(alloc: Global, links: &[u8]) -> Result<Vec<u8>, AllocError> {
+    let mut inventory = Vec::from_slice(alloc, b"unitadm-inventory 1\n")?;
+    for link in links.split(|b| *b == b'|') {
+        if !link.is_empty() {
+            push_link(&mut inventory, link)?;
+        }
+    }
+    inventory.extend_from_slice(b"end\n")?;
+    Ok(inventory)
 }
 
-/// What `SMALL` is read as by three sets, which have entries in common, and by a cell.
-const READ_OF_SETS: &[u8] = b"/etc/systemd/system/b.service a.service
-etc:a.service
-unitadm-inventory 1
-L\t/etc/systemd/system/b.service\ta.service
-L\t/etc/systemd/system/c.target.wants/a.service\t/usr/lib/systemd/system/a.service
-end
-etc:b.service
-unitadm-inventory 1
-L\t/etc/systemd/system/b.service\ta.service
-end
-links
-unitadm-inventory 1
-L\t/etc/systemd/system/c.target.wants/a.service\t/usr/lib/systemd/system/a.service
-end
-";
-
-#[test]
-fn three_sets_are_read_of_one_tree(rt: HostRuntime) -> Result<(), Fail> {
-    let keys = b"links etc:b.service /etc/systemd/system/b.service etc:a.service";
-    assert_read(&rt, rt.alloc(), keys, READ_OF_SETS)
+/// The tree `small`, or one of links that have `|` between them.
+fn tree_of(alloc: Global, text: &[u8]) -> Result<Box<Tree>, AllocError> {
+    if text == b"small".as_slice() {
+        return tree(alloc, SMALL);
+    }
+    let inventory = inventory_of(alloc, text)?;
+    tree(alloc, &inventory)
 }
 
-const MASK: &[u8] = b"unitadm-inventory 1\nL\t/etc/systemd/system/x.service\t/dev/null\nend\n";
-
-/// The first of these keys, by which the one tree is read, of which the other says something else; empty where there is none.
-fn first_other(
+/// The first of these keys, by which the tree of an inventory is read, that says something else of another tree.
+fn conflict(
     alloc: Global,
-    one: &[u8],
-    other: &[u8],
+    inventory: &[u8],
     keys: &[u8],
+    other: &[u8],
 ) -> Result<Vec<u8>, AllocError> {
-    let other = tree(alloc, other)?;
-    let reading = reading(alloc, one, keys)?;
+    let other = tree_of(alloc, other)?;
+    let reading = reading(alloc, inventory, keys)?;
     let mut text = Vec::new(alloc);
-    if let Err(key) = agrees(&other, &reading) {
-        push_key(&mut text, key)?;
+    match agrees(&other, &reading) {
+        Ok(()) => text.extend_from_slice(b"none")?,
+        Err(key) => push_key(&mut text, key)?,
     }
     Ok(text)
 }
 
-/// Whether a tree agrees with what the one is read as by these keys.
-fn agrees_with(alloc: Global, one: &[u8], other: &[u8], keys: &[u8]) -> Result<bool, AllocError> {
-    let other = tree(alloc, other)?;
-    let reading = reading(alloc, one, keys)?;
-    Ok(agrees(&other, &reading).is_ok())
-}
-
-/// Of these keys, by which the one tree is read, this is the first of which the other says something else; none, if it is
-/// empty. A tree agrees with its own reading.
-fn assert_first_other(
-    rt: &impl Abort,
-    alloc: Global,
-    (one, other, keys, expected): (&[u8], &[u8], &[u8], &[u8]),
-) -> Result<(), Fail> {
-    assert!(rt; agrees_with(alloc, one, one, keys)?);
-    let first = ample!(first_other(alloc, one, other, keys), AllocError)?;
-    assert_eq!(rt; first.as_slice(), expected);
-    Ok(())
-}
-
-#[test]
-fn the_first_other_key_is_named(rt: HostRuntime) -> Result<(), Fail> {
-    let cell = b"/etc/systemd/system/x.service".as_slice();
-    let keys = b"links etc:x.service etc:b.service presets";
-    for row in [
-        (EMPTY, MASK, cell, cell),
-        (SMALL, MASK, keys, b"etc:b.service"),
-        (EMPTY, EMPTY, keys, b""),
-    ] {
-        assert_first_other(&rt, rt.alloc(), row)?;
+fn answer(alloc: Global, row: &Row) -> Result<Vec<u8>, AllocError> {
+    let kind = row.kind.as_slice();
+    if kind == b"reads".as_slice() {
+        return read_as(alloc, SMALL, &row.one);
     }
-    Ok(())
-}
-
-/// Whether a tree agrees with what `SMALL` is read as by a key.
-fn agrees_with_small(alloc: Global, other: &[u8], key: &[u8]) -> Result<bool, AllocError> {
-    agrees_with(alloc, SMALL, other, key)
-}
-
-#[test]
-fn sets_are_compared_whole(rt: HostRuntime) -> Result<(), Fail> {
-    let alloc = rt.alloc();
-    let same = b"unitadm-inventory 1
-L\t/etc/systemd/system/c.target.wants/a.service\t/usr/lib/systemd/system/a.service
-L\t/etc/systemd/system/x.service\t/dev/null
-end
-";
-    assert!(rt; agrees_with_small(alloc, same, b"links")?);
-    let more = b"unitadm-inventory 1
-L\t/etc/systemd/system/c.target.wants/a.service\t/usr/lib/systemd/system/a.service
-L\t/run/systemd/system/c.target.requires/a.service\t/usr/lib/systemd/system/a.service
-end
-";
-    assert!(rt; !agrees_with_small(alloc, more, b"links")?);
-    assert!(rt; !agrees_with_small(alloc, EMPTY, b"links")?);
-    let other = b"unitadm-inventory 1
-L\t/etc/systemd/system/c.target.wants/a.service\t/usr/local/lib/systemd/system/a.service
-end
-";
-    assert!(rt; !agrees_with_small(alloc, other, b"links")?);
-    Ok(())
+    if kind == b"conflict".as_slice() {
+        return conflict(alloc, SMALL, &row.one, &row.two);
+    }
+    if kind == b"conflict with nothing".as_slice() {
+        return conflict(alloc, EMPTY, &row.one, &row.two);
+    }
+    Vec::from_slice(alloc, b"unknown kind")
 }
 
 #[test]
-fn links_of_a_name_are_compared(rt: HostRuntime) -> Result<(), Fail> {
-    let alloc = rt.alloc();
-    let same = b"unitadm-inventory 1
-L\t/etc/systemd/system/b.service\ta.service
-L\t/etc/systemd/system/x.service\t/dev/null
-L\t/run/systemd/system/b.service\ta.service
-end
-";
-    assert!(rt; agrees_with_small(alloc, same, b"etc:b.service")?);
-    let more = b"unitadm-inventory 1
-L\t/etc/systemd/system/b.service\ta.service
-L\t/etc/systemd/system/x.service\tb.service
-end
-";
-    assert!(rt; !agrees_with_small(alloc, more, b"etc:b.service")?);
-    assert!(rt; !agrees_with_small(alloc, EMPTY, b"etc:b.service")?);
-    let other = b"unitadm-inventory 1
-L\t/etc/systemd/system/b.service\tc.service
-end
-";
-    assert!(rt; !agrees_with_small(alloc, other, b"etc:b.service")?);
+fn sets_of_links_are_read_and_compared_whole(rt: HostRuntime) -> Result<(), Fail> {
+    let found = unlike(rt.alloc(), ROWS, answer)?;
+    assert_eq!(rt; found.as_slice(), b"".as_slice());
     Ok(())
 }

@@ -3,7 +3,6 @@ use crate::keys::reading;
 use footprint::{Key, Observation, Reading, Seen};
 use link_tree::{Entry, Scope, ToWrite, Tree, TreePart, write_inventory};
 use std::alloc::{AllocError, Global};
-use unit_name::ample;
 
 pub(crate) fn push_key(text: &mut Vec<u8>, key: &Key) -> Result<(), AllocError> {
     match key {
@@ -64,9 +63,9 @@ fn told(alloc: Global, reading: &Reading) -> Result<Vec<u8>, AllocError> {
     Ok(text)
 }
 
-/// What a tree is read as by keys that have spaces between them: a line for each key, with `absent` or the bytes of the entry behind a
-/// cell's, and the inventory of what another saw.
+/// What a tree is read as by keys that have spaces between them: a line for each key, behind that of a cell `absent` or the bytes of the
+/// entry, and behind another the inventory of what it saw.
 pub(crate) fn read_as(alloc: Global, inventory: &[u8], keys: &[u8]) -> Result<Vec<u8>, AllocError> {
     let reading = reading(alloc, inventory, keys)?;
-    ample!(told(alloc, &reading), AllocError)
+    told(alloc, &reading)
 }

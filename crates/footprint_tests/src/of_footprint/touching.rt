@@ -3,136 +3,76 @@ use crate::changes::change;
 use crate::keys::key;
 use footprint::touches;
 use link_tree::Change;
+use sample_rows::{Row, unlike};
 use std::alloc::{AllocError, Global};
-use std::process::Abort;
 use std::test::Fail;
 
-/// A path, what is put there (a link to a target, or a file of the bytes behind `:`), and keys that the change touches and others that it
-/// doesn't, with spaces between them.
-type Row = (&'static [u8], &'static [u8], &'static [u8], &'static [u8]);
+const ROWS: &[u8] = b"\
+    # touches: which of the keys TWO the change ONE touches: its path, the entry before and the\n\
+    # one after. A mask has no links.\n\
+    touches\t/etc/systemd/system/x.service||/dev/null\t\
+        /etc/systemd/system/x.service /etc/systemd/system/y.service /run/systemd/system/x.service \
+        etc:x.service run:x.service presets links\t/etc/systemd/system/x.service\n\
+    touches\t/run/systemd/system/a.target.wants/x.service||/dev/null\tlinks presets run:x.service\t\
+        links\n\
+    # A link belongs to its own name, and to that of the file to which it leads.\n\
+    touches\t/etc/systemd/system/a.target.wants/x.service||/usr/lib/systemd/system/y.service\t\
+        etc:x.service etc:y.service run:x.service run:y.service etc:a.target etc:z.service\t\
+        etc:x.service etc:y.service\n\
+    # The target needs no slash.\n\
+    touches\t/etc/systemd/system/a.service||b.service\t\
+        etc:a.service etc:b.service run:a.service run:b.service\tetc:a.service etc:b.service\n\
+    # An instance belongs to its template too.\n\
+    touches\t/etc/systemd/system/a.target.wants/web@a.service||\
+        /usr/lib/systemd/system/web@.service\t\
+        etc:web@a.service etc:web@.service etc:web@b.service etc:web.service\t\
+        etc:web@a.service etc:web@.service\n\
+    # An instance has no links but those of its own name.\n\
+    touches\t/etc/systemd/system/b.service||/usr/lib/systemd/system/web@a.service\t\
+        etc:b.service etc:web@a.service etc:web@.service\tetc:b.service\n\
+    # Files are presets or cells. A file belongs to no name.\n\
+    touches\t/etc/systemd/system-preset/1.preset||:enable x.service\\n\t\
+        presets links etc:x.service\tpresets\n\
+    touches\t/etc/systemd/system/a.service||:b.service\t\
+        /etc/systemd/system/a.service etc:a.service etc:b.service\t/etc/systemd/system/a.service\n\
+    # The entry before counts too.\n\
+    touches\t/run/systemd/system/a.service|b.service|/dev/null\t\
+        run:a.service run:b.service etc:a.service\trun:a.service run:b.service\n";
 
-const LINKS: [Row; 6] = [
-    // A mask has no links.
-    (
-        b"/etc/systemd/system/x.service",
-        b"/dev/null",
-        b"/etc/systemd/system/x.service",
-        b"/etc/systemd/system/y.service /run/systemd/system/x.service etc:x.service run:x.service presets links",
-    ),
-    (
-        b"/run/systemd/system/a.target.wants/x.service",
-        b"/dev/null",
-        b"links",
-        b"presets run:x.service",
-    ),
-    // A link belongs to its own name, and to that of the file to which it leads.
-    (
-        b"/etc/systemd/system/a.target.wants/x.service",
-        b"/usr/lib/systemd/system/y.service",
-        b"etc:x.service etc:y.service",
-        b"run:x.service run:y.service etc:a.target etc:z.service",
-    ),
-    // The target needs no slash.
-    (
-        b"/etc/systemd/system/a.service",
-        b"b.service",
-        b"etc:a.service etc:b.service",
-        b"run:a.service run:b.service",
-    ),
-    // An instance belongs to its template too.
-    (
-        b"/etc/systemd/system/a.target.wants/web@a.service",
-        b"/usr/lib/systemd/system/web@.service",
-        b"etc:web@a.service etc:web@.service",
-        b"etc:web@b.service etc:web.service",
-    ),
-    // An instance has no links but those of its own name.
-    (
-        b"/etc/systemd/system/b.service",
-        b"/usr/lib/systemd/system/web@a.service",
-        b"etc:b.service",
-        b"etc:web@a.service etc:web@.service",
-    ),
-];
-
-const FILES: [Row; 2] = [
-    (
-        b"/etc/systemd/system-preset/1.preset",
-        b":enable x.service\n",
-        b"presets",
-        b"links etc:x.service",
-    ),
-    // A file belongs to no name.
-    (
-        b"/etc/systemd/system/a.service",
-        b":b.service",
-        b"/etc/systemd/system/a.service",
-        b"etc:a.service etc:b.service",
-    ),
-];
-
-/// Whether a change touches a key.
-fn is_touched(alloc: Global, change: &Change, text: &[u8]) -> Result<bool, AllocError> {
-    let key = key(alloc, text)?;
+fn is_touched(alloc: Global, change: &Change, key_text: &[u8]) -> Result<bool, AllocError> {
+    let key = key(alloc, key_text)?;
     Ok(touches(change, &key))
 }
 
-fn assert_all(
-    rt: &impl Abort,
-    alloc: Global,
-    change: &Change,
-    keys: &[u8],
-    touched: bool,
-) -> Result<(), Fail> {
-    for text in keys.split(|b| *b == b' ') {
-        let is_touched = is_touched(alloc, change, text)?;
-        assert_eq!(rt; is_touched, touched, "{text:?}");
+fn push_word(text: &mut Vec<u8>, word: &[u8]) -> Result<(), AllocError> {
+    if !text.is_empty() {
+        text.push(b' ')?;
     }
-    Ok(())
+    text.extend_from_slice(word)
 }
 
-/// Whether a change touches the one keys and not the others.
-fn assert_touches(
-    rt: &impl Abort,
-    alloc: Global,
-    change: &Change,
-    touched: &[u8],
-    others: &[u8],
-) -> Result<(), Fail> {
-    assert_all(rt, alloc, change, touched, true)?;
-    assert_all(rt, alloc, change, others, false)
-}
-
-fn assert_row(rt: &impl Abort, alloc: Global, (at, put, touched, others): Row) -> Result<(), Fail> {
-    let change = change(alloc, at, b"", put)?;
-    assert_touches(rt, alloc, &change, touched, others)
-}
-
-fn assert_rows(rt: &impl Abort, alloc: Global, table: &[Row]) -> Result<(), Fail> {
-    for row in table {
-        assert_row(rt, alloc, *row)?;
+/// Those of these keys that a change touches.
+fn touched(alloc: Global, change: &Change, keys: &[u8]) -> Result<Vec<u8>, AllocError> {
+    let mut text = Vec::new(alloc);
+    for key in keys.split(|b| *b == b' ') {
+        if is_touched(alloc, change, key)? {
+            push_word(&mut text, key)?;
+        }
     }
-    Ok(())
+    Ok(text)
+}
+
+fn answer(alloc: Global, row: &Row) -> Result<Vec<u8>, AllocError> {
+    if row.kind.as_slice() != b"touches".as_slice() {
+        return Vec::from_slice(alloc, b"unknown kind");
+    }
+    let change = change(alloc, &row.one)?;
+    touched(alloc, &change, &row.two)
 }
 
 #[test]
 fn links_belong_to_names(rt: HostRuntime) -> Result<(), Fail> {
-    assert_rows(&rt, rt.alloc(), &LINKS)
-}
-
-#[test]
-fn files_are_presets_or_cells(rt: HostRuntime) -> Result<(), Fail> {
-    assert_rows(&rt, rt.alloc(), &FILES)
-}
-
-#[test]
-fn what_stood_before_counts(rt: HostRuntime) -> Result<(), Fail> {
-    let change = change(
-        rt.alloc(),
-        b"/run/systemd/system/a.service",
-        b"b.service",
-        b"/dev/null",
-    )?;
-    let touched = b"run:a.service run:b.service";
-    assert_touches(&rt, rt.alloc(), &change, touched, b"etc:a.service")
+    let found = unlike(rt.alloc(), ROWS, answer)?;
+    assert_eq!(rt; found.as_slice(), b"".as_slice());
+    Ok(())
 }

@@ -3,8 +3,6 @@ use crate::keys::{EMPTY, reading};
 use link_tree::Change;
 use readers::Readers;
 use std::alloc::{AllocError, Global};
-use std::process::Abort;
-use std::test::Fail;
 use unit_name::ample;
 
 /// Lists a row under the keys of a text.
@@ -19,25 +17,24 @@ pub(crate) fn list(
 }
 
 /// The keys that each row looked at, from row 1 on.
-pub(crate) const ROWS: [&[u8]; 7] = [
-    b"/etc/systemd/system/a.service etc:a.service",
-    b"etc:b.service presets",
-    b"run:a.service links",
-    b"etc:web@.service etc:web@a.service",
-    b"/etc/systemd/system/a.service /etc/systemd/system/b.service",
-    b"etc:a.service run:b.service presets links",
-    b"/etc/systemd/system/c.service",
-];
+const LOOKED: &[u8] = b"\
+    /etc/systemd/system/a.service etc:a.service|\
+    etc:b.service presets|\
+    run:a.service links|\
+    etc:web@.service etc:web@a.service|\
+    /etc/systemd/system/a.service /etc/systemd/system/b.service|\
+    etc:a.service run:b.service presets links|\
+    /etc/systemd/system/c.service";
 
 fn none(alloc: Global) -> Result<Box<Readers>, AllocError> {
     Ok(Box::new(alloc, Readers::none(alloc))?)
 }
 
 /// An index of these rows.
-pub(crate) fn listed(alloc: Global, rows: &[&[u8]]) -> Result<Box<Readers>, AllocError> {
+pub(crate) fn listed(alloc: Global) -> Result<Box<Readers>, AllocError> {
     let mut readers = ample!(none(alloc), AllocError)?;
     let mut n = 0u32;
-    for texts in rows {
+    for texts in LOOKED.split(|b| *b == b'|') {
         n = n.wrapping_add(1);
         list(alloc, &mut readers, n, texts)?;
     }
@@ -45,24 +42,15 @@ pub(crate) fn listed(alloc: Global, rows: &[&[u8]]) -> Result<Box<Readers>, Allo
 }
 
 /// All rows that looked at what a change touches, each as a digit.
-fn found(alloc: Global, readers: &Readers, change: &Change) -> Result<Vec<u8>, AllocError> {
+pub(crate) fn found(
+    alloc: Global,
+    readers: &Readers,
+    change: &Change,
+) -> Result<Vec<u8>, AllocError> {
     let numbers = readers.all(alloc, change)?;
     let mut text = Vec::new(alloc);
     for n in numbers.as_slice() {
         text.push(u8::try_from(*n).map_or(b'?', |n| b'0'.wrapping_add(n)))?;
     }
     Ok(text)
-}
-
-/// Which rows are found by a change.
-pub(crate) fn assert_found(
-    rt: &impl Abort,
-    alloc: Global,
-    readers: &Readers,
-    change: &Change,
-    expected: &[u8],
-) -> Result<(), Fail> {
-    let found = ample!(found(alloc, readers, change), AllocError)?;
-    assert_eq!(rt; found.as_slice(), expected);
-    Ok(())
 }

@@ -1,23 +1,30 @@
 //! Rows that are listed, and listed no longer.
-use super::indexes::{ROWS, assert_found, list, listed};
+use super::indexes::{found, list, listed};
 use crate::changes::change;
 use crate::keys::{EMPTY, reading};
 use footprint::Reading;
 use link_tree::Change;
 use readers::Readers;
+use sample_rows::{Row, unlike};
 use std::alloc::{AllocError, Global};
 use std::process::Abort;
 use std::test::Fail;
+use unit_name::ample;
 
-/// The change that puts the link of a dependency.
-fn linked(alloc: Global) -> Result<Change, AllocError> {
-    change(
-        alloc,
-        b"/etc/systemd/system/m.target.wants/a.service",
-        b"",
-        b"/opt/b.service",
-    )
-}
+/// A change that adds the link of a dependency.
+const LINK: &[u8] = b"/etc/systemd/system/m.target.wants/a.service||/opt/b.service";
+
+const ROWS: &[u8] = b"\
+    # found: the rows that looked at what LINK touches, after these changes to the index: `-6\n\
+    # KEYS`, row 6 is listed under these keys no longer; `+9 KEYS`, row 9 is listed under them. A\n\
+    # row is listed under its own keys alone.\n\
+    found\t\t\t1236\n\
+    found\t-6 etc:a.service\t\t1236\n\
+    found\t-6 etc:a.service|-6 etc:a.service run:b.service presets links\t\t123\n\
+    found\t-6 etc:a.service|-6 etc:a.service run:b.service presets links|\
+        -1 etc:a.service run:b.service presets links\t\t23\n\
+    found\t-6 etc:a.service|-6 etc:a.service run:b.service presets links|\
+        -1 etc:a.service run:b.service presets links|+9 links\t\t239\n";
 
 /// Lists a row under the keys of a text no longer.
 fn unlist(alloc: Global, readers: &mut Readers, n: u32, texts: &[u8]) -> Result<(), AllocError> {
@@ -26,32 +33,55 @@ fn unlist(alloc: Global, readers: &mut Readers, n: u32, texts: &[u8]) -> Result<
     Ok(())
 }
 
-/// Rows that are listed no longer, and one that comes, are found by a change or no longer found.
-fn assert_unlisted(
-    rt: &impl Abort,
-    alloc: Global,
-    readers: &mut Readers,
-    change: &Change,
-) -> Result<(), Fail> {
-    assert_found(rt, alloc, readers, change, b"1236")?;
-    unlist(alloc, readers, 6, b"etc:a.service")?;
-    assert_found(rt, alloc, readers, change, b"1236")?;
-    unlist(alloc, readers, 6, ROWS[5])?;
-    assert_found(rt, alloc, readers, change, b"123")?;
-    unlist(alloc, readers, 1, ROWS[5])?;
-    assert_found(rt, alloc, readers, change, b"23")?;
-    list(alloc, readers, 9, b"links")?;
-    assert_found(rt, alloc, readers, change, b"239")
+fn relist(alloc: Global, readers: &mut Readers, text: &[u8]) -> Result<(), AllocError> {
+    match text {
+        [b'-', digit, b' ', keys @ ..] => {
+            unlist(alloc, readers, u32::from(digit.wrapping_sub(b'0')), keys)
+        }
+        [b'+', digit, b' ', keys @ ..] => {
+            list(alloc, readers, u32::from(digit.wrapping_sub(b'0')), keys)
+        }
+        _ => Ok(()),
+    }
+}
+
+fn relisted(alloc: Global, texts: &[u8]) -> Result<Box<Readers>, AllocError> {
+    let mut readers = listed(alloc)?;
+    for text in texts.split(|b| *b == b'|') {
+        relist(alloc, &mut readers, text)?;
+    }
+    Ok(readers)
+}
+
+fn answer(alloc: Global, row: &Row) -> Result<Vec<u8>, AllocError> {
+    if row.kind.as_slice() != b"found".as_slice() {
+        return Vec::from_slice(alloc, b"unknown kind");
+    }
+    let readers = relisted(alloc, &row.one)?;
+    let change = change(alloc, LINK)?;
+    found(alloc, &readers, &change)
 }
 
 #[test]
 fn a_row_is_listed_under_its_own_keys_alone(rt: HostRuntime) -> Result<(), Fail> {
-    let mut readers = listed(rt.alloc(), &ROWS)?;
-    let change = linked(rt.alloc())?;
-    assert_unlisted(&rt, rt.alloc(), &mut readers, &change)
+    let found = unlike(rt.alloc(), ROWS, answer)?;
+    assert_eq!(rt; found.as_slice(), b"".as_slice());
+    Ok(())
 }
 
-/// Tries to list a row, and where memory runs out finds what was found before, and then tries once more.
+fn assert_found(
+    rt: &impl Abort,
+    alloc: Global,
+    readers: &Readers,
+    change: &Change,
+    expected: &[u8],
+) -> Result<(), Fail> {
+    let found = ample!(found(alloc, readers, change), AllocError)?;
+    assert_eq!(rt; found.as_slice(), expected);
+    Ok(())
+}
+
+/// Tries to list a row. If memory runs out, finds what was found before, and then tries once more.
 fn assert_listed_or_as_before(
     rt: &impl Abort,
     alloc: Global,
@@ -66,14 +96,16 @@ fn assert_listed_or_as_before(
     assert_found(rt, alloc, readers, change, b"12368")
 }
 
+fn assert_listed(rt: &impl Abort, alloc: Global, readers: &mut Readers) -> Result<(), Fail> {
+    let change = change(alloc, LINK)?;
+    let keys =
+        b"/etc/systemd/system/x.service etc:a.service etc:x.service run:x.service presets links";
+    let reading = reading(alloc, EMPTY, keys)?;
+    assert_listed_or_as_before(rt, alloc, readers, &change, &reading)
+}
+
 #[test]
 fn a_row_is_listed_or_nothing_changes(rt: HostRuntime) -> Result<(), Fail> {
-    let mut readers = listed(rt.alloc(), &ROWS)?;
-    let change = linked(rt.alloc())?;
-    let reading = reading(
-        rt.alloc(),
-        EMPTY,
-        b"/etc/systemd/system/x.service etc:a.service etc:x.service run:x.service presets links",
-    )?;
-    assert_listed_or_as_before(&rt, rt.alloc(), &mut readers, &change, &reading)
+    let mut readers = listed(rt.alloc())?;
+    assert_listed(&rt, rt.alloc(), &mut readers)
 }

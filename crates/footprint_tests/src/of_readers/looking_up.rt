@@ -1,165 +1,48 @@
 //! Which rows are found by a change.
-use super::indexes::{ROWS, assert_found, listed};
+use super::indexes::{found, listed};
 use crate::changes::change;
 use link_tree::Change;
 use readers::Readers;
-use std::alloc::Global;
-use std::process::Abort;
+use sample_rows::{Row, unlike};
+use std::alloc::{AllocError, Global};
 use std::test::Fail;
 
-/// A path, what stands there before and after, and the rows that are found.
-type Found = (&'static [u8], &'static [u8], &'static [u8], &'static [u8]);
+const ROWS: &[u8] = b"\
+    # found: the rows that looked at what the change ONE touches: its path, the entry before and\n\
+    # the one after.\n\
+    # A link of a unit: its cell, and its name in its scope.\n\
+    found\t/etc/systemd/system/a.service||/usr/lib/systemd/system/a.service\t\t156\n\
+    found\t/run/systemd/system/a.service||/usr/lib/systemd/system/a.service\t\t3\n\
+    # The entry before counts too, and the end of a target. A target needs no slash.\n\
+    found\t/etc/systemd/system/c.service|b.service|\t\t27\n\
+    found\t/etc/systemd/system/c.service||/usr/lib/systemd/system/b.service\t\t27\n\
+    found\t/etc/systemd/system/c.service|/opt/a.service|/opt/b.service\t\t1267\n\
+    # A file belongs to no name, nor does a link to /dev/null.\n\
+    found\t/etc/systemd/system/a.service||:\t\t15\n\
+    found\t/etc/systemd/system/a.service|/dev/null|\t\t15\n\
+    found\t/run/systemd/system/a.service|../../../dev/null|/dev/null\t\t\n\
+    # A dependency: its name and that of its file, and the links.\n\
+    found\t/etc/systemd/system/m.target.wants/a.service||/opt/c.service\t\t136\n\
+    found\t/run/systemd/system/m.target.requires/x.service||/opt/b.service\t\t36\n\
+    # An instance has no links but those of its own name. Its template has these too.\n\
+    found\t/etc/systemd/system/x.service||/usr/lib/systemd/system/web@a.service\t\t\n\
+    found\t/etc/systemd/system/x.service||/usr/lib/systemd/system/web@.service\t\t4\n\
+    found\t/etc/systemd/system/web@a.service||/opt/x.service\t\t4\n\
+    # The presets.\n\
+    found\t/etc/systemd/system-preset/1.preset||:\t\t26\n";
 
-const FOUND: [Found; 14] = [
-    // A link of a unit: its cell, and its name in its scope.
-    (
-        b"/etc/systemd/system/a.service",
-        b"",
-        b"/usr/lib/systemd/system/a.service",
-        b"156",
-    ),
-    (
-        b"/run/systemd/system/a.service",
-        b"",
-        b"/usr/lib/systemd/system/a.service",
-        b"3",
-    ),
-    // What stood before counts, and the end of a target too; a target needs no slash.
-    (b"/etc/systemd/system/c.service", b"b.service", b"", b"27"),
-    (
-        b"/etc/systemd/system/c.service",
-        b"",
-        b"/usr/lib/systemd/system/b.service",
-        b"27",
-    ),
-    (
-        b"/etc/systemd/system/c.service",
-        b"/opt/a.service",
-        b"/opt/b.service",
-        b"1267",
-    ),
-    // A file belongs to no name, nor does a link to /dev/null.
-    (b"/etc/systemd/system/a.service", b"", b":", b"15"),
-    (b"/etc/systemd/system/a.service", b"/dev/null", b"", b"15"),
-    (
-        b"/run/systemd/system/a.service",
-        b"../../../dev/null",
-        b"/dev/null",
-        b"",
-    ),
-    // A dependency: its name and that of its file, and the links.
-    (
-        b"/etc/systemd/system/m.target.wants/a.service",
-        b"",
-        b"/opt/c.service",
-        b"136",
-    ),
-    (
-        b"/run/systemd/system/m.target.requires/x.service",
-        b"",
-        b"/opt/b.service",
-        b"36",
-    ),
-    // An instance has no links but those of its own name; its template has these too.
-    (
-        b"/etc/systemd/system/x.service",
-        b"",
-        b"/usr/lib/systemd/system/web@a.service",
-        b"",
-    ),
-    (
-        b"/etc/systemd/system/x.service",
-        b"",
-        b"/usr/lib/systemd/system/web@.service",
-        b"4",
-    ),
-    (
-        b"/etc/systemd/system/web@a.service",
-        b"",
-        b"/opt/x.service",
-        b"4",
-    ),
-    // The presets.
-    (b"/etc/systemd/system-preset/1.preset", b":", b"", b"26"),
-];
-
-fn assert_row_found(
-    rt: &impl Abort,
-    alloc: Global,
-    readers: &Readers,
-    (at, before, after, expected): Found,
-) -> Result<(), Fail> {
-    let change = change(alloc, at, before, after)?;
-    assert_found(rt, alloc, readers, &change, expected)
-}
-
-fn assert_all_found(
-    rt: &impl Abort,
-    alloc: Global,
-    readers: &Readers,
-    table: &[Found],
-) -> Result<(), Fail> {
-    for row in table {
-        assert_row_found(rt, alloc, readers, *row)?;
+fn answer(alloc: Global, row: &Row) -> Result<Vec<u8>, AllocError> {
+    if row.kind.as_slice() != b"found".as_slice() {
+        return Vec::from_slice(alloc, b"unknown kind");
     }
-    Ok(())
+    let readers = listed(alloc)?;
+    let change = change(alloc, &row.one)?;
+    found(alloc, &readers, &change)
 }
 
 #[test]
 fn rows_are_found_by_each_kind_of_key(rt: HostRuntime) -> Result<(), Fail> {
-    let readers = listed(rt.alloc(), &ROWS)?;
-    assert_all_found(&rt, rt.alloc(), &readers, &FOUND)
-}
-
-/// After a row, the first one that is found.
-const AFTER: [(u32, Option<u32>); 5] = [
-    (0, Some(1)),
-    (1, Some(5)),
-    (4, Some(5)),
-    (5, Some(6)),
-    (6, None),
-];
-
-fn assert_after(rt: &impl Abort, readers: &Readers, change: &Change) {
-    for (n, expected) in &AFTER {
-        assert_eq!(rt; readers.after(change, *n), *expected);
-    }
-}
-
-#[test]
-fn rows_are_found_after_a_row(rt: HostRuntime) -> Result<(), Fail> {
-    let readers = listed(rt.alloc(), &ROWS)?;
-    let change = change(
-        rt.alloc(),
-        b"/etc/systemd/system/a.service",
-        b"",
-        b"x.service",
-    )?;
-    assert_after(&rt, &readers, &change);
-    Ok(())
-}
-
-/// Of several changes the first row of any is found.
-fn assert_first(rt: &impl Abort, readers: &Readers, changes: &[Change]) {
-    assert_eq!(rt; readers.first_after(changes, 0), Some(2));
-    assert_eq!(rt; readers.first_after(changes, 2), Some(6));
-    assert_eq!(rt; readers.first_after(changes, 6), Some(7));
-    assert_eq!(rt; readers.first_after(changes, 7), None);
-    assert_eq!(rt; readers.first_after(&changes[..0], 0), None);
-}
-
-#[test]
-fn rows_are_found_by_several_changes(rt: HostRuntime) -> Result<(), Fail> {
-    let readers = listed(rt.alloc(), &ROWS)?;
-    let changes = [
-        change(
-            rt.alloc(),
-            b"/etc/systemd/system-preset/1.preset",
-            b"",
-            b":",
-        )?,
-        change(rt.alloc(), b"/etc/systemd/system/c.service", b":", b"")?,
-    ];
-    assert_first(&rt, &readers, &changes);
+    let found = unlike(rt.alloc(), ROWS, answer)?;
+    assert_eq!(rt; found.as_slice(), b"".as_slice());
     Ok(())
 }

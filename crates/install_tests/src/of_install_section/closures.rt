@@ -1,205 +1,110 @@
 //! Which units are enabled together.
-use crate::of_install_section::units::{closure_text, names};
-use crate::trees::{Row, UNITS, tree};
+use crate::of_install_section::units::{closure_text, names, text_of_count};
+use crate::trees::tree;
 use install_section::{Closed, Closure, ClosureFault, Members, closure, closure_into};
 use link_tree::Tree;
 use load_path::Cells;
+use sample_rows::{Row, unlike};
 use sample_values::name;
 use std::alloc::{AllocError, Global};
-use std::process::Abort;
 use std::test::Fail;
-use unit_name::{UnitName, ample};
+use unit_name::UnitName;
 
-const A: Row = Row::File(
-    b"a.service",
-    b"[Install]\nWantedBy=m.target\nAlso=b.service none.service\n",
-);
+const AB: &[u8] = b"\
+    a.service [Install]\nWantedBy=m.target\nAlso=b.service none.service\n|\
+    b.service [Install]\nWantedBy=m.target\nAlso=a.service\n";
 
-const B: Row = Row::File(
-    b"b.service",
-    b"[Install]\nWantedBy=m.target\nAlso=a.service\n",
-);
+const TEMPLATES: &[u8] = b"\
+    w@.service [Install]\nDefaultInstance=one\nAlso=h@%i.service %p.socket\n|\
+    h@.service [Install]\n|\
+    w.socket [Socket]\n";
 
-fn assert_closure(
-    rt: &impl Abort,
-    alloc: Global,
-    rows: &[Row],
-    given: &[u8],
-    text: &[u8],
-) -> Result<(), Fail> {
-    let found = closure_text(alloc, rows, given)?;
-    assert_eq!(rt; found.as_slice(), text);
-    Ok(())
-}
+/// A unit that names others, each of which isn't found as itself for a reason of its own.
+const REASONS: &[u8] = b"\
+    x.service [Install]\nAlso=%z x none.service masked.service loose.service other.service empty.service\n|\
+    masked.service -> /dev/null|\
+    loose.service -> /nowhere|\
+    other.service -> y.service|\
+    y.service [Install]\n|\
+    empty.service";
 
-/// The closures of the given units, each line of the table for itself.
-fn assert_each_closure(
-    rt: &impl Abort,
-    alloc: Global,
-    rows: &[Row],
-    table: &[(&[u8], &[u8])],
-) -> Result<(), Fail> {
-    for (given, text) in table {
-        assert_closure(rt, alloc, rows, given, text)?;
+const ROWS: &[u8] = b"\
+    # together: the units of the tree ONE that are enabled together with TWO, and the notices.\n\
+    # Units that name one another are there once.\n\
+    together\tab\ta.service\ta.service\\nb.service\\n  \
+        ! a.service: Also none.service: not found\\n\n\
+    together\tab\ta.service b.service a.service\ta.service\\nb.service\\n  \
+        ! a.service: Also none.service: not found\\n\n\
+    together\tab\tb.service\tb.service\\na.service\\n  \
+        ! a.service: Also none.service: not found\\n\n\
+    # A name without a unit names nothing.\n\
+    together\tab\tnone.service\tnone.service\\n\n\
+    # Words are expanded with the identity, here that of the default instance.\n\
+    together\ttemplates\tw@.service\tw@.service\\nh@one.service\\nw.socket\\n\n\
+    together\ttemplates\tw@two.service\tw@two.service\\nh@two.service\\nw.socket\\n\n\
+    # Each reason why a word names no unit has its notice.\n\
+    together\treasons\tx.service\tx.service\\n  ! x.service: Also %z: bad specifier\\n  \
+        ! x.service: Also empty.service: masked\\n  ! x.service: Also loose.service: dangling\\n  \
+        ! x.service: Also masked.service: masked\\n  ! x.service: Also none.service: not found\\n  \
+        ! x.service: Also other.service: is an alias\\n  ! x.service: Also x: bad name\\n\n\
+    # paths looked at: each as often as it is looked at. A unit in the last directory is found by\n\
+    # four paths, and for its words its file is looked at once more. A word is looked up as often\n\
+    # as it is written.\n\
+    paths looked at\ta.service [Install]\\n|b.service [Install]\\n\ta.service\t5\n\
+    paths looked at\ta.service [Install]\\nAlso=b.service\\n|b.service [Install]\\n\ta.service\t\
+        14\n\
+    paths looked at\ta.service [Install]\\nAlso=b.service b.service\\n|b.service [Install]\\n\t\
+        a.service\t18\n\
+    paths looked at\ta.service [Install]\\nAlso=a.service\\n|b.service [Install]\\n\ta.service\t9\n\
+    # paths: each once, in the order in which they are looked at first.\n\
+    paths\tab\ta.service\t/etc/systemd/system/a.service\\n/run/systemd/system/a.service\\n\
+        /usr/local/lib/systemd/system/a.service\\n/usr/lib/systemd/system/a.service\\n\
+        /etc/systemd/system/b.service\\n/run/systemd/system/b.service\\n\
+        /usr/local/lib/systemd/system/b.service\\n/usr/lib/systemd/system/b.service\\n\
+        /etc/systemd/system/none.service\\n/run/systemd/system/none.service\\n\
+        /usr/local/lib/systemd/system/none.service\\n/usr/lib/systemd/system/none.service\\n\n\
+    # how many, contains, unit: among the units of the tree `ab` that are enabled together with\n\
+    # ONE. Places are counted from 0.\n\
+    how many\ta.service\t\t2\n\
+    contains\ta.service\tb.service\tyes\n\
+    contains\ta.service\tnone.service\tno\n\
+    unit\ta.service\t1\tb.service\n\
+    unit\ta.service\t2\tnone\n";
+
+/// The text of the tree that a word names, or which the word is.
+fn tree_named(word: &[u8]) -> &[u8] {
+    if word == b"ab".as_slice() {
+        return AB;
     }
-    Ok(())
+    if word == b"templates".as_slice() {
+        return TEMPLATES;
+    }
+    if word == b"reasons".as_slice() {
+        return REASONS;
+    }
+    word
 }
 
-#[test]
-fn units_that_name_one_another_are_there_once(rt: HostRuntime) -> Result<(), Fail> {
-    let told: &[u8] = b"  ! a.service: Also none.service: not found\n";
-    let first: &[u8] = b"a.service\nb.service\n  ! a.service: Also none.service: not found\n";
-    let second: &[u8] = b"b.service\na.service\n  ! a.service: Also none.service: not found\n";
-    assert!(rt; first.ends_with(told));
-    assert!(rt; second.ends_with(told));
-    let table = [
-        (b"a.service".as_slice(), first),
-        (b"a.service b.service a.service", first),
-        (b"b.service", second),
-    ];
-    assert_each_closure(&rt, rt.alloc(), &[A, B], &table)
-}
-
-#[test]
-fn each_reason_has_its_notice(rt: HostRuntime) -> Result<(), Fail> {
-    let rows = [
-        Row::File(
-            b"x.service",
-            b"[Install]\nAlso=%z x none.service masked.service loose.service other.service empty.service\n",
-        ),
-        Row::Link(b"masked.service", b"/dev/null"),
-        Row::Link(b"loose.service", b"/nowhere"),
-        Row::Link(b"other.service", b"y.service"),
-        Row::File(b"y.service", b"[Install]\n"),
-        Row::File(b"empty.service", b""),
-    ];
-    let text: &[u8] =
-        b"x.service\n  ! x.service: Also %z: bad specifier\n  ! x.service: Also empty.service: masked\n  ! x.service: Also loose.service: dangling\n  ! x.service: Also masked.service: masked\n  ! x.service: Also none.service: not found\n  ! x.service: Also other.service: is an alias\n  ! x.service: Also x: bad name\n";
-    assert_closure(&rt, rt.alloc(), &rows, b"x.service", text)
-}
-
-const EXPANDED: [(&[u8], &[u8]); 2] = [
-    (b"w@.service", b"w@.service\nh@one.service\nw.socket\n"),
-    (
-        b"w@two.service",
-        b"w@two.service\nh@two.service\nw.socket\n",
-    ),
-];
-
-#[test]
-fn words_are_expanded_with_the_identity(rt: HostRuntime) -> Result<(), Fail> {
-    let rows = [
-        Row::File(
-            b"w@.service",
-            b"[Install]\nDefaultInstance=one\nAlso=h@%i.service %p.socket\n",
-        ),
-        Row::File(b"h@.service", b"[Install]\n"),
-        Row::File(b"w.socket", b"[Socket]\n"),
-    ];
-    assert_each_closure(&rt, rt.alloc(), &rows, &EXPANDED)
-}
-
-#[test]
-fn a_name_without_a_unit_names_nothing(rt: HostRuntime) -> Result<(), Fail> {
-    assert_closure(&rt, rt.alloc(), &[A, B], b"none.service", b"none.service\n")
-}
-
-/// How many paths are looked at, each counted as often.
 fn looks(alloc: Global, tree: &Tree, given: &[UnitName]) -> Result<usize, AllocError> {
     let mut cells = Cells::new(alloc);
     let _closed = closure_into(alloc, tree, given, &mut cells)?;
     Ok(cells.as_slice().len())
 }
 
-fn looks_for(alloc: Global, also: &[u8]) -> Result<usize, AllocError> {
-    let rows = [
-        Row::File(b"a.service", also),
-        Row::File(b"b.service", b"[Install]\n"),
-    ];
-    let tree = tree(alloc, UNITS, &rows)?;
-    let given = names(alloc, b"a.service")?;
-    ample!(looks(alloc, &tree, &given), AllocError)
-}
-
-const LOOKS: [(&[u8], usize); 4] = [
-    (b"[Install]\n", 5),
-    (b"[Install]\nAlso=b.service\n", 14),
-    (b"[Install]\nAlso=b.service b.service\n", 18),
-    (b"[Install]\nAlso=a.service\n", 9),
-];
-
-#[test]
-fn a_word_is_looked_up_as_often_as_it_stands(rt: HostRuntime) -> Result<(), Fail> {
-    // A unit in the last directory is found by four paths, and for its words its file is looked at once more.
-    for (also, count) in &LOOKS {
-        assert_eq!(rt; looks_for(rt.alloc(), also)?, *count);
-    }
-    Ok(())
-}
-
-fn assert_members(rt: &impl Abort, members: &Members, one: &UnitName, none: &UnitName) {
-    assert_eq!(rt; members.len(), 2);
-    assert!(rt; !members.is_empty());
-    assert!(rt; members.contains(one));
-    assert!(rt; !members.contains(none));
-    assert!(rt; members.get(1) == Some(one));
-    assert!(rt; members.get(2).is_none());
-}
-
-/// What is found for units, where they are not too many.
-fn closed(
-    alloc: Global,
-    tree: &Tree,
-    given: &[UnitName],
-) -> Result<Option<Box<Closed>>, AllocError> {
-    let mut cells = Cells::new(alloc);
-    match closure_into(alloc, tree, given, &mut cells)? {
-        Ok(closed) => Ok(Some(Box::new(alloc, closed)?)),
-        Err(ClosureFault::TooMany) => Ok(None),
-    }
-}
-
-/// The same for units that are given, of `A` and `B`.
-fn closed_of(alloc: Global, given: &[u8]) -> Result<Option<Box<Closed>>, AllocError> {
-    let tree = tree(alloc, UNITS, &[A, B])?;
+fn paths_looked_at(alloc: Global, tree_text: &[u8], given: &[u8]) -> Result<Vec<u8>, AllocError> {
+    let tree = tree(alloc, tree_text)?;
     let given = names(alloc, given)?;
-    ample!(closed(alloc, &tree, &given), AllocError)
+    let looks = looks(alloc, &tree, &given)?;
+    text_of_count(alloc, looks, looks == 0)
 }
 
-fn assert_named(
-    rt: &impl Abort,
-    alloc: Global,
-    members: &Members,
-    one: &[u8],
-    none: &[u8],
-) -> Result<(), Fail> {
-    let one = name(alloc, one)?;
-    let none = name(alloc, none)?;
-    assert_members(rt, members, &one, &none);
-    Ok(())
-}
-
-#[test]
-fn members_are_found_by_name_and_place(rt: HostRuntime) -> Result<(), Fail> {
-    match closed_of(rt.alloc(), b"a.service")? {
-        Some(closed) => assert_named(
-            &rt,
-            rt.alloc(),
-            &closed.units,
-            b"b.service",
-            b"none.service",
-        ),
-        None => Err(Fail::from("too many")),
+fn cells_text(alloc: Global, cells: &Cells) -> Result<Vec<u8>, AllocError> {
+    let mut text = Vec::new(alloc);
+    for cell in cells.as_slice() {
+        text.extend_from_slice(cell.text())?;
+        text.push(b'\n')?;
     }
-}
-
-fn assert_cells(rt: &impl Abort, closure: &Closure, count: usize, last: &[u8]) {
-    let cells = closure.cells.as_slice();
-    assert_eq!(rt; cells.len(), count);
-    match cells.last() {
-        Some(cell) => assert_eq!(rt; cell.text(), last),
-        None => assert!(rt; false),
-    }
+    Ok(text)
 }
 
 fn boxed(alloc: Global, tree: &Tree, given: &[UnitName]) -> Result<Box<Closure>, AllocError> {
@@ -209,16 +114,80 @@ fn boxed(alloc: Global, tree: &Tree, given: &[UnitName]) -> Result<Box<Closure>,
     }
 }
 
-/// The closure of units that are given, of `A` and `B`.
-fn closure_of(alloc: Global, given: &[u8]) -> Result<Box<Closure>, AllocError> {
-    let tree = tree(alloc, UNITS, &[A, B])?;
+fn paths(alloc: Global, tree_text: &[u8], given: &[u8]) -> Result<Vec<u8>, AllocError> {
+    let tree = tree(alloc, tree_text)?;
     let given = names(alloc, given)?;
-    ample!(boxed(alloc, &tree, &given), AllocError)
+    let closure = boxed(alloc, &tree, &given)?;
+    cells_text(alloc, &closure.cells)
+}
+
+fn closed(alloc: Global, tree: &Tree, given: &[UnitName]) -> Result<Box<Closed>, AllocError> {
+    let mut cells = Cells::new(alloc);
+    match closure_into(alloc, tree, given, &mut cells)? {
+        Ok(closed) => Ok(Box::new(alloc, closed)?),
+        Err(ClosureFault::TooMany) => Err(AllocError),
+    }
+}
+
+/// The units of the tree `ab` that are enabled together with these.
+fn closed_of_ab(alloc: Global, given: &[u8]) -> Result<Box<Closed>, AllocError> {
+    let tree = tree(alloc, AB)?;
+    let given = names(alloc, given)?;
+    closed(alloc, &tree, &given)
+}
+
+fn how_many(alloc: Global, given: &[u8]) -> Result<Vec<u8>, AllocError> {
+    let closed = closed_of_ab(alloc, given)?;
+    text_of_count(alloc, closed.units.len(), closed.units.is_empty())
+}
+
+fn has(alloc: Global, units: &Members, unit: &[u8]) -> Result<Vec<u8>, AllocError> {
+    let unit = name(alloc, unit)?;
+    Vec::from_slice(alloc, if units.contains(&unit) { b"yes" } else { b"no" })
+}
+
+fn contains(alloc: Global, given: &[u8], unit: &[u8]) -> Result<Vec<u8>, AllocError> {
+    let closed = closed_of_ab(alloc, given)?;
+    has(alloc, &closed.units, unit)
+}
+
+/// The unit at a place, which is a digit.
+fn unit_at(alloc: Global, given: &[u8], place: &[u8]) -> Result<Vec<u8>, AllocError> {
+    let closed = closed_of_ab(alloc, given)?;
+    let digit = place.first().copied().unwrap_or(b'0');
+    match closed.units.get(usize::from(digit.wrapping_sub(b'0'))) {
+        Some(unit) => Vec::from_slice(alloc, unit.text()),
+        None => Vec::from_slice(alloc, b"none"),
+    }
+}
+
+fn answer(alloc: Global, row: &Row) -> Result<Vec<u8>, AllocError> {
+    let tree = tree_named(&row.one);
+    let kind = row.kind.as_slice();
+    if kind == b"together".as_slice() {
+        return closure_text(alloc, tree, &row.two);
+    }
+    if kind == b"paths looked at".as_slice() {
+        return paths_looked_at(alloc, tree, &row.two);
+    }
+    if kind == b"paths".as_slice() {
+        return paths(alloc, tree, &row.two);
+    }
+    if kind == b"how many".as_slice() {
+        return how_many(alloc, &row.one);
+    }
+    if kind == b"contains".as_slice() {
+        return contains(alloc, &row.one, &row.two);
+    }
+    if kind == b"unit".as_slice() {
+        return unit_at(alloc, &row.one, &row.two);
+    }
+    Vec::from_slice(alloc, b"unknown kind")
 }
 
 #[test]
-fn each_path_is_listed_once(rt: HostRuntime) -> Result<(), Fail> {
-    let closure = closure_of(rt.alloc(), b"a.service")?;
-    assert_cells(&rt, &closure, 12, b"/usr/lib/systemd/system/none.service");
+fn units_that_name_one_another_are_enabled_together(rt: HostRuntime) -> Result<(), Fail> {
+    let found = unlike(rt.alloc(), ROWS, answer)?;
+    assert_eq!(rt; found.as_slice(), b"".as_slice());
     Ok(())
 }

@@ -1,6 +1,6 @@
 //! As many units as there may be, and one more.
 use crate::of_install_section::units::{names, push_name};
-use crate::trees::{Row, UNITS, tree};
+use crate::trees::tree;
 use install_section::{ClosureError, closure};
 use link_tree::Tree;
 use std::alloc::{AllocError, Global};
@@ -36,9 +36,9 @@ fn numbered(alloc: Global, count: usize) -> Result<Vec<UnitName>, AllocError> {
     Ok(given)
 }
 
-/// A section that names so many different units.
+/// A tree with a unit whose section names so many different units.
 fn naming(alloc: Global, count: usize) -> Result<Vec<u8>, AllocError> {
-    let mut text = Vec::from_slice(alloc, b"[Install]\nAlso=")?;
+    let mut text = Vec::from_slice(alloc, b"u@.service [Install]\n|a.service [Install]\nAlso=")?;
     for n in 0..count {
         push_numbered(&mut text, n)?;
         text.push(b' ')?;
@@ -57,13 +57,15 @@ fn counts(alloc: Global, tree: &Tree, given: &[UnitName]) -> Result<Counts, Allo
     }
 }
 
-const TEMPLATE: Row = Row::File(b"u@.service", b"[Install]\n");
+fn given_counted(alloc: Global, count: usize) -> Result<Counts, AllocError> {
+    let tree = tree(alloc, b"u@.service [Install]\n")?;
+    let given = numbered(alloc, count)?;
+    counts(alloc, &tree, &given)
+}
 
 /// The counts of units that are given, so many and all different.
 fn counts_given(alloc: Global, count: usize) -> Result<Counts, AllocError> {
-    let tree = tree(alloc, UNITS, &[TEMPLATE])?;
-    let given = numbered(alloc, count)?;
-    ample!(counts(alloc, &tree, &given), AllocError)
+    ample!(given_counted(alloc, count), AllocError)
 }
 
 #[test]
@@ -76,18 +78,21 @@ fn a_thousand_given_units(rt: HostRuntime) -> Result<(), Fail> {
     Ok(())
 }
 
-/// The counts of a unit that is given, in a tree with these units.
-fn counts_of(alloc: Global, rows: &[Row], given: &[u8]) -> Result<Counts, AllocError> {
-    let tree = tree(alloc, UNITS, rows)?;
-    let given = names(alloc, given)?;
-    ample!(counts(alloc, &tree, &given), AllocError)
+fn unit_counted(alloc: Global, tree_text: &[u8], unit: &[u8]) -> Result<Counts, AllocError> {
+    let tree = tree(alloc, tree_text)?;
+    let given = names(alloc, unit)?;
+    counts(alloc, &tree, &given)
+}
+
+/// The counts of a unit that is given, in a tree of this text.
+fn counts_of(alloc: Global, tree_text: &[u8], unit: &[u8]) -> Result<Counts, AllocError> {
+    ample!(unit_counted(alloc, tree_text, unit), AllocError)
 }
 
 /// The counts of a unit whose section names so many different units.
 fn counts_named(alloc: Global, count: usize) -> Result<Counts, AllocError> {
-    let section = naming(alloc, count)?;
-    let unit = Row::File(b"a.service", &section);
-    counts_of(alloc, &[unit, TEMPLATE], b"a.service")
+    let tree_text = ample!(naming(alloc, count), AllocError)?;
+    counts_of(alloc, &tree_text, b"a.service")
 }
 
 #[test]
@@ -104,17 +109,16 @@ fn a_thousand_named_units(rt: HostRuntime) -> Result<(), Fail> {
 
 #[test]
 fn names_grow_until_they_are_too_long(rt: HostRuntime) -> Result<(), Fail> {
-    let unit = Row::File(b"t@.service", b"[Install]\nAlso=t@%ia.service\n");
-    let counts = counts_of(rt.alloc(), &[unit], b"t@a.service")?;
+    let tree = b"t@.service [Install]\nAlso=t@%ia.service\n";
+    let counts = counts_of(rt.alloc(), tree, b"t@a.service")?;
     assert_eq!(rt; counts, Ok((245, 1)));
     Ok(())
 }
 
 #[test]
 fn units_that_double_are_too_many(rt: HostRuntime) -> Result<(), Fail> {
-    let section = b"[Install]\nAlso=d@%i0.service d@%i1.service\n";
-    let unit = Row::File(b"d@.service", section);
-    let counts = counts_of(rt.alloc(), &[unit], b"d@x.service")?;
+    let tree = b"d@.service [Install]\nAlso=d@%i0.service d@%i1.service\n";
+    let counts = counts_of(rt.alloc(), tree, b"d@x.service")?;
     // Each word looks at four paths of its own, and all at the template's four.
     assert_eq!(rt; counts, Err(4 * 1025 + 4));
     Ok(())

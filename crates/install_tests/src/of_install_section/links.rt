@@ -1,182 +1,88 @@
 //! Which links units want.
-use crate::of_install_section::units::{names, wanted_text};
-use crate::trees::{Row, UNITS, tree};
+use crate::of_install_section::units::{names, text_of_count, wanted_text};
+use crate::trees::tree;
 use install_section::{Links, Wanted, wanted, wanted_into};
-use link_tree::{Scope, Tree, TreePath};
+use link_tree::{Scope, Tree};
 use load_path::Cells;
+use sample_rows::{Row, unlike};
 use sample_values::path;
 use std::alloc::{AllocError, Global};
-use std::process::Abort;
 use std::test::Fail;
-use unit_name::{UnitName, ample};
+use unit_name::UnitName;
 
-/// Units ask for this in a scope, where words that would need an instance may be skipped.
-fn assert_wanted_in(
-    rt: &impl Abort,
-    alloc: Global,
-    rows: &[Row],
-    units: &[u8],
-    scope: Scope,
-    skip: bool,
-    text: &[u8],
-) -> Result<(), Fail> {
-    let found = wanted_text(alloc, rows, units, scope, skip)?;
-    assert_eq!(rt; found.as_slice(), text);
-    Ok(())
-}
+const SSH: &[u8] = b"ssh.service [Install]\nWantedBy=multi-user.target\nAlias=sshd.service\n";
 
-pub(crate) fn assert_wanted(
-    rt: &impl Abort,
-    alloc: Global,
-    rows: &[Row],
-    units: &[u8],
-    text: &[u8],
-) -> Result<(), Fail> {
-    assert_wanted_in(rt, alloc, rows, units, Scope::Etc, false, text)
-}
+/// Two units have the same two aliases.
+const CLASHES: &[u8] = b"\
+    a.service [Install]\nAlias=d.service c.service\n|\
+    b.service [Install]\nAlias=d.service c.service\n|\
+    t@.service [Install]\nWantedBy=m.target\n";
 
-/// Units ask for these, each line of the table for itself.
-fn assert_each_wanted(
-    rt: &impl Abort,
-    alloc: Global,
-    rows: &[Row],
-    table: &[(&[u8], &[u8])],
-) -> Result<(), Fail> {
-    for (units, text) in table {
-        assert_wanted(rt, alloc, rows, units, text)?;
+const TEMPLATES: &[u8] = b"\
+    getty@.service [Install]\nWantedBy=getty.target\nDefaultInstance=tty1\n|\
+    web@.service [Install]\nWantedBy=getty.target\n|\
+    odd@.service [Install]\nRequiredBy=getty.target\nDefaultInstance=a/b\n|\
+    monitor@.service [Install]\nWantedBy=container@.target\nDefaultInstance=x\n";
+
+const ROWS: &[u8] = b"\
+    # wanted: the links that the units TWO want in the tree ONE, and the notices. The tree is one\n\
+    # of those above, or it is written out.\n\
+    wanted\tssh\tssh.service\t\
+        /etc/systemd/system/multi-user.target.wants/ssh.service -> /usr/lib/systemd/system/ssh.service\\n\
+        /etc/systemd/system/sshd.service -> /usr/lib/systemd/system/ssh.service\\n\n\
+    wanted --runtime\tssh\tssh.service\t\
+        /run/systemd/system/multi-user.target.wants/ssh.service -> /usr/lib/systemd/system/ssh.service\\n\
+        /run/systemd/system/sshd.service -> /usr/lib/systemd/system/ssh.service\\n\n\
+    # Equal targets are no clash.\n\
+    wanted\ta.service [Install]\\nWantedBy=m.target m.target\\nRequiredBy=m.target\\n\
+        Alias=b.service b.service\\n\ta.service a.service\t\
+        /etc/systemd/system/b.service -> /usr/lib/systemd/system/a.service\\n\
+        /etc/systemd/system/m.target.requires/a.service -> /usr/lib/systemd/system/a.service\\n\
+        /etc/systemd/system/m.target.wants/a.service -> /usr/lib/systemd/system/a.service\\n\n\
+    # The least path that two units want with different targets is reported, unless an instance\n\
+    # is needed.\n\
+    wanted\tclashes\ta.service b.service\tclash at /etc/systemd/system/c.service\n\
+    wanted\tclashes\tb.service a.service\tclash at /etc/systemd/system/c.service\n\
+    wanted\tclashes\ta.service b.service t@.service\tneeds an instance: t@.service\n\
+    # A template stands for its default instance, unless a template lists it.\n\
+    wanted\ttemplates\tgetty@.service\t\
+        /etc/systemd/system/getty.target.wants/getty@tty1.service -> /usr/lib/systemd/system/getty@.service\\n\n\
+    wanted\ttemplates\tgetty@tty2.service\t\
+        /etc/systemd/system/getty.target.wants/getty@tty2.service -> /usr/lib/systemd/system/getty@.service\\n\n\
+    wanted\ttemplates\tmonitor@.service\t\
+        /etc/systemd/system/container@.target.wants/monitor@.service -> /usr/lib/systemd/system/monitor@.service\\n\n\
+    # The least template that has none is reported. `a/b` is no instance.\n\
+    wanted\ttemplates\tweb@.service\tneeds an instance: web@.service\n\
+    wanted\ttemplates\todd@.service\tneeds an instance: odd@.service\n\
+    wanted\ttemplates\tweb@.service odd@.service\tneeds an instance: odd@.service\n\
+    wanted\ttemplates\todd@.service web@.service\tneeds an instance: odd@.service\n\
+    # wanted, skipping: a word that would need an instance is left out, without a notice.\n\
+    wanted, skipping\ttemplates\tweb@.service getty@.service\t\
+        /etc/systemd/system/getty.target.wants/getty@tty1.service -> /usr/lib/systemd/system/getty@.service\\n\n\
+    # Words that ask for no link are reported. A name without a unit wants nothing.\n\
+    wanted\ta.service [Install]\\nWantedBy=%q m\\nRequiredBy=m.conf\\n\ta.service none.service\t  \
+        ! a.service: RequiredBy m.conf: bad name\\n  ! a.service: WantedBy %q: bad specifier\\n  \
+        ! a.service: WantedBy m: bad name\\n\n\
+    # how many links, link at: among the links that the units ONE of the tree `ssh` want.\n\
+    how many links\tssh.service\t\t2\n\
+    link at\tssh.service\t/etc/systemd/system/sshd.service\t/usr/lib/systemd/system/ssh.service\n\
+    link at\tssh.service\t/etc/systemd/system/ssh.service\tnone\n\
+    # paths looked at: for the same links, each as often as it is looked at. The one unit is\n\
+    # found by four paths, and its file is looked at once more. There is no other unit.\n\
+    paths looked at\tssh.service none.service\t\t9\n";
+
+/// The text of the tree that a word names, or which the word is.
+fn tree_named(word: &[u8]) -> &[u8] {
+    if word == b"ssh".as_slice() {
+        return SSH;
     }
-    Ok(())
-}
-
-const SSH: Row = Row::File(
-    b"ssh.service",
-    b"[Install]\nWantedBy=multi-user.target\nAlias=sshd.service\n",
-);
-
-#[test]
-fn links_are_wanted_in_the_scope(rt: HostRuntime) -> Result<(), Fail> {
-    let etc: &[u8] =
-        b"/etc/systemd/system/multi-user.target.wants/ssh.service -> /usr/lib/systemd/system/ssh.service\n/etc/systemd/system/sshd.service -> /usr/lib/systemd/system/ssh.service\n";
-    let run: &[u8] =
-        b"/run/systemd/system/multi-user.target.wants/ssh.service -> /usr/lib/systemd/system/ssh.service\n/run/systemd/system/sshd.service -> /usr/lib/systemd/system/ssh.service\n";
-    let unit = b"ssh.service";
-    assert_wanted_in(&rt, rt.alloc(), &[SSH], unit, Scope::Etc, false, etc)?;
-    assert_wanted_in(&rt, rt.alloc(), &[SSH], unit, Scope::Run, false, run)
-}
-
-#[test]
-fn equal_targets_are_no_clash(rt: HostRuntime) -> Result<(), Fail> {
-    let rows = [Row::File(
-        b"a.service",
-        b"[Install]\nWantedBy=m.target m.target\nRequiredBy=m.target\nAlias=b.service b.service\n",
-    )];
-    let text: &[u8] =
-        b"/etc/systemd/system/b.service -> /usr/lib/systemd/system/a.service\n/etc/systemd/system/m.target.requires/a.service -> /usr/lib/systemd/system/a.service\n/etc/systemd/system/m.target.wants/a.service -> /usr/lib/systemd/system/a.service\n";
-    assert_wanted(&rt, rt.alloc(), &rows, b"a.service a.service", text)
-}
-
-const CLASHES: [(&[u8], &[u8]); 3] = [
-    (
-        b"a.service b.service",
-        b"clash /etc/systemd/system/c.service\n",
-    ),
-    (
-        b"b.service a.service",
-        b"clash /etc/systemd/system/c.service\n",
-    ),
-    (b"a.service b.service t@.service", b"needs t@.service\n"),
-];
-
-#[test]
-fn the_least_clash_is_told(rt: HostRuntime) -> Result<(), Fail> {
-    let rows = [
-        Row::File(b"a.service", b"[Install]\nAlias=d.service c.service\n"),
-        Row::File(b"b.service", b"[Install]\nAlias=d.service c.service\n"),
-        Row::File(b"t@.service", b"[Install]\nWantedBy=m.target\n"),
-    ];
-    assert_each_wanted(&rt, rt.alloc(), &rows, &CLASHES)
-}
-
-const GETTY: Row = Row::File(
-    b"getty@.service",
-    b"[Install]\nWantedBy=getty.target\nDefaultInstance=tty1\n",
-);
-
-const WEB: Row = Row::File(b"web@.service", b"[Install]\nWantedBy=getty.target\n");
-
-const ODD: Row = Row::File(
-    b"odd@.service",
-    b"[Install]\nRequiredBy=getty.target\nDefaultInstance=a/b\n",
-);
-
-const MONITOR: Row = Row::File(
-    b"monitor@.service",
-    b"[Install]\nWantedBy=container@.target\nDefaultInstance=x\n",
-);
-
-const DEFAULTS: [(&[u8], &[u8]); 7] = [
-    (
-        b"getty@.service",
-        b"/etc/systemd/system/getty.target.wants/getty@tty1.service -> /usr/lib/systemd/system/getty@.service\n",
-    ),
-    (
-        b"getty@tty2.service",
-        b"/etc/systemd/system/getty.target.wants/getty@tty2.service -> /usr/lib/systemd/system/getty@.service\n",
-    ),
-    (
-        b"monitor@.service",
-        b"/etc/systemd/system/container@.target.wants/monitor@.service -> /usr/lib/systemd/system/monitor@.service\n",
-    ),
-    (b"web@.service", b"needs web@.service\n"),
-    (b"odd@.service", b"needs odd@.service\n"),
-    (b"web@.service odd@.service", b"needs odd@.service\n"),
-    (b"odd@.service web@.service", b"needs odd@.service\n"),
-];
-
-#[test]
-fn templates_stand_for_their_default_instance(rt: HostRuntime) -> Result<(), Fail> {
-    let rows = [GETTY, WEB, ODD, MONITOR];
-    assert_each_wanted(&rt, rt.alloc(), &rows, &DEFAULTS)
-}
-
-#[test]
-fn words_that_need_an_instance_are_left_out(rt: HostRuntime) -> Result<(), Fail> {
-    let units = b"web@.service getty@.service";
-    let text: &[u8] =
-        b"/etc/systemd/system/getty.target.wants/getty@tty1.service -> /usr/lib/systemd/system/getty@.service\n";
-    let rows = [WEB, GETTY];
-    assert_wanted_in(&rt, rt.alloc(), &rows, units, Scope::Etc, true, text)
-}
-
-#[test]
-fn skipped_words_are_told(rt: HostRuntime) -> Result<(), Fail> {
-    let rows = [Row::File(
-        b"a.service",
-        b"[Install]\nWantedBy=%q m\nRequiredBy=m.conf\n",
-    )];
-    let text: &[u8] =
-        b"  ! a.service: RequiredBy m.conf: bad name\n  ! a.service: WantedBy %q: bad specifier\n  ! a.service: WantedBy m: bad name\n";
-    assert_wanted(&rt, rt.alloc(), &rows, b"a.service none.service", text)
-}
-
-fn assert_links(rt: &impl Abort, links: &Links, path: &TreePath, none: &TreePath) {
-    assert_eq!(rt; links.len(), 2);
-    assert!(rt; !links.is_empty());
-    assert!(rt; links.get(path).is_some());
-    assert!(rt; links.get(none).is_none());
-}
-
-fn assert_found(
-    rt: &impl Abort,
-    alloc: Global,
-    links: &Links,
-    at: &[u8],
-    none: &[u8],
-) -> Result<(), Fail> {
-    let at = path(alloc, at)?;
-    let none = path(alloc, none)?;
-    assert_links(rt, links, &at, &none);
-    Ok(())
+    if word == b"clashes".as_slice() {
+        return CLASHES;
+    }
+    if word == b"templates".as_slice() {
+        return TEMPLATES;
+    }
+    word
 }
 
 fn boxed(alloc: Global, tree: &Tree, units: &[UnitName]) -> Result<Box<Wanted>, AllocError> {
@@ -186,41 +92,71 @@ fn boxed(alloc: Global, tree: &Tree, units: &[UnitName]) -> Result<Box<Wanted>, 
     }
 }
 
-/// What `ssh.service` wants.
-fn wanted_by_ssh(alloc: Global) -> Result<Box<Wanted>, AllocError> {
-    let tree = tree(alloc, UNITS, &[SSH])?;
-    let units = names(alloc, b"ssh.service")?;
-    ample!(boxed(alloc, &tree, &units), AllocError)
+/// What units of the tree `ssh` want.
+fn wanted_of_ssh(alloc: Global, units: &[u8]) -> Result<Box<Wanted>, AllocError> {
+    let tree = tree(alloc, SSH)?;
+    let units = names(alloc, units)?;
+    boxed(alloc, &tree, &units)
 }
 
-#[test]
-fn links_are_found_by_path(rt: HostRuntime) -> Result<(), Fail> {
-    let wanted = wanted_by_ssh(rt.alloc())?;
-    assert_found(
-        &rt,
-        rt.alloc(),
-        &wanted.links,
-        b"/etc/systemd/system/sshd.service",
-        b"/etc/systemd/system/ssh.service",
-    )
+fn how_many(alloc: Global, units: &[u8]) -> Result<Vec<u8>, AllocError> {
+    let wanted = wanted_of_ssh(alloc, units)?;
+    text_of_count(alloc, wanted.links.len(), wanted.links.is_empty())
 }
 
-/// How many paths are looked at, each counted as often.
+fn target(alloc: Global, links: &Links, at: &[u8]) -> Result<Vec<u8>, AllocError> {
+    let at = path(alloc, at)?;
+    match links.get(&at) {
+        Some(file) => Vec::from_slice(alloc, file.text()),
+        None => Vec::from_slice(alloc, b"none"),
+    }
+}
+
+fn link_at(alloc: Global, units: &[u8], at: &[u8]) -> Result<Vec<u8>, AllocError> {
+    let wanted = wanted_of_ssh(alloc, units)?;
+    target(alloc, &wanted.links, at)
+}
+
 fn looks(alloc: Global, tree: &Tree, units: &[UnitName]) -> Result<usize, AllocError> {
     let mut cells = Cells::new(alloc);
     let _wanted = wanted_into(alloc, tree, units, Scope::Etc, false, &mut cells)?;
     Ok(cells.as_slice().len())
 }
 
-fn looks_for(alloc: Global, units: &[u8]) -> Result<usize, AllocError> {
-    let tree = tree(alloc, UNITS, &[SSH])?;
+fn paths_looked_at(alloc: Global, units: &[u8]) -> Result<Vec<u8>, AllocError> {
+    let tree = tree(alloc, SSH)?;
     let units = names(alloc, units)?;
-    ample!(looks(alloc, &tree, &units), AllocError)
+    let looks = looks(alloc, &tree, &units)?;
+    text_of_count(alloc, looks, looks == 0)
+}
+
+fn answer(alloc: Global, row: &Row) -> Result<Vec<u8>, AllocError> {
+    let tree = tree_named(&row.one);
+    let kind = row.kind.as_slice();
+    if kind == b"wanted".as_slice() {
+        return wanted_text(alloc, tree, &row.two, Scope::Etc, false);
+    }
+    if kind == b"wanted --runtime".as_slice() {
+        return wanted_text(alloc, tree, &row.two, Scope::Run, false);
+    }
+    if kind == b"wanted, skipping".as_slice() {
+        return wanted_text(alloc, tree, &row.two, Scope::Etc, true);
+    }
+    if kind == b"how many links".as_slice() {
+        return how_many(alloc, &row.one);
+    }
+    if kind == b"link at".as_slice() {
+        return link_at(alloc, &row.one, &row.two);
+    }
+    if kind == b"paths looked at".as_slice() {
+        return paths_looked_at(alloc, &row.one);
+    }
+    Vec::from_slice(alloc, b"unknown kind")
 }
 
 #[test]
-fn units_are_looked_up_and_their_files_read(rt: HostRuntime) -> Result<(), Fail> {
-    // Found by four paths, and its file looked at once more; of the other there is none.
-    assert_eq!(rt; looks_for(rt.alloc(), b"ssh.service none.service")?, 9);
+fn links_are_wanted_by_the_words_of_units(rt: HostRuntime) -> Result<(), Fail> {
+    let found = unlike(rt.alloc(), ROWS, answer)?;
+    assert_eq!(rt; found.as_slice(), b"".as_slice());
     Ok(())
 }

@@ -1,12 +1,12 @@
-//! What is told of units in trees, as texts.
-use crate::trees::{Row, UNITS, tree};
+//! What is reported of units in trees, as texts.
+use crate::trees::tree;
 use install_section::{
     Closure, ClosureError, Links, Members, Wanted, WantedError, closure, wanted,
 };
 use link_tree::{Scope, Tree};
 use sample_values::name;
 use std::alloc::{AllocError, Global};
-use unit_name::{UnitName, ample};
+use unit_name::UnitName;
 
 /// Adds a name to others.
 pub(crate) fn push_name(
@@ -20,11 +20,23 @@ pub(crate) fn push_name(
 
 /// The names in a text, with a space between each two.
 pub(crate) fn names(alloc: Global, text: &[u8]) -> Result<Vec<UnitName>, AllocError> {
-    let mut names = ample!(Vec::with_capacity(alloc, 16), AllocError)?;
+    let mut names = Vec::new(alloc);
     for word in text.split(|b| *b == b' ') {
         push_name(alloc, &mut names, word)?;
     }
     Ok(names)
+}
+
+/// A count, or `none` where there is said to be none.
+pub(crate) fn text_of_count(
+    alloc: Global,
+    count: usize,
+    is_none: bool,
+) -> Result<Vec<u8>, AllocError> {
+    if is_none {
+        return Vec::from_slice(alloc, b"none");
+    }
+    Ok(format!(in alloc; "{count}")?.into_bytes())
 }
 
 fn members_text(alloc: Global, members: &Members) -> Result<Vec<u8>, AllocError> {
@@ -62,7 +74,7 @@ fn wanted_told(alloc: Global, wanted: &Wanted) -> Result<Vec<u8>, AllocError> {
 fn found(alloc: Global, tree: &Tree, given: &[UnitName]) -> Result<Vec<u8>, AllocError> {
     match closure(alloc, tree, given) {
         Ok(closure) => closure_told(alloc, &closure),
-        Err(ClosureError::TooMany(_)) => Vec::from_slice(alloc, b"too many\n"),
+        Err(ClosureError::TooMany(_)) => Vec::from_slice(alloc, b"too many"),
         Err(ClosureError::OutOfMemory) => Err(AllocError),
     }
 }
@@ -70,19 +82,18 @@ fn found(alloc: Global, tree: &Tree, given: &[UnitName]) -> Result<Vec<u8>, Allo
 /// The units of a closure and its notices, a line each; or `too many`.
 pub(crate) fn closure_text(
     alloc: Global,
-    rows: &[Row],
+    tree_text: &[u8],
     given: &[u8],
 ) -> Result<Vec<u8>, AllocError> {
-    let tree = tree(alloc, UNITS, rows)?;
+    let tree = tree(alloc, tree_text)?;
     let given = names(alloc, given)?;
-    ample!(found(alloc, &tree, &given), AllocError)
+    found(alloc, &tree, &given)
 }
 
-fn line(alloc: Global, before: &[u8], text: &[u8]) -> Result<Vec<u8>, AllocError> {
-    let mut line = Vec::from_slice(alloc, before)?;
-    line.extend_from_slice(text)?;
-    line.push(b'\n')?;
-    Ok(line)
+fn joined(alloc: Global, before: &[u8], text: &[u8]) -> Result<Vec<u8>, AllocError> {
+    let mut joined = Vec::from_slice(alloc, before)?;
+    joined.extend_from_slice(text)?;
+    Ok(joined)
 }
 
 fn asked(
@@ -94,8 +105,8 @@ fn asked(
 ) -> Result<Vec<u8>, AllocError> {
     match wanted(alloc, tree, units, scope, skip) {
         Ok(wanted) => wanted_told(alloc, &wanted),
-        Err(WantedError::NeedsInstance(unit)) => line(alloc, b"needs ", unit.text()),
-        Err(WantedError::Clash(path)) => line(alloc, b"clash ", path.text()),
+        Err(WantedError::NeedsInstance(unit)) => joined(alloc, b"needs an instance: ", unit.text()),
+        Err(WantedError::Clash(path)) => joined(alloc, b"clash at ", path.text()),
         Err(WantedError::OutOfMemory) => Err(AllocError),
     }
 }
@@ -103,12 +114,12 @@ fn asked(
 /// The links that units want and the notices, a line each; or what is wrong with them.
 pub(crate) fn wanted_text(
     alloc: Global,
-    rows: &[Row],
+    tree_text: &[u8],
     units: &[u8],
     scope: Scope,
     skip: bool,
 ) -> Result<Vec<u8>, AllocError> {
-    let tree = tree(alloc, UNITS, rows)?;
+    let tree = tree(alloc, tree_text)?;
     let units = names(alloc, units)?;
-    ample!(asked(alloc, &tree, &units, scope, skip), AllocError)
+    asked(alloc, &tree, &units, scope, skip)
 }

@@ -1,208 +1,27 @@
 //! Which preset files count.
-use super::verdicts::{ON, Said, assert_cells, assert_says, policy};
-use crate::trees::{Row, tree};
+use super::verdicts::{policy, policy_of_file, verdict, verdict_text};
+use crate::trees::tree;
 use link_tree::Tree;
 use load_path::Cells;
 use preset_rules::{Rules, Verdict};
+use sample_rows::{Row, unlike};
 use sample_values::name;
 use std::alloc::{AllocError, Global};
-use std::process::Abort;
 use std::test::Fail;
-use unit_name::{UnitName, ample};
 
-const SSH: &[u8] = b"ssh.service";
+/// A file behind seven links from `a2.service` on, and eight from `a1.service` on.
+const CHAIN: &[u8] = b"\
+    /etc/systemd/system/a9.service disable *\n|\
+    /etc/systemd/system/a8.service -> a9.service|\
+    /etc/systemd/system/a7.service -> a8.service|\
+    /etc/systemd/system/a6.service -> a7.service|\
+    /etc/systemd/system/a5.service -> a6.service|\
+    /etc/systemd/system/a4.service -> a5.service|\
+    /etc/systemd/system/a3.service -> a4.service|\
+    /etc/systemd/system/a2.service -> a3.service|\
+    /etc/systemd/system/a1.service -> a2.service";
 
-const ETC: &[u8] = b"/etc/systemd/system-preset/10-a.preset";
-
-const RUN: &[u8] = b"/run/systemd/system-preset/10-a.preset";
-
-const VENDOR: &[u8] = b"/usr/lib/systemd/system-preset/10-a.preset";
-
-const LATER: &[u8] = b"/usr/lib/systemd/system-preset/20-b.preset";
-
-const EARLIER: &[u8] = b"/run/systemd/system-preset/05-c.preset";
-
-const NINE: &[u8] = b"/etc/systemd/system-preset/9-a.preset";
-
-const ELSEWHERE: &[u8] = b"/usr/lib/systemd/system/p.service";
-
-const ENABLE: &[u8] = b"enable ssh.service\n";
-
-const DISABLE: &[u8] = b"disable ssh.service\n";
-
-const NONE: &[u8] = b"disable *\n";
-
-/// Presets that enable `ssh.service`.
-const ENABLED_BY: [&[Row]; 12] = [
-    &[],
-    &[
-        Row::File(VENDOR, DISABLE),
-        Row::File(ETC, ENABLE),
-        Row::File(LATER, NONE),
-    ],
-    &[Row::File(RUN, DISABLE), Row::File(ETC, ENABLE)],
-    &[Row::File(ETC, NONE), Row::File(EARLIER, ENABLE)],
-    &[Row::File(VENDOR, NONE), Row::Link(ETC, b"/dev/null")],
-    &[
-        Row::File(VENDOR, NONE),
-        Row::Link(ETC, b"../../../dev/null"),
-    ],
-    &[Row::File(VENDOR, NONE), Row::Link(ETC, b"/nothing")],
-    &[Row::File(VENDOR, NONE), Row::File(ETC, b"")],
-    &[Row::Link(ETC, b"10-a.preset")],
-    &[Row::File(NINE, NONE), Row::File(ETC, ENABLE)],
-    &[
-        Row::File(VENDOR, NONE),
-        Row::File(ETC, b"enable \xff\nenable"),
-    ],
-    &[Row::File(b"/etc/systemd/system/x.service", NONE)],
-];
-
-/// Presets that disable `ssh.service`.
-const DISABLED_BY: [&[Row]; 5] = [
-    &[Row::File(VENDOR, ENABLE), Row::File(RUN, DISABLE)],
-    &[Row::File(LATER, ENABLE), Row::File(VENDOR, NONE)],
-    &[Row::File(ELSEWHERE, NONE), Row::Link(RUN, ELSEWHERE)],
-    &[
-        Row::File(LATER, NONE),
-        Row::Link(ETC, b"/lib/systemd/system-preset/20-b.preset"),
-    ],
-    &[
-        Row::File(LATER, NONE),
-        Row::File(ETC, b"# enable ssh.service"),
-    ],
-];
-
-fn assert_ssh(rt: &impl Abort, alloc: Global, table: &[&[Row]], said: Said) -> Result<(), Fail> {
-    for rows in table {
-        assert_says(rt, alloc, rows, SSH, said)?;
-    }
-    Ok(())
-}
-
-#[test]
-fn files_are_chosen_by_their_names(rt: HostRuntime) -> Result<(), Fail> {
-    assert_ssh(&rt, rt.alloc(), &ENABLED_BY, ON)?;
-    assert_ssh(&rt, rt.alloc(), &DISABLED_BY, Said::Off)
-}
-
-/// The paths that are looked at for these presets, and how many rules they have.
-fn assert_read(
-    rt: &impl Abort,
-    alloc: Global,
-    rows: &[Row],
-    paths: &[&[u8]],
-    rules: usize,
-) -> Result<(), Fail> {
-    let policy = policy(alloc, rows)?;
-    assert_cells(rt, policy.cells().as_slice(), paths);
-    assert_eq!(rt; policy.rules().as_slice().len(), rules);
-    Ok(())
-}
-
-#[test]
-fn cells_are_those_that_links_lead_to(rt: HostRuntime) -> Result<(), Fail> {
-    let rows = [
-        Row::File(ELSEWHERE, NONE),
-        Row::Link(VENDOR, b"/hidden"),
-        Row::Link(ETC, ELSEWHERE),
-        Row::Link(LATER, b"/nothing"),
-        Row::Link(EARLIER, b"/dev/null"),
-    ];
-    assert_read(&rt, rt.alloc(), &rows, &[ELSEWHERE, b"/nothing"], 1)
-}
-
-/// Of presets whose links are followed in another tree: how many rules there are, behind how many paths, and whether they disable a
-/// unit.
-fn said_among(
-    alloc: Global,
-    presets: &Tree,
-    tree: &Tree,
-    unit: &UnitName,
-) -> Result<(usize, usize, bool), AllocError> {
-    let mut cells = Cells::new(alloc);
-    let rules = Rules::of_into(alloc, presets.entries(), tree, &mut cells)?;
-    let verdict = rules.verdict(alloc, unit)?;
-    let is_disabled = matches!(verdict, Verdict::Disable);
-    Ok((rules.as_slice().len(), cells.as_slice().len(), is_disabled))
-}
-
-/// The same of two trees with these entries, and of `ssh.service`.
-fn said_of_ssh(
-    alloc: Global,
-    presets: &[Row],
-    rows: &[Row],
-) -> Result<(usize, usize, bool), AllocError> {
-    let presets = tree(alloc, b"", presets)?;
-    let tree = tree(alloc, b"", rows)?;
-    let unit = name(alloc, SSH)?;
-    ample!(said_among(alloc, &presets, &tree, &unit), AllocError)
-}
-
-/// The presets are those of one tree, and what the links lead to stands in the other.
-#[test]
-fn links_are_followed_in_the_other_tree(rt: HostRuntime) -> Result<(), Fail> {
-    let said = said_of_ssh(
-        rt.alloc(),
-        &[Row::Link(RUN, ELSEWHERE), Row::File(ELSEWHERE, ENABLE)],
-        &[Row::File(ELSEWHERE, NONE), Row::File(ETC, ENABLE)],
-    )?;
-    assert_eq!(rt; said, (1, 2, true));
-    Ok(())
-}
-
-/// A file behind links at the slots of units: seven from the name of the presets in `/usr/lib` on, eight from that in `/etc` on. The
-/// preset's own link is one more.
-const CHAIN: [Row; 11] = [
-    Row::File(b"/etc/systemd/system/a9.service", NONE),
-    Row::Link(b"/etc/systemd/system/a8.service", b"a9.service"),
-    Row::Link(b"/etc/systemd/system/a7.service", b"a8.service"),
-    Row::Link(b"/etc/systemd/system/a6.service", b"a7.service"),
-    Row::Link(b"/etc/systemd/system/a5.service", b"a6.service"),
-    Row::Link(b"/etc/systemd/system/a4.service", b"a5.service"),
-    Row::Link(b"/etc/systemd/system/a3.service", b"a4.service"),
-    Row::Link(b"/etc/systemd/system/a2.service", b"a3.service"),
-    Row::Link(b"/etc/systemd/system/a1.service", b"a2.service"),
-    Row::Link(VENDOR, b"/etc/systemd/system/a2.service"),
-    Row::Link(ETC, b"/etc/systemd/system/a1.service"),
-];
-
-/// How many paths are looked at for these presets, and how many rules they have.
-fn counts(alloc: Global, rows: &[Row]) -> Result<(usize, usize), AllocError> {
-    let policy = policy(alloc, rows)?;
-    Ok((
-        policy.cells().as_slice().len(),
-        policy.rules().as_slice().len(),
-    ))
-}
-
-/// Eight paths are looked at for these presets, which have so many rules and say this of `ssh.service`.
-fn assert_chain(
-    rt: &impl Abort,
-    alloc: Global,
-    rows: &[Row],
-    said: Said,
-    rules: usize,
-) -> Result<(), Fail> {
-    assert_says(rt, alloc, rows, SSH, said)?;
-    let counts = counts(alloc, rows)?;
-    assert_eq!(rt; counts, (8, rules));
-    Ok(())
-}
-
-#[test]
-fn a_preset_eight_links_deep_is_read(rt: HostRuntime) -> Result<(), Fail> {
-    assert_chain(&rt, rt.alloc(), &CHAIN[..10], Said::Off, 1)
-}
-
-/// It counts as an empty file, which hides the one of its name.
-#[test]
-fn a_preset_nine_links_deep_is_empty(rt: HostRuntime) -> Result<(), Fail> {
-    assert_chain(&rt, rt.alloc(), &CHAIN, ON, 0)
-}
-
-/// What Debian's package `systemd` 252.39-1~deb12u2 ships at `/lib/systemd/system-preset/90-systemd.preset`, its only file there, as it
-/// stands.
+/// The only file in `/lib/systemd/system-preset` of Debian's package `systemd` 252.39-1~deb12u2, `90-systemd.preset`.
 const DEBIAN: &[u8] = b"\
 #  SPDX-License-Identifier: LGPL-2.1-or-later
 #
@@ -253,22 +72,188 @@ disable systemd-journal-remote.*
 disable systemd-journal-upload.*
 ";
 
-/// What `systemctl preset` of that version enables by this file.
-const DEBIAN_ENABLES: &[u8] = b"\
-    remote-fs.target remote-cryptsetup.target machines.target getty@.service getty@tty1.service \
-    systemd-timesyncd.service systemd-networkd.service systemd-networkd.socket systemd-resolved.service \
-    systemd-userdbd.socket systemd-pstore.service systemd-boot-update.service reboot.target ssh.service";
+const ROWS: &[u8] = b"\
+    # preset: what the preset files ONE say of the unit TWO. Of files of one name the one in\n\
+    # `/etc` counts, or else the one in `/run`. They are read in the order of their names.\n\
+    preset\t\tssh.service\tenable\n\
+    preset\t/usr/lib/systemd/system-preset/10-a.preset disable ssh.service\\n|\
+        /etc/systemd/system-preset/10-a.preset enable ssh.service\\n|\
+        /usr/lib/systemd/system-preset/20-b.preset disable *\\n\tssh.service\tenable\n\
+    preset\t/run/systemd/system-preset/10-a.preset disable ssh.service\\n|\
+        /etc/systemd/system-preset/10-a.preset enable ssh.service\\n\tssh.service\tenable\n\
+    preset\t/usr/lib/systemd/system-preset/10-a.preset enable ssh.service\\n|\
+        /run/systemd/system-preset/10-a.preset disable ssh.service\\n\tssh.service\tdisable\n\
+    preset\t/usr/lib/systemd/system-preset/20-b.preset enable ssh.service\\n|\
+        /usr/lib/systemd/system-preset/10-a.preset disable *\\n\tssh.service\tdisable\n\
+    preset\t/etc/systemd/system-preset/10-a.preset disable *\\n|\
+        /run/systemd/system-preset/05-c.preset enable ssh.service\\n\tssh.service\tenable\n\
+    # That is their byte order: 9 comes after 10.\n\
+    preset\t/etc/systemd/system-preset/9-a.preset disable *\\n|\
+        /etc/systemd/system-preset/10-a.preset enable ssh.service\\n\tssh.service\tenable\n\
+    # A link to `/dev/null` or to nothing, and a file without rules, hides the other files of its\n\
+    # name.\n\
+    preset\t/usr/lib/systemd/system-preset/10-a.preset disable *\\n|\
+        /etc/systemd/system-preset/10-a.preset -> /dev/null\tssh.service\tenable\n\
+    preset\t/usr/lib/systemd/system-preset/10-a.preset disable *\\n|\
+        /etc/systemd/system-preset/10-a.preset -> ../../../dev/null\tssh.service\tenable\n\
+    preset\t/usr/lib/systemd/system-preset/10-a.preset disable *\\n|\
+        /etc/systemd/system-preset/10-a.preset -> /nothing\tssh.service\tenable\n\
+    preset\t/usr/lib/systemd/system-preset/10-a.preset disable *\\n|\
+        /etc/systemd/system-preset/10-a.preset\tssh.service\tenable\n\
+    preset\t/usr/lib/systemd/system-preset/10-a.preset disable *\\n|\
+        /etc/systemd/system-preset/10-a.preset enable \\xff\\nenable\tssh.service\tenable\n\
+    preset\t/etc/systemd/system-preset/10-a.preset -> 10-a.preset\tssh.service\tenable\n\
+    preset\t/usr/lib/systemd/system-preset/20-b.preset disable *\\n|\
+        /etc/systemd/system-preset/10-a.preset # enable ssh.service\tssh.service\tdisable\n\
+    # Links are followed.\n\
+    preset\t/usr/lib/systemd/system/p.service disable *\\n|\
+        /run/systemd/system-preset/10-a.preset -> /usr/lib/systemd/system/p.service\tssh.service\t\
+        disable\n\
+    preset\t/usr/lib/systemd/system-preset/20-b.preset disable *\\n|\
+        /etc/systemd/system-preset/10-a.preset -> /lib/systemd/system-preset/20-b.preset\t\
+        ssh.service\tdisable\n\
+    # No other file is a preset.\n\
+    preset\t/etc/systemd/system/x.service disable *\\n\tssh.service\tenable\n\
+    # read: how many rules the preset files ONE have, and the paths to which those that are links\n\
+    # lead.\n\
+    read\t/usr/lib/systemd/system/p.service disable *\\n|\
+        /usr/lib/systemd/system-preset/10-a.preset -> /hidden|\
+        /etc/systemd/system-preset/10-a.preset -> /usr/lib/systemd/system/p.service|\
+        /usr/lib/systemd/system-preset/20-b.preset -> /nothing|\
+        /run/systemd/system-preset/05-c.preset -> /dev/null\t\t1\\n\
+        /usr/lib/systemd/system/p.service\\n/nothing\\n\n\
+    # in another tree: the preset files are those of ONE, and their links are followed in TWO.\n\
+    # The answer is the number of rules, the number of paths to which links lead, and what the\n\
+    # rules say of ssh.service.\n\
+    in another tree\t/run/systemd/system-preset/10-a.preset -> /usr/lib/systemd/system/p.service|\
+        /usr/lib/systemd/system/p.service enable ssh.service\\n\t\
+        /usr/lib/systemd/system/p.service disable *\\n|\
+        /etc/systemd/system-preset/10-a.preset enable ssh.service\\n\t1, 2, disable\n\
+    # behind links: the same of the preset files ONE, which are links into the chain. A file\n\
+    # behind eight links is read. Behind nine it counts as an empty one, which hides the other\n\
+    # files of its name.\n\
+    behind links\t/usr/lib/systemd/system-preset/10-a.preset -> /etc/systemd/system/a2.service\t\t\
+        1, 8, disable\n\
+    behind links\t/usr/lib/systemd/system-preset/10-a.preset -> /etc/systemd/system/a2.service|\
+        /etc/systemd/system-preset/10-a.preset -> /etc/systemd/system/a1.service\t\t0, 8, enable\n\
+    # debian: what the file of Debian says of the unit ONE. `systemctl preset` of that version\n\
+    # does so.\n\
+    debian\tremote-fs.target\t\tenable\n\
+    debian\tremote-cryptsetup.target\t\tenable\n\
+    debian\tmachines.target\t\tenable\n\
+    debian\tgetty@.service\t\tenable\n\
+    debian\tgetty@tty1.service\t\tenable\n\
+    debian\tsystemd-timesyncd.service\t\tenable\n\
+    debian\tsystemd-networkd.service\t\tenable\n\
+    debian\tsystemd-networkd.socket\t\tenable\n\
+    debian\tsystemd-resolved.service\t\tenable\n\
+    debian\tsystemd-userdbd.socket\t\tenable\n\
+    debian\tsystemd-pstore.service\t\tenable\n\
+    debian\tsystemd-boot-update.service\t\tenable\n\
+    debian\treboot.target\t\tenable\n\
+    debian\tssh.service\t\tenable\n\
+    debian\tconsole-getty.service\t\tdisable\n\
+    debian\tdebug-shell.service\t\tdisable\n\
+    debian\thalt.target\t\tdisable\n\
+    debian\tkexec.target\t\tdisable\n\
+    debian\tpoweroff.target\t\tdisable\n\
+    debian\trescue.target\t\tdisable\n\
+    debian\texit.target\t\tdisable\n\
+    debian\tsystemd-networkd-wait-online.service\t\tdisable\n\
+    debian\tsystemd-time-wait-sync.service\t\tdisable\n\
+    debian\tsystemd-boot-check-no-failures.service\t\tdisable\n\
+    debian\tproc-sys-fs-binfmt_misc.mount\t\tdisable\n\
+    debian\tsyslog.socket\t\tdisable\n\
+    debian\tsystemd-journal-gatewayd.service\t\tdisable\n\
+    debian\tsystemd-journal-gatewayd.socket\t\tdisable\n\
+    debian\tsystemd-journal-remote.socket\t\tdisable\n\
+    debian\tsystemd-journal-upload.service\t\tdisable\n";
 
-/// What `systemctl preset` of that version disables by this file.
-const DEBIAN_DISABLES: &[u8] = b"\
-    console-getty.service debug-shell.service halt.target kexec.target poweroff.target rescue.target exit.target \
-    systemd-networkd-wait-online.service systemd-time-wait-sync.service systemd-boot-check-no-failures.service \
-    proc-sys-fs-binfmt_misc.mount syslog.socket systemd-journal-gatewayd.service systemd-journal-gatewayd.socket \
-    systemd-journal-remote.socket systemd-journal-upload.service";
+fn preset(alloc: Global, presets: &[u8], unit: &[u8]) -> Result<Vec<u8>, AllocError> {
+    let policy = policy(alloc, presets)?;
+    let verdict = verdict(alloc, &policy, unit)?;
+    verdict_text(alloc, &verdict)
+}
+
+fn debian(alloc: Global, unit: &[u8]) -> Result<Vec<u8>, AllocError> {
+    let at = b"/usr/lib/systemd/system-preset/90-systemd.preset";
+    let policy = policy_of_file(alloc, at, DEBIAN)?;
+    let verdict = verdict(alloc, &policy, unit)?;
+    verdict_text(alloc, &verdict)
+}
+
+fn read(alloc: Global, presets: &[u8]) -> Result<Vec<u8>, AllocError> {
+    let policy = policy(alloc, presets)?;
+    let rules = policy.rules().as_slice().len();
+    let mut text = format!(in alloc; "{rules}\n")?.into_bytes();
+    for cell in policy.cells().as_slice() {
+        text.extend_from_slice(cell.text())?;
+        text.push(b'\n')?;
+    }
+    Ok(text)
+}
+
+/// How many rules there are, behind how many paths, and what they say.
+fn told(
+    alloc: Global,
+    rules: &Rules,
+    cells: &Cells,
+    verdict: &Verdict,
+) -> Result<Vec<u8>, AllocError> {
+    let rules = rules.as_slice().len();
+    let cells = cells.as_slice().len();
+    let mut text = format!(in alloc; "{rules}, {cells}, ")?.into_bytes();
+    let said = verdict_text(alloc, verdict)?;
+    text.extend_from_slice(&said)?;
+    Ok(text)
+}
+
+fn told_among(alloc: Global, presets: &Tree, tree: &Tree) -> Result<Vec<u8>, AllocError> {
+    let unit = name(alloc, b"ssh.service")?;
+    let mut cells = Cells::new(alloc);
+    let rules = Rules::of_into(alloc, presets.entries(), tree, &mut cells)?;
+    let verdict = rules.verdict(alloc, &unit)?;
+    told(alloc, &rules, &cells, &verdict)
+}
+
+fn in_another_tree(alloc: Global, presets: &[u8], others: &[u8]) -> Result<Vec<u8>, AllocError> {
+    let presets = tree(alloc, presets)?;
+    let others = tree(alloc, others)?;
+    told_among(alloc, &presets, &others)
+}
+
+fn behind_links(alloc: Global, presets: &[u8]) -> Result<Vec<u8>, AllocError> {
+    let mut text = Vec::from_slice(alloc, CHAIN)?;
+    text.push(b'|')?;
+    text.extend_from_slice(presets)?;
+    let policy = policy(alloc, &text)?;
+    let verdict = verdict(alloc, &policy, b"ssh.service")?;
+    told(alloc, policy.rules(), policy.cells(), &verdict)
+}
+
+fn answer(alloc: Global, row: &Row) -> Result<Vec<u8>, AllocError> {
+    let kind = row.kind.as_slice();
+    if kind == b"preset".as_slice() {
+        return preset(alloc, &row.one, &row.two);
+    }
+    if kind == b"read".as_slice() {
+        return read(alloc, &row.one);
+    }
+    if kind == b"in another tree".as_slice() {
+        return in_another_tree(alloc, &row.one, &row.two);
+    }
+    if kind == b"behind links".as_slice() {
+        return behind_links(alloc, &row.one);
+    }
+    if kind == b"debian".as_slice() {
+        return debian(alloc, &row.one);
+    }
+    Vec::from_slice(alloc, b"unknown kind")
+}
 
 #[test]
-fn debian_says(rt: HostRuntime) -> Result<(), Fail> {
-    let file = Row::File(b"/usr/lib/systemd/system-preset/90-systemd.preset", DEBIAN);
-    assert_says(&rt, rt.alloc(), &[file], DEBIAN_ENABLES, ON)?;
-    assert_says(&rt, rt.alloc(), &[file], DEBIAN_DISABLES, Said::Off)
+fn files_are_chosen_by_their_names(rt: HostRuntime) -> Result<(), Fail> {
+    let found = unlike(rt.alloc(), ROWS, answer)?;
+    assert_eq!(rt; found.as_slice(), b"".as_slice());
+    Ok(())
 }

@@ -1,119 +1,91 @@
 //! Lines of preset files.
-use super::verdicts::{ON, Said, asked, assert_says, policy};
-use crate::trees::Row;
+use super::verdicts::{enabled, policy_of_file, verdict, verdict_text};
 use preset_rules::{Instances, Verdict};
+use sample_rows::{Row, unlike};
 use std::alloc::{AllocError, Global};
-use std::process::Abort;
 use std::test::Fail;
-use unit_name::ample;
 
-fn assert_lines(
-    rt: &impl Abort,
-    alloc: Global,
-    lines: &[u8],
-    names: &[u8],
-    said: Said,
-) -> Result<(), Fail> {
-    let file = Row::File(b"/usr/lib/systemd/system-preset/50-a.preset", lines);
-    assert_says(rt, alloc, &[file], names, said)
-}
-
-const AB: Said<'static> = Said::On(&[b"a", b"b"]);
-
-#[test]
-fn instances_are_listed(rt: HostRuntime) -> Result<(), Fail> {
-    let lines = b"enable web@.service a b\ndisable *\n";
-    assert_lines(&rt, rt.alloc(), lines, b"web@.service", AB)?;
-    assert_lines(&rt, rt.alloc(), lines, b"web@b.service", ON)?;
-    let others = b"web@c.service web.service";
-    assert_lines(&rt, rt.alloc(), lines, others, Said::Off)
-}
-
-fn assert_copied(rt: &impl Abort, instances: &Instances) -> Result<(), Fail> {
-    let copy = ample!(instances.copy(), AllocError)?;
-    assert!(rt; !copy.is_empty());
-    assert_eq!(rt; copy.as_slice().len(), 2);
-    Ok(())
-}
-
-fn assert_enables(rt: &impl Abort, verdict: &Verdict) -> Result<(), Fail> {
-    match verdict {
-        Verdict::Enable(instances) => assert_copied(rt, instances),
-        Verdict::Disable => {
-            assert!(rt; false);
-            Ok(())
-        }
-    }
-}
+const ROWS: &[u8] = b"\
+    # preset: what a preset file ONE says of the unit TWO. The first rule that applies to it\n\
+    # counts, and a unit without any is enabled. Rules are read by words.\n\
+    preset\tenable a.service\\ndisable *\ta.service\tenable\n\
+    preset\tenable a.service\\r\\ndisable *\\r\\n\ta.service\tenable\n\
+    preset\t \\t enable \\t a.service \\r\\n\\tdisable\\t*\\t\ta.service\tenable\n\
+    preset\tdisable\\ndisable \\t\\nenable a.service\\n\ta.service\tenable\n\
+    preset\tdisable * # all\\n\ta.service\tenable\n\
+    preset\tenable a.service\\ndisable a.service\\n\ta.service\tenable\n\
+    preset\tdisable a\\xff.service\\nenable a.service\\n\ta.service\tenable\n\
+    preset\t\ta.service\tenable\n\
+    preset\t# enable a.service\\ndisable *\\n\ta.service\tdisable\n\
+    preset\t; enable a.service\\ndisable *\\n\ta.service\tdisable\n\
+    preset\t#enable a.service\\n;\\n\\ndisable *\\n\ta.service\tdisable\n\
+    preset\tEnable a.service\\ndisable *\\n\ta.service\tdisable\n\
+    preset\tenabled a.service\\ndisable *\\n\ta.service\tdisable\n\
+    preset\tallow a.service\\ndisable *\\n\ta.service\tdisable\n\
+    preset\tenable\\ndisable *\\n\ta.service\tdisable\n\
+    preset\tenable a.service x\\ndisable *\\n\ta.service\tdisable\n\
+    preset\tenable \\\\\\na.service\\ndisable *\\n\ta.service\tdisable\n\
+    preset\tdisable a.service\\nenable a.service\\n\ta.service\tdisable\n\
+    preset\t\\xff\\xfe\\ndisable ?.service\\n\ta.service\tdisable\n\
+    preset\tenable\\xff a.service\\ndisable *\\n\ta.service\tdisable\n\
+    preset\tenable\\x00a.service\\ndisable *\\n\ta.service\tdisable\n\
+    preset\tenable \\xffa.service\\ndisable *\\n\ta.service\tdisable\n\
+    preset\t\\xef\\xbb\\xbfenable a.service\\ndisable *\\n\ta.service\tdisable\n\
+    preset\tenable [\\x80-\\xff].service\\ndisable [!\\x80-\\xff].service\\n\ta.service\tdisable\n\
+    # A rule for a template lists its instances, as they are written.\n\
+    preset\tenable web@.service a b\\ndisable *\\n\tweb@.service\tenable a b\n\
+    preset\tenable web@.service a b\\ndisable *\\n\tweb@b.service\tenable\n\
+    preset\tenable web@.service a b\\ndisable *\\n\tweb@c.service\tdisable\n\
+    preset\tenable web@.service a b\\ndisable *\\n\tweb.service\tdisable\n\
+    preset\tenable w@.service a/b a/b \\xff\\ndisable *\\n\tw@.service\tenable a/b a/b \\xff\n\
+    # Rules with instances that enable no template, or that disable, are ignored.\n\
+    preset\tenable w*@.service a\\ndisable ssh.service x\\ndisable web@*\\n\tweb@.service\t\
+        disable\n\
+    preset\tenable w*@.service a\\ndisable ssh.service x\\ndisable web@*\\n\tssh.service\tenable\n\
+    # copy: the same, with a copy of the instances.\n\
+    copy\tenable web@.service a b\\n\tweb@.service\tenable a b\n";
 
 /// What a preset file with these lines says of a unit.
 fn said(alloc: Global, lines: &[u8], unit: &[u8]) -> Result<Verdict, AllocError> {
-    let file = Row::File(b"/usr/lib/systemd/system-preset/50-a.preset", lines);
-    let policy = policy(alloc, &[file])?;
-    asked(alloc, &policy, unit)
+    let at = b"/usr/lib/systemd/system-preset/50-a.preset";
+    let policy = policy_of_file(alloc, at, lines)?;
+    verdict(alloc, &policy, unit)
 }
 
-#[test]
-fn a_copy_has_the_instances(rt: HostRuntime) -> Result<(), Fail> {
-    let verdict = said(rt.alloc(), b"enable web@.service a b\n", b"web@.service")?;
-    assert_enables(&rt, &verdict)
+fn preset(alloc: Global, lines: &[u8], unit: &[u8]) -> Result<Vec<u8>, AllocError> {
+    let verdict = said(alloc, lines, unit)?;
+    verdict_text(alloc, &verdict)
 }
 
-#[test]
-fn other_lines_are_ignored(rt: HostRuntime) -> Result<(), Fail> {
-    let lines = b"enable w*@.service a\ndisable ssh.service x\ndisable web@*\n";
-    assert_lines(&rt, rt.alloc(), lines, b"web@.service", Said::Off)?;
-    assert_lines(&rt, rt.alloc(), lines, b"ssh.service", ON)
-}
-
-/// Lines that enable `a.service`.
-const ENABLED_BY: [&[u8]; 8] = [
-    b"enable a.service\ndisable *",
-    b"enable a.service\r\ndisable *\r\n",
-    b" \t enable \t a.service \r\n\tdisable\t*\t",
-    b"disable\ndisable \t\nenable a.service\n",
-    b"disable * # all\n",
-    b"enable a.service\ndisable a.service\n",
-    b"disable a\xff.service\nenable a.service\n",
-    b"",
-];
-
-/// Lines that disable `a.service`.
-const DISABLED_BY: [&[u8]; 16] = [
-    b"# enable a.service\ndisable *\n",
-    b"; enable a.service\ndisable *\n",
-    b"#enable a.service\n;\n\ndisable *\n",
-    b"Enable a.service\ndisable *\n",
-    b"enabled a.service\ndisable *\n",
-    b"allow a.service\ndisable *\n",
-    b"enable\ndisable *\n",
-    b"enable a.service x\ndisable *\n",
-    b"enable \\\na.service\ndisable *\n",
-    b"disable a.service\nenable a.service\n",
-    b"\xff\xfe\ndisable ?.service\n",
-    b"enable\xff a.service\ndisable *\n",
-    b"enable\0a.service\ndisable *\n",
-    b"enable \xffa.service\ndisable *\n",
-    b"\xef\xbb\xbfenable a.service\ndisable *\n",
-    b"enable [\x80-\xff].service\ndisable [!\x80-\xff].service\n",
-];
-
-fn assert_each(rt: &impl Abort, alloc: Global, table: &[&[u8]], said: Said) -> Result<(), Fail> {
-    for lines in table {
-        assert_lines(rt, alloc, lines, b"a.service", said)?;
+fn copied(alloc: Global, instances: &Instances) -> Result<Vec<u8>, AllocError> {
+    let copy = instances.copy()?;
+    if copy.is_empty() {
+        return Vec::from_slice(alloc, b"none");
     }
-    Ok(())
+    enabled(alloc, &copy)
+}
+
+fn copy(alloc: Global, lines: &[u8], unit: &[u8]) -> Result<Vec<u8>, AllocError> {
+    match said(alloc, lines, unit)? {
+        Verdict::Enable(instances) => copied(alloc, &instances),
+        Verdict::Disable => Vec::from_slice(alloc, b"disable"),
+    }
+}
+
+fn answer(alloc: Global, row: &Row) -> Result<Vec<u8>, AllocError> {
+    let kind = row.kind.as_slice();
+    if kind == b"preset".as_slice() {
+        return preset(alloc, &row.one, &row.two);
+    }
+    if kind == b"copy".as_slice() {
+        return copy(alloc, &row.one, &row.two);
+    }
+    Vec::from_slice(alloc, b"unknown kind")
 }
 
 #[test]
 fn lines_are_read_by_words(rt: HostRuntime) -> Result<(), Fail> {
-    assert_each(&rt, rt.alloc(), &ENABLED_BY, ON)?;
-    assert_each(&rt, rt.alloc(), &DISABLED_BY, Said::Off)
-}
-
-#[test]
-fn bad_instances_are_listed_as_written(rt: HostRuntime) -> Result<(), Fail> {
-    let lines = b"enable w@.service a/b a/b \xff\ndisable *\n";
-    let listed = Said::On(&[b"a/b", b"a/b", b"\xff"]);
-    assert_lines(&rt, rt.alloc(), lines, b"w@.service", listed)
+    let found = unlike(rt.alloc(), ROWS, answer)?;
+    assert_eq!(rt; found.as_slice(), b"".as_slice());
+    Ok(())
 }

@@ -1,98 +1,100 @@
 //! Which texts patterns match.
 use preset_rules::pattern_matches;
-use std::process::Abort;
+use sample_rows::{Row, unlike};
+use std::alloc::{AllocError, Global};
+use std::test::Fail;
 
-const ROWS: [(&[u8], &[u8], bool); 70] = [
-    (b"", b"", true),
-    (b"", b"a", false),
-    (b"a", b"", false),
-    (b"a", b"a", true),
-    (b"a", b"A", false),
-    (b"abc", b"ab", false),
-    (b"ab", b"abc", false),
-    (b"?", b"", false),
-    (b"?", b"\xff", true),
-    (b"?", b"ab", false),
-    (b"*", b"", true),
-    (b"*", b"abc", true),
-    (b"*c", b"abc", true),
-    (b"*b", b"abc", false),
-    (b"a*", b"abc", true),
-    (b"a*", b"a", true),
-    (b"a*c", b"ac", true),
-    (b"a*c", b"abcbc", true),
-    (b"a*c", b"abcb", false),
-    (b"*a*b*", b"xaxb", true),
-    (b"*a*b*", b"xbxa", false),
-    (b"**", b"", true),
-    (b"a**b", b"ab", true),
-    (b"*ab", b"aab", true),
-    (b"*a?c*", b"abdaxcd", true),
-    (b"ssh*.service", b"sshd.service", true),
-    (b"ssh*.service", b"sshd.socket", false),
-    (b"[ab]", b"a", true),
-    (b"[ab]", b"b", true),
-    (b"[ab]", b"c", false),
-    (b"[ab]", b"", false),
-    (b"[!ab]", b"a", false),
-    (b"[!ab]", b"c", true),
-    (b"[!ab]", b"", false),
-    (b"[^a]", b"^", true),
-    (b"[^a]", b"b", false),
-    (b"[a-c]", b"b", true),
-    (b"[a-c]", b"-", false),
-    (b"[a-c]", b"d", false),
-    (b"[c-a]", b"b", false),
-    (b"[c-a]", b"c", false),
-    (b"[a-]", b"-", true),
-    (b"[a-]", b"a", true),
-    (b"[-a]", b"-", true),
-    (b"[--z]", b"a", true),
-    (b"[--z]", b"-", true),
-    (b"[--z]", b"+", false),
-    (b"[a--]", b"a", false),
-    (b"[a--]", b"-", false),
-    (b"[a-b-z]", b"-", true),
-    (b"[a-b-z]", b"c", false),
-    (b"[a-b-z]", b"z", true),
-    (b"[]", b"[]", true),
-    (b"[]", b"]", false),
-    (b"[]a]", b"]", true),
-    (b"[!]", b"[!]", true),
-    (b"[!]a]", b"]", false),
-    (b"[!]a]", b"b", true),
-    (b"[!a-c]*.service", b"dhcp.service", true),
-    (b"[!a-c]*.service", b"bus.service", false),
-    (b"[]x]", b"]", true),
-    (b"[]x]", b"x", true),
-    (b"*[\x80-\xff]", b"a\x80\xff", true),
-    (b"*[\x80-\xff]*", b"abc", false),
-    (b"[*?]", b"a", false),
-    (b"\\*", b"*", false),
-    (b"[a", b"[a", true),
-    (b"[a", b"a", false),
-    (b"x[ab]*[!z]", b"xaqqy", true),
-    (b"x[ab]*[!z]", b"xaqqz", false),
-];
+const ROWS: &[u8] = b"\
+    # matches: whether the pattern ONE matches the whole text TWO\n\
+    matches\t\t\tyes\n\
+    matches\t\ta\tno\n\
+    matches\ta\t\tno\n\
+    matches\ta\ta\tyes\n\
+    matches\ta\tA\tno\n\
+    matches\tabc\tab\tno\n\
+    matches\tab\tabc\tno\n\
+    matches\t?\t\tno\n\
+    matches\t?\t\\xff\tyes\n\
+    matches\t?\tab\tno\n\
+    matches\t*\t\tyes\n\
+    matches\t*\tabc\tyes\n\
+    matches\t*c\tabc\tyes\n\
+    matches\t*b\tabc\tno\n\
+    matches\ta*\tabc\tyes\n\
+    matches\ta*\ta\tyes\n\
+    matches\ta*c\tac\tyes\n\
+    matches\ta*c\tabcbc\tyes\n\
+    matches\ta*c\tabcb\tno\n\
+    matches\t*a*b*\txaxb\tyes\n\
+    matches\t*a*b*\txbxa\tno\n\
+    matches\t**\t\tyes\n\
+    matches\ta**b\tab\tyes\n\
+    matches\t*ab\taab\tyes\n\
+    matches\t*a?c*\tabdaxcd\tyes\n\
+    matches\tssh*.service\tsshd.service\tyes\n\
+    matches\tssh*.service\tsshd.socket\tno\n\
+    matches\t[ab]\ta\tyes\n\
+    matches\t[ab]\tb\tyes\n\
+    matches\t[ab]\tc\tno\n\
+    matches\t[ab]\t\tno\n\
+    matches\t[!ab]\ta\tno\n\
+    matches\t[!ab]\tc\tyes\n\
+    matches\t[!ab]\t\tno\n\
+    matches\t[^a]\t^\tyes\n\
+    matches\t[^a]\tb\tno\n\
+    matches\t[a-c]\tb\tyes\n\
+    matches\t[a-c]\t-\tno\n\
+    matches\t[a-c]\td\tno\n\
+    matches\t[c-a]\tb\tno\n\
+    matches\t[c-a]\tc\tno\n\
+    matches\t[a-]\t-\tyes\n\
+    matches\t[a-]\ta\tyes\n\
+    matches\t[-a]\t-\tyes\n\
+    matches\t[--z]\ta\tyes\n\
+    matches\t[--z]\t-\tyes\n\
+    matches\t[--z]\t+\tno\n\
+    matches\t[a--]\ta\tno\n\
+    matches\t[a--]\t-\tno\n\
+    matches\t[a-b-z]\t-\tyes\n\
+    matches\t[a-b-z]\tc\tno\n\
+    matches\t[a-b-z]\tz\tyes\n\
+    matches\t[]\t[]\tyes\n\
+    matches\t[]\t]\tno\n\
+    matches\t[]a]\t]\tyes\n\
+    matches\t[!]\t[!]\tyes\n\
+    matches\t[!]a]\t]\tno\n\
+    matches\t[!]a]\tb\tyes\n\
+    matches\t[!a-c]*.service\tdhcp.service\tyes\n\
+    matches\t[!a-c]*.service\tbus.service\tno\n\
+    matches\t[]x]\t]\tyes\n\
+    matches\t[]x]\tx\tyes\n\
+    matches\t*[\\x80-\\xff]\ta\\x80\\xff\tyes\n\
+    matches\t*[\\x80-\\xff]*\tabc\tno\n\
+    matches\t[*?]\ta\tno\n\
+    matches\t\\\\*\t*\tno\n\
+    matches\t[a\t[a\tyes\n\
+    matches\t[a\ta\tno\n\
+    matches\tx[ab]*[!z]\txaqqy\tyes\n\
+    matches\tx[ab]*[!z]\txaqqz\tno\n\
+    # Many stars cost little.\n\
+    matches\t*a*a*a*a*a*a*a*b\t\
+        aaaaaaaaaaaaaaaaaaaaaaaaaaaaaaaaaaaaaaaaaaaaaaaaaaaaaaaaaaaaaaaaaaaaaaaaaaaaaaaaaaaaaaaaaaaaaaaaaaaaaaaaaaaaaaaaaaaaaaaaaaaaaaaaaaaaaaaaaaaaaaaaaaaaaaaaaaaaaaaaaaaaaaaaaaaaaaaaaaaaaaaaaaaaaaaaaaaaaaaaaaaaaaaaaaaaaaaaaaaaaaaaaaaaaaaaaaaaaaaaaaaaaaaaaaaaaaa\t\
+        no\n\
+    matches\t*a*a*a*a*a*a*a*\t\
+        aaaaaaaaaaaaaaaaaaaaaaaaaaaaaaaaaaaaaaaaaaaaaaaaaaaaaaaaaaaaaaaaaaaaaaaaaaaaaaaaaaaaaaaaaaaaaaaaaaaaaaaaaaaaaaaaaaaaaaaaaaaaaaaaaaaaaaaaaaaaaaaaaaaaaaaaaaaaaaaaaaaaaaaaaaaaaaaaaaaaaaaaaaaaaaaaaaaaaaaaaaaaaaaaaaaaaaaaaaaaaaaaaaaaaaaaaaaaaaaaaaaaaaaaaaaaaaa\t\
+        yes\n";
 
-fn assert_each(rt: &impl Abort, table: &[(&[u8], &[u8], bool)]) {
-    for (pattern, text, matches) in table {
-        assert_eq!(rt;
-            pattern_matches(pattern, text),
-            *matches,
-            "{pattern:?} {text:?}"
-        );
+fn answer(alloc: Global, row: &Row) -> Result<Vec<u8>, AllocError> {
+    if row.kind.as_slice() != b"matches".as_slice() {
+        return Vec::from_slice(alloc, b"unknown kind");
     }
+    let matches = pattern_matches(&row.one, &row.two);
+    Vec::from_slice(alloc, if matches { b"yes" } else { b"no" })
 }
 
 #[test]
-fn patterns_match_whole_texts(rt: HostRuntime) {
-    assert_each(&rt, &ROWS);
-}
-
-#[test]
-fn stars_cost_little(rt: HostRuntime) {
-    let text = [b'a'; 255];
-    assert!(rt; !pattern_matches(b"*a*a*a*a*a*a*a*b", &text));
-    assert!(rt; pattern_matches(b"*a*a*a*a*a*a*a*", &text));
+fn patterns_match_whole_texts(rt: HostRuntime) -> Result<(), Fail> {
+    let found = unlike(rt.alloc(), ROWS, answer)?;
+    assert_eq!(rt; found.as_slice(), b"".as_slice());
+    Ok(())
 }

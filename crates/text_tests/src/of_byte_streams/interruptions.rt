@@ -1,18 +1,36 @@
 //! Readers and writers that are interrupted, by std's own kind of error.
 ghost use Rattle.std.specs.Prelude.{None};
 
+use crate::texts::{assert_rows, is, number_of};
 use byte_streams::{
-    BufferedWriter, FromRead, Line, ReadError, ReadFault, ToWrite, WriteFault, read_bytes,
-    read_line, skip_prefix,
+    BufferedWriter, FromRead, Line, ReadError, ToWrite, WriteFault, read_bytes, read_line,
+    skip_prefix,
 };
+use sample_rows::Row;
 use std::alloc::{AllocError, Global};
 use std::io;
 use std::io::{BufRead, Error, ErrorKind, Read, Write};
-use std::process::Abort;
 use std::test::Fail;
-use unit_name::ample;
 
-/// Gives a byte at a time, and fails so often with an error of some kind when so many bytes are given.
+/// What is read or written if so many errors of a kind come behind 0, 1, 2, 3 bytes.
+const ROWS: &[u8] = b"\
+    # 999 interruptions in a row are passed over behind any byte, the 1,000th is a fault, and any\n\
+    # other error is one at once.\n\
+    line\t999\tInterrupted\tabc, abc, abc, abc\n\
+    line\t1000\tInterrupted\tfault behind 0, fault behind 1, fault behind 2, fault behind 3\n\
+    line\t1\tOther\tfault behind 0, fault behind 1, fault behind 2, fault behind 3\n\
+    bytes\t999\tInterrupted\tabc, abc, abc\n\
+    bytes\t1000\tInterrupted\tfault behind 0, fault behind 1, fault behind 2\n\
+    bytes\t1\tOther\tfault behind 0, fault behind 1, fault behind 2\n\
+    prefix\t999\tInterrupted\tabc, abc, abc\n\
+    prefix\t1000\tInterrupted\tfault behind 0, fault behind 1, fault behind 2\n\
+    prefix\t1\tOther\tfault behind 0, fault behind 1, fault behind 2\n\
+    write\t999\tInterrupted\tabc, abc, abc, abc\n\
+    write\t1000\tInterrupted\tfault behind 0, fault behind 1, fault behind 2, fault behind 3\n\
+    write\t1\tOther\tfault behind 0, fault behind 1, fault behind 2, fault behind 3\n";
+
+/// Gives a byte at a time, and fails so often with an error of some kind when so many bytes are
+/// given.
 #[derive(Drop)]
 struct Halting<'a> {
     left: &'a [u8],
@@ -69,92 +87,74 @@ impl<'a> BufRead for Halting<'a> {
     }
 }
 
-/// What is read.
-#[derive(Clone, Copy, Debug)]
-enum Reading {
-    Line,
-    Bytes,
-    Prefix,
-}
-
 const INPUT: &[u8] = b"abc\nrest";
 
-/// Reads the first line of `INPUT`, its three bytes or the prefix that they are, and answers how many bytes it has.
-fn read(alloc: Global, reading: Reading, reader: &mut Halting<'_>) -> Result<usize, ReadError<u8>> {
-    let mut source = FromRead::new(reader);
-    match reading {
-        Reading::Line => match read_line(alloc, &mut source, 3, 0)? {
-            Line::Whole(text) | Line::Last(text) => Ok(text.len()),
-        },
-        Reading::Bytes => Ok(read_bytes(alloc, &mut source, 3)?.map_or(0, |bytes| bytes.len())),
-        Reading::Prefix => Ok(if skip_prefix(b"abc", &mut source)? {
-            3
-        } else {
-            0
-        }),
-    }
-}
-
-/// Asserts what is read when the reader fails so often behind `until` bytes: three bytes, or nothing, and then no byte more is taken.
-fn assert_read(
-    rt: &impl Abort,
+/// Reads the first line of `INPUT`, its three bytes, or the prefix that they are.
+fn read(
     alloc: Global,
-    reading: Reading,
-    (until, times, kind): (usize, u32, ErrorKind),
-    expected: Result<usize, ReadError<u8>>,
-) {
-    let mut taken = 0;
-    let done = ample!(
-        {
-            let mut reader = Halting {
-                left: INPUT,
-                until,
-                times,
-                kind,
-            };
-            let done = read(alloc, reading, &mut reader);
-            taken = INPUT.len().saturating_sub(reader.left.len());
-            done
-        },
-        ReadError::OutOfMemory
-    );
-    assert_eq!(rt; done, expected, "{reading:?} after {until} bytes");
-    if expected.is_err() {
-        assert_eq!(rt; taken, until);
+    reading: &[u8],
+    reader: &mut Halting<'_>,
+) -> Result<Option<Vec<u8>>, ReadError<u8>> {
+    let mut source = FromRead::new(reader);
+    if reading == b"line".as_slice() {
+        return match read_line(alloc, &mut source, 3, 0)? {
+            Line::Whole(text) | Line::Last(text) => Ok(Some(text)),
+        };
     }
+    if reading == b"bytes".as_slice() {
+        return read_bytes(alloc, &mut source, 3);
+    }
+    if skip_prefix(b"abc", &mut source)? {
+        return Ok(Some(Vec::from_slice(alloc, b"abc")?));
+    }
+    Ok(None)
 }
 
-/// 999 interruptions in a row are passed over behind any byte, the 1,000th is a fault, and any other error at once.
-#[test]
-fn readers_may_be_interrupted_anywhere(rt: HostRuntime) {
-    for (reading, len) in [
-        (Reading::Line, 4),
-        (Reading::Bytes, 3),
-        (Reading::Prefix, 3),
-    ] {
-        for until in 0..len {
-            let alloc = rt.alloc();
-            assert_read(
-                &rt,
-                alloc,
-                reading,
-                (until, 999, ErrorKind::Interrupted),
-                Ok(3),
-            );
-            let fault = Err(ReadError::ReadFault);
-            assert_read(
-                &rt,
-                alloc,
-                reading,
-                (until, 1000, ErrorKind::Interrupted),
-                fault,
-            );
-            assert_read(&rt, alloc, reading, (until, 1, ErrorKind::Other), fault);
+/// What is read, or how many bytes are taken before a fault.
+fn push_read(
+    alloc: Global,
+    reading: &[u8],
+    reader: &mut Halting<'_>,
+    out: &mut Vec<u8>,
+) -> Result<(), AllocError> {
+    match read(alloc, reading, reader) {
+        Ok(Some(text)) => out.extend_from_slice(&text),
+        Ok(None) => out.extend_from_slice(b"nothing"),
+        Err(ReadError::Fault(_)) => out.extend_from_slice(b"too long"),
+        Err(ReadError::ReadFault) => {
+            let taken = INPUT.len().saturating_sub(reader.left.len());
+            out.extend_from_slice(format!(in alloc; "fault behind {taken}")?.as_bytes())
         }
+        Err(ReadError::OutOfMemory) => Err(AllocError),
     }
 }
 
-/// Takes a byte at a time, and fails so often with an error of some kind when so many bytes are taken; flushing counts as one more.
+/// What is read if a reader fails so often behind none of the bytes, behind one, and so on.
+fn read_anywhere(
+    alloc: Global,
+    reading: &[u8],
+    times: u32,
+    kind: ErrorKind,
+) -> Result<Vec<u8>, AllocError> {
+    let mut out = Vec::new(alloc);
+    let places = if reading == b"line".as_slice() { 4 } else { 3 };
+    for until in 0..places {
+        if until > 0 {
+            out.extend_from_slice(b", ")?;
+        }
+        let mut reader = Halting {
+            left: INPUT,
+            until,
+            times,
+            kind,
+        };
+        push_read(alloc, reading, &mut reader, &mut out)?;
+    }
+    Ok(out)
+}
+
+/// Takes a byte at a time, and fails so often with an error of some kind when so many bytes are
+/// taken. Flushing counts as one more.
 #[derive(Drop)]
 struct Narrow {
     until: usize,
@@ -200,48 +200,51 @@ fn write(alloc: Global, out: &mut Narrow) -> Result<Result<(), WriteFault>, Allo
     Ok(writer.finish(&mut sink))
 }
 
-#[test]
-fn writers_may_be_interrupted_anywhere(rt: HostRuntime) -> Result<(), Fail> {
-    for until in 0..4 {
-        for (times, kind, expected) in [
-            (999, ErrorKind::Interrupted, Ok(())),
-            (1000, ErrorKind::Interrupted, Err(WriteFault(until))),
-            (1, ErrorKind::Other, Err(WriteFault(until))),
-        ] {
-            let done = ample!(
-                write(rt.alloc(), &mut Narrow { until, times, kind }),
-                AllocError
-            )?;
-            assert_eq!(rt; done, expected, "after {until} bytes");
+/// What is written, or how many bytes are written before a fault.
+fn push_written(alloc: Global, narrow: &mut Narrow, out: &mut Vec<u8>) -> Result<(), AllocError> {
+    match write(alloc, narrow)? {
+        Ok(()) => out.extend_from_slice(b"abc"),
+        Err(WriteFault(bytes)) => {
+            out.extend_from_slice(format!(in alloc; "fault behind {bytes}")?.as_bytes())
         }
     }
-    Ok(())
 }
 
-/// Reads a line that is too long, of at most `limit` bytes, and answers how many bytes are left.
-fn left_of_line(alloc: Global, input: &[u8], limit: usize) -> Result<usize, ReadError<u8>> {
-    let mut left = input;
-    match read_line(alloc, &mut FromRead::new(&mut left), limit, 7) {
-        Err(ReadError::Fault(7)) => Ok(left.len()),
-        Err(e) => Err(e),
-        Ok(_) => Ok(0),
+/// What is written if a writer fails so often behind none of the bytes, behind one, and so on.
+fn write_anywhere(alloc: Global, times: u32, kind: ErrorKind) -> Result<Vec<u8>, AllocError> {
+    let mut out = Vec::new(alloc);
+    for until in 0..4 {
+        if until > 0 {
+            out.extend_from_slice(b", ")?;
+        }
+        push_written(alloc, &mut Narrow { until, times, kind }, &mut out)?;
+    }
+    Ok(out)
+}
+
+fn times_of(word: &[u8]) -> u32 {
+    u32::try_from(number_of(word)).unwrap_or(0)
+}
+
+fn kind_named(word: &[u8]) -> ErrorKind {
+    if word == b"Interrupted".as_slice() {
+        ErrorKind::Interrupted
+    } else {
+        ErrorKind::Other
+    }
+}
+
+fn answer(alloc: Global, row: &Row) -> Result<Vec<u8>, AllocError> {
+    let times = times_of(&row.one);
+    let kind = kind_named(&row.two);
+    if is(row, b"write") {
+        write_anywhere(alloc, times, kind)
+    } else {
+        read_anywhere(alloc, &row.kind, times, kind)
     }
 }
 
 #[test]
-fn no_byte_is_taken_behind_the_one_that_decides(rt: HostRuntime) {
-    let input = [b'x'; 400];
-    for limit in [0, 3, 127, 128, 129, 255, 300] {
-        let left = ample!(
-            left_of_line(rt.alloc(), &input, limit),
-            ReadError::OutOfMemory
-        );
-        assert_eq!(rt; left, Ok(399usize.saturating_sub(limit)));
-    }
-    let mut left = b"abx.".as_slice();
-    assert_eq!(rt;
-        skip_prefix(b"abc", &mut FromRead::new(&mut left)),
-        Ok(false)
-    );
-    assert_eq!(rt; left, b".".as_slice());
+fn readers_and_writers_may_be_interrupted_anywhere(rt: HostRuntime) -> Result<(), Fail> {
+    assert_rows(&rt, rt.alloc(), ROWS, answer)
 }

@@ -1,13 +1,57 @@
 ghost use Rattle.std.specs.Prelude.{None};
 ghost use Rattle.byte_streams.specs.declared.counters.Counters.{Counters};
 
+use crate::texts::{assert_rows, is, number_of, yes_or_no};
 use byte_streams::{
     Counters, FromRead, Line, ReadError, Source, Stop, read_bytes, read_line, skip_prefix,
 };
-use std::alloc::Global;
-use std::process::Abort;
+use sample_rows::Row;
+use std::alloc::{AllocError, Global};
 use std::test::Fail;
-use unit_name::ample;
+
+const ROWS: &[u8] = b"\
+    # Lines are read in pieces of 128 bytes: one may end with a piece, or have more than one.\n\
+    # A line of so many bytes, read as one of at most so many: with a LF, and as the last.\n\
+    line\t0\t127\twhole, last\n\
+    line\t0\t128\twhole, last\n\
+    line\t0\t129\twhole, last\n\
+    line\t0\t300\twhole, last\n\
+    line\t127\t127\twhole, last\n\
+    line\t127\t128\twhole, last\n\
+    line\t127\t129\twhole, last\n\
+    line\t127\t300\twhole, last\n\
+    line\t128\t127\ttoo long, too long\n\
+    line\t128\t128\twhole, last\n\
+    line\t128\t129\twhole, last\n\
+    line\t128\t300\twhole, last\n\
+    line\t129\t127\ttoo long, too long\n\
+    line\t129\t128\ttoo long, too long\n\
+    line\t129\t129\twhole, last\n\
+    line\t129\t300\twhole, last\n\
+    line\t300\t127\ttoo long, too long\n\
+    line\t300\t128\ttoo long, too long\n\
+    line\t300\t129\ttoo long, too long\n\
+    line\t300\t300\twhole, last\n\
+    \n\
+    # Lines follow one another: so many, of so many bytes.\n\
+    lines\t12\t3000\tyes\n\
+    \n\
+    # No byte is taken behind the one that decides: of 400 bytes, in a line of at most so many.\n\
+    line of 400\t0\t\ttoo long, 399 left\n\
+    line of 400\t3\t\ttoo long, 396 left\n\
+    line of 400\t127\t\ttoo long, 272 left\n\
+    line of 400\t128\t\ttoo long, 271 left\n\
+    line of 400\t129\t\ttoo long, 270 left\n\
+    line of 400\t255\t\ttoo long, 144 left\n\
+    line of 400\t300\t\ttoo long, 99 left\n\
+    prefix\tabx.\tabc\tno, then .\n\
+    prefix\tac\tab\tno, then nothing\n\
+    \n\
+    # A prefix, three bytes and a line, from a reader that is lent: what follows stays in it.\n\
+    front\tabxyz12\\nrest\tab\ttrue, 3 and 2 bytes, then rest\n\
+    \n\
+    # Bytes end with the input.\n\
+    three bytes\tab\t\tnone\n";
 
 /// Gives bytes one at a time alone.
 #[derive(Drop)]
@@ -31,102 +75,126 @@ impl<'a> Source for OneByOne<'a> {
     }
 }
 
-/// What a line that is too long is told as.
+/// What a line that is too long is reported as.
 const TOO_LONG: u8 = 7;
 
-/// A line in few words: whether its end came, and its text.
-fn seen(read: &Result<Line, ReadError<u8>>) -> Result<(bool, &[u8]), ReadError<u8>> {
+/// What was read instead of a line that should have this text.
+fn line_in_words(read: &Result<Line, ReadError<u8>>, text: &[u8]) -> &'static [u8] {
     match read {
-        Ok(Line::Whole(text)) => Ok((true, text.as_slice())),
-        Ok(Line::Last(text)) => Ok((false, text.as_slice())),
-        Err(e) => Err(*e),
+        Ok(Line::Whole(found)) if found.as_slice() == text => b"whole",
+        Ok(Line::Last(found)) if found.as_slice() == text => b"last",
+        Ok(_) => b"another text",
+        Err(ReadError::Fault(TOO_LONG)) => b"too long",
+        Err(_) => b"another fault",
     }
 }
 
-/// Asserts what the first line of `input` is, read in pieces and byte by byte: `text`, unless that is too long.
-fn assert_line(
-    rt: &impl Abort,
+/// What a line is that should have this text.
+fn line_from<S: Source>(
+    alloc: Global,
+    source: &mut S,
+    limit: usize,
+    text: &[u8],
+) -> Result<&'static [u8], AllocError> {
+    let read = read_line(alloc, source, limit, TOO_LONG);
+    if matches!(read, Err(ReadError::OutOfMemory)) {
+        return Err(AllocError);
+    }
+    Ok(line_in_words(&read, text))
+}
+
+/// What the first line of an input is, read in pieces and byte by byte.
+fn line_in(
     alloc: Global,
     input: &[u8],
     limit: usize,
     text: &[u8],
-    ended: bool,
-) {
-    let line = if text.len() <= limit {
-        Ok((ended, text))
-    } else {
-        Err(ReadError::Fault(TOO_LONG))
-    };
-    let in_pieces = ample!(
-        read_line(alloc, &mut FromRead::new(input), limit, TOO_LONG),
-        ReadError::OutOfMemory
-    );
-    assert_eq!(rt; seen(&in_pieces), line);
-    let byte_by_byte = ample!(
-        read_line(alloc, &mut OneByOne { left: input }, limit, TOO_LONG),
-        ReadError::OutOfMemory
-    );
-    assert_eq!(rt; seen(&byte_by_byte), line);
-}
-
-/// Lines are read in pieces of 128 bytes: one may end with a piece, or have more than one.
-#[test]
-fn lines_have_several_pieces(rt: HostRuntime) {
-    for len in [0, 127, 128, 129, 300] {
-        let mut input = [b'x'; 304];
-        if let Some(end) = input.get_mut(len) {
-            *end = b'\n';
-        }
-        let text = input.get(..len).unwrap_or(&[]);
-        for limit in [127, 128, 129, 300] {
-            assert_line(&rt, rt.alloc(), &input, limit, text, true);
-            assert_line(&rt, rt.alloc(), text, limit, text, false);
-        }
+) -> Result<&'static [u8], AllocError> {
+    let in_pieces = line_from(alloc, &mut FromRead::new(input), limit, text)?;
+    if line_from(alloc, &mut OneByOne { left: input }, limit, text)? != in_pieces {
+        return Ok(b"otherwise byte by byte");
     }
+    Ok(in_pieces)
 }
 
-/// Asserts that the source has twelve lines of 3,000 bytes left, and no more.
-fn assert_lines<S: Source>(
-    rt: &impl Abort,
+/// What a line of so many bytes is, with a LF and more behind it, and as the last.
+fn line_of(alloc: Global, len: usize, limit: usize) -> Result<Vec<u8>, AllocError> {
+    let mut input = Vec::from_elem(alloc, b'x', 304)?;
+    if let Some(end) = input.get_mut(len) {
+        *end = b'\n';
+    }
+    let text = input.get(..len).unwrap_or(b"");
+    let whole = line_in(alloc, &input, limit, text)?;
+    let last = line_in(alloc, text, limit, text)?;
+    [whole, b", ", last].concat(alloc)
+}
+
+/// Whether a source has so many lines of this text, and no byte more.
+fn has_lines<S: Source>(
     alloc: Global,
     source: &mut S,
-) -> Result<(), ReadError<u8>> {
-    let text = [b'x'; 3000];
-    for _number in 0..12 {
-        let line = Ok(read_line(alloc, source, 3000, TOO_LONG)?);
-        assert_eq!(rt; seen(&line), Ok((true, text.as_slice())));
-    }
-    let last = Ok(read_line(alloc, source, 3000, TOO_LONG)?);
-    assert_eq!(rt; seen(&last), Ok((false, b"".as_slice())));
-    Ok(())
-}
-
-#[test]
-fn lines_follow_one_another(rt: HostRuntime) -> Result<(), Fail> {
-    let mut input = [b'x'; 36012];
-    for line in input.chunks_mut(3001) {
-        if let Some(end) = line.get_mut(3000) {
-            *end = b'\n';
+    count: usize,
+    text: &[u8],
+) -> Result<bool, AllocError> {
+    for _line in 0..count {
+        if line_from(alloc, source, text.len(), text)? != b"whole".as_slice() {
+            return Ok(false);
         }
     }
-    let input = input.as_slice();
-    let lines = ample!(
-        assert_lines(&rt, rt.alloc(), &mut FromRead::new(input)),
-        ReadError::OutOfMemory
-    );
-    assert_eq!(rt; lines, Ok(()));
-    let lines = ample!(
-        assert_lines(&rt, rt.alloc(), &mut OneByOne { left: input }),
-        ReadError::OutOfMemory
-    );
-    assert_eq!(rt; lines, Ok(()));
-    Ok(())
+    Ok(line_from(alloc, source, text.len(), b"")? == b"last".as_slice())
 }
 
-/// A prefix, a file's bytes and a line, read from a reader that is lent: what follows stays in it.
-fn read_front(alloc: Global, reader: &mut &[u8]) -> Result<(bool, usize, usize), ReadError<u8>> {
+/// Whether an input has so many lines of this text, read in pieces and byte by byte.
+fn are_lines(alloc: Global, input: &[u8], count: usize, text: &[u8]) -> Result<bool, AllocError> {
+    Ok(
+        has_lines(alloc, &mut FromRead::new(input), count, text)?
+            && has_lines(alloc, &mut OneByOne { left: input }, count, text)?,
+    )
+}
+
+/// Whether so many lines of so many bytes follow one another.
+fn follow_one_another(alloc: Global, count: usize, len: usize) -> Result<Vec<u8>, AllocError> {
+    let mut line = Vec::from_elem(alloc, b'x', len)?;
+    line.push(b'\n')?;
+    let input = line.repeat(alloc, count)?;
+    let text = line.get(..len).unwrap_or(b"");
+    yes_or_no(alloc, are_lines(alloc, &input, count, text)?)
+}
+
+/// Reads a line that is too long: how many of the bytes are left.
+fn line_of_400(alloc: Global, limit: usize) -> Result<Vec<u8>, AllocError> {
+    let input = Vec::from_elem(alloc, b'x', 400)?;
+    let mut left = input.as_slice();
+    match read_line(alloc, &mut FromRead::new(&mut left), limit, TOO_LONG) {
+        Err(ReadError::Fault(TOO_LONG)) => {
+            let count = left.len();
+            Ok(format!(in alloc; "too long, {count} left")?.into_bytes())
+        }
+        Err(ReadError::OutOfMemory) => Err(AllocError),
+        _ => Vec::from_slice(alloc, b"another line"),
+    }
+}
+
+/// Whether an input begins with a prefix, and what is left of it then.
+fn prefix_of(alloc: Global, input: &[u8], prefix: &[u8]) -> Result<Vec<u8>, AllocError> {
+    let mut left = input;
+    let found: &[u8] = match skip_prefix(prefix, &mut FromRead::new(&mut left)) {
+        Ok(true) => b"yes",
+        Ok(false) => b"no",
+        Err(_) => b"a fault",
+    };
+    let rest = if left.is_empty() { b"nothing" } else { left };
+    [found, b", then ", rest].concat(alloc)
+}
+
+/// Whether there is a prefix, and how many bytes there are in three bytes and in a line behind it.
+fn read_front(
+    alloc: Global,
+    reader: &mut &[u8],
+    prefix: &[u8],
+) -> Result<(bool, usize, usize), ReadError<u8>> {
     let mut source = FromRead::new(reader);
-    let found = skip_prefix(b"ab", &mut source)?;
+    let found = skip_prefix(prefix, &mut source)?;
     let bytes: Option<Vec<u8>> = read_bytes::<_, u8>(alloc, &mut source, 3)?;
     let line = match read_line(alloc, &mut source, 9, TOO_LONG)? {
         Line::Whole(text) | Line::Last(text) => text.len(),
@@ -134,27 +202,48 @@ fn read_front(alloc: Global, reader: &mut &[u8]) -> Result<(bool, usize, usize),
     Ok((found, bytes.map_or(0, |bytes| bytes.len()), line))
 }
 
-#[test]
-fn what_is_not_read_stays_in_the_reader(rt: HostRuntime) {
-    let mut input = b"".as_slice();
-    let read = ample!(
-        {
-            input = b"abxyz12\nrest";
-            read_front(rt.alloc(), &mut input)
-        },
-        ReadError::OutOfMemory
-    );
-    assert_eq!(rt; read, Ok((true, 3, 2)));
-    assert_eq!(rt; input, b"rest".as_slice());
+/// What is read from a reader that is lent, and what is left in it.
+fn front_of(alloc: Global, input: &[u8], prefix: &[u8]) -> Result<Vec<u8>, AllocError> {
+    let mut left = input;
+    let (found, bytes, line) = match read_front(alloc, &mut left, prefix) {
+        Ok(front) => front,
+        Err(ReadError::OutOfMemory) => return Err(AllocError),
+        Err(_) => return Vec::from_slice(alloc, b"a fault"),
+    };
+    let mut out = format!(in alloc; "{found}, {bytes} and {line} bytes, then ")?.into_bytes();
+    out.extend_from_slice(left)?;
+    Ok(out)
+}
+
+fn three_bytes(alloc: Global, input: &[u8]) -> Result<Vec<u8>, AllocError> {
+    match read_bytes::<_, u8>(alloc, &mut FromRead::new(input), 3) {
+        Ok(Some(bytes)) => Ok(bytes),
+        Ok(None) => Vec::from_slice(alloc, b"none"),
+        Err(ReadError::OutOfMemory) => Err(AllocError),
+        Err(_) => Vec::from_slice(alloc, b"a fault"),
+    }
+}
+
+fn answer(alloc: Global, row: &Row) -> Result<Vec<u8>, AllocError> {
+    let number = number_of(&row.one);
+    if is(row, b"line") {
+        line_of(alloc, number, number_of(&row.two))
+    } else if is(row, b"lines") {
+        follow_one_another(alloc, number, number_of(&row.two))
+    } else if is(row, b"line of 400") {
+        line_of_400(alloc, number)
+    } else if is(row, b"prefix") {
+        prefix_of(alloc, &row.one, &row.two)
+    } else if is(row, b"front") {
+        front_of(alloc, &row.one, &row.two)
+    } else if is(row, b"three bytes") {
+        three_bytes(alloc, &row.one)
+    } else {
+        Vec::from_slice(alloc, b"unknown kind")
+    }
 }
 
 #[test]
-fn bytes_end_with_the_input(rt: HostRuntime) {
-    let short = ample!(
-        read_bytes::<_, u8>(rt.alloc(), &mut FromRead::new(b"ab".as_slice()), 3),
-        ReadError::OutOfMemory
-    );
-    assert!(rt; matches!(short, Ok(None)));
-    let other = skip_prefix(b"ab", &mut FromRead::new(b"ac".as_slice()));
-    assert_eq!(rt; other, Ok(false));
+fn lines_and_bytes_are_read_as_far_as_they_go(rt: HostRuntime) -> Result<(), Fail> {
+    assert_rows(&rt, rt.alloc(), ROWS, answer)
 }

@@ -1,15 +1,26 @@
 ghost use Rattle.std.specs.Prelude.{None};
 
+use crate::texts::{assert_rows, is, numbers_of};
 use byte_streams::{BufferedWriter, ToWrite, WriteFault};
+use sample_rows::Row;
 use std::alloc::{AllocError, Global};
 use std::io;
 use std::io::Write;
 use std::test::Fail;
-use unit_name::ample;
 
-/// Writes pieces of so many bytes, and answers why the writing stopped, if it did. The room for all that goes out is taken
-/// first, since a `Vec` that can't grow is a write fault.
-fn written(
+const ROWS: &[u8] = b"\
+    # Lines of so many bytes: they fit the buffer of 65,536 bytes, fill it, or are larger.\n\
+    write\t1 2 3\t\tall whole\n\
+    write\t65535 1 0\t\tall whole\n\
+    write\t1 65535 65536\t\tall whole\n\
+    write\t70000 5 70000\t\tall whole\n\
+    \n\
+    # A writer is flushed once.\n\
+    flush\t\t\t1\n";
+
+/// Writes lines of so many bytes, and answers why the writing stopped, if it did. The room for all
+/// that goes out is taken first, since a `Vec` that can't grow is a write fault.
+fn write_lines(
     alloc: Global,
     sizes: &[usize],
     room: &mut Vec<u8>,
@@ -27,32 +38,26 @@ fn written(
     Ok(writer.finish(&mut sink))
 }
 
-/// Pieces that fit the buffer of 65,536 bytes, fill it, and are larger.
-#[test]
-fn pieces_of_any_size_go_out_whole(rt: HostRuntime) -> Result<(), Fail> {
-    for sizes in [
-        [1, 2, 3],
-        [65535, 1, 0],
-        [1, 65535, 65536],
-        [70000, 5, 70000],
-    ] {
-        let mut out = Vec::new(rt.alloc());
-        let done = ample!(
-            {
-                out.clear();
-                written(rt.alloc(), &sizes, &mut out)
-            },
-            AllocError
-        )?;
-        assert_eq!(rt; done, Ok(()));
-        let mut rest = out.as_slice();
-        for size in sizes {
-            assert_eq!(rt; rest.get(size).copied(), Some(b'\n'));
-            rest = rest.get(size + 1..).unwrap_or(&[]);
+/// Whether a text has lines of so many bytes, and no byte more.
+fn has_lines(text: &[u8], sizes: &[usize]) -> bool {
+    let mut rest = text;
+    for size in sizes {
+        match rest.split_at_checked(*size) {
+            Some((_line, [b'\n', behind @ ..])) => rest = behind,
+            _ => return false,
         }
-        assert!(rt; rest.is_empty());
     }
-    Ok(())
+    rest.is_empty()
+}
+
+fn written(alloc: Global, sizes: &[usize]) -> Result<Vec<u8>, AllocError> {
+    let mut out = Vec::new(alloc);
+    let told: &[u8] = match write_lines(alloc, sizes, &mut out)? {
+        Ok(()) if has_lines(&out, sizes) => b"all whole",
+        Ok(()) => b"other lines",
+        Err(WriteFault(_)) => b"a fault",
+    };
+    Vec::from_slice(alloc, told)
 }
 
 /// Takes all bytes, and counts how often it is flushed.
@@ -74,12 +79,30 @@ impl Write for Flushed {
     }
 }
 
-#[test]
-fn a_writer_is_flushed_once(rt: HostRuntime) -> Result<(), Fail> {
-    let writer = ample!(BufferedWriter::new(rt.alloc()), AllocError)?;
+/// How often a writer is flushed that is finished.
+fn count_flushed(alloc: Global) -> Result<Vec<u8>, AllocError> {
+    let writer = BufferedWriter::new(alloc)?;
     let mut flushed = Flushed { times: 0 };
-    let done = writer.finish(&mut ToWrite::new(&mut flushed));
-    assert_eq!(rt; done, Ok(()));
-    assert_eq!(rt; flushed.times, 1);
-    Ok(())
+    match writer.finish(&mut ToWrite::new(&mut flushed)) {
+        Ok(()) => {
+            let times = flushed.times;
+            Ok(format!(in alloc; "{times}")?.into_bytes())
+        }
+        Err(WriteFault(_)) => Vec::from_slice(alloc, b"a fault"),
+    }
+}
+
+fn answer(alloc: Global, row: &Row) -> Result<Vec<u8>, AllocError> {
+    if is(row, b"write") {
+        written(alloc, &numbers_of(alloc, &row.one)?)
+    } else if is(row, b"flush") {
+        count_flushed(alloc)
+    } else {
+        Vec::from_slice(alloc, b"unknown kind")
+    }
+}
+
+#[test]
+fn pieces_of_any_size_go_out_whole(rt: HostRuntime) -> Result<(), Fail> {
+    assert_rows(&rt, rt.alloc(), ROWS, answer)
 }

@@ -1,35 +1,81 @@
 //! Unit files in the style of real packages.
-use super::Row;
+use super::{lines_of, read};
+use crate::texts::assert_rows;
+use sample_rows::Row;
+use std::alloc::{AllocError, Global};
+use std::test::Fail;
+use unit_file::InstallText;
 
-pub const FILES: [Row<'static>; 12] = [
-    (
-        SERVICE,
-        b"WantedBy=multi-user.target\nAlias=sshd.service\nAlso=ssh.socket\n",
-    ),
-    (SOCKET, b"WantedBy=sockets.target\nRequiredBy=ssh.service\n"),
-    (GETTY, b"WantedBy=getty.target\nDefaultInstance=tty1\n"),
-    (
-        TARGET,
-        b"WantedBy=multi-user.target graphical.target rescue.target\nRequiredBy=basic.target\n",
-    ),
-    (
-        CONTINUED,
-        b"WantedBy=multi-user.target graphical.target\nAlso=b.socket\n",
-    ),
-    (WINDOWS, b"WantedBy=a.target b.target\nAlias=c.service\n"),
-    (TIMER, b"WantedBy=timers.target\nAlso=backup.service\n"),
-    (MOUNT, b"RequiredBy=local-fs.target\n"),
-    (
-        TEMPLATE,
-        b"WantedBy=multi-user.target\nRequiredBy=container@%i.service\nAlias=web-%i.service\nAlso=web-helper@%i.service\n",
-    ),
-    (STATIC, b""),
-    (
-        SECTIONS,
-        b"WantedBy=c.target\nRequiredBy=a.service\nAlso=x.service y.service\n",
-    ),
-    (SLICE, b"Also=machine.slice\nDefaultInstance=not/valid\n"),
+/// A file, and its [Install] section.
+const ROWS: &[u8] = b"\
+    file\tssh.service\t\t\
+        WantedBy=multi-user.target\\nAlias=sshd.service\\nAlso=ssh.socket\\n\n\
+    file\tssh.socket\t\t\
+        WantedBy=sockets.target\\nRequiredBy=ssh.service\\n\n\
+    file\tgetty@.service\t\t\
+        WantedBy=getty.target\\nDefaultInstance=tty1\\n\n\
+    file\tisolated.target\t\t\
+        WantedBy=multi-user.target graphical.target rescue.target\\nRequiredBy=basic.target\\n\n\
+    file\tcontinued.service\t\t\
+        WantedBy=multi-user.target graphical.target\\nAlso=b.socket\\n\n\
+    file\twindows.service\t\t\
+        WantedBy=a.target b.target\\nAlias=c.service\\n\n\
+    file\tbackup.timer\t\t\
+        WantedBy=timers.target\\nAlso=backup.service\\n\n\
+    file\thome.mount\t\t\
+        RequiredBy=local-fs.target\\n\n\
+    file\tweb@.service\t\t\
+        WantedBy=multi-user.target\\nRequiredBy=container@%i.service\\n\
+        Alias=web-%i.service\\nAlso=web-helper@%i.service\\n\n\
+    file\tstatic.service\t\t\n\
+    file\tsections.service\t\t\
+        WantedBy=c.target\\nRequiredBy=a.service\\nAlso=x.service y.service\\n\n\
+    file\tmachine@.slice\t\t\
+        Also=machine.slice\\nDefaultInstance=not/valid\\n\n";
+
+const FILES: [(&[u8], &[u8]); 12] = [
+    (b"ssh.service", SERVICE),
+    (b"ssh.socket", SOCKET),
+    (b"getty@.service", GETTY),
+    (b"isolated.target", TARGET),
+    (b"continued.service", CONTINUED),
+    (b"windows.service", WINDOWS),
+    (b"backup.timer", TIMER),
+    (b"home.mount", MOUNT),
+    (b"web@.service", TEMPLATE),
+    (b"static.service", STATIC),
+    (b"sections.service", SECTIONS),
+    (b"machine@.slice", SLICE),
 ];
+
+fn file_named<'a>(files: &[(&[u8], &'a [u8])], name: &[u8]) -> &'a [u8] {
+    for (other, bytes) in files {
+        if *other == name {
+            return bytes;
+        }
+    }
+    b"[Install]\nWantedBy=unknown-name.target\n"
+}
+
+fn lines_of_copy(alloc: Global, text: &InstallText) -> Result<Vec<u8>, AllocError> {
+    let copy = Box::new(alloc, text.copy()?)?;
+    lines_of(alloc, &copy)
+}
+
+/// The section of a file, which its copy has too.
+fn answer(alloc: Global, row: &Row) -> Result<Vec<u8>, AllocError> {
+    let text = read(alloc, file_named(&FILES, &row.one))?;
+    let lines = lines_of(alloc, &text)?;
+    if lines_of_copy(alloc, &text)? != lines {
+        return Vec::from_slice(alloc, b"another copy");
+    }
+    Ok(lines)
+}
+
+#[test]
+fn files_are_read(rt: HostRuntime) -> Result<(), Fail> {
+    assert_rows(&rt, rt.alloc(), ROWS, answer)
+}
 
 const SERVICE: &[u8] = b"[Unit]\n\
     Description=Secure Shell server\n\

@@ -1,16 +1,42 @@
 //! Notices: their lines, their order, and copies.
+use crate::texts::{assert_rows, is};
+use sample_rows::Row;
 use sample_values::name;
 use std::alloc::{AllocError, Global};
-use std::process::Abort;
 use std::test::Fail;
 use unit_file::{Notice, NoticeKey, Notices, Reason, Word};
 use unit_name::ample;
 
-/// A notice's unit, key, word and reason.
-type Row = (&'static [u8], NoticeKey, &'static [u8], Reason);
+const ROWS: &[u8] = b"\
+    # Each notice has a line. They are in byte order of these.\n\
+    line\t0\t\t  ! a-b.service: WantedBy x: bad name\\n\n\
+    line\t1\t\t  ! a.service: Alias b.socket: bad alias\\n\n\
+    line\t2\t\t  ! a.service: Also %q: bad specifier\\n\n\
+    line\t3\t\t  ! a.service: Also c.service: masked\\n\n\
+    line\t4\t\t  ! a.service: Also c.service: not found\\n\n\
+    line\t5\t\t  ! a.service: Preset \\xff: is an alias\\n\n\
+    line\t6\t\t  ! a.socket: RequiredBy : not found\\n\n\
+    line\t7\t\t  ! a:b.socket: RequiredBy c:: dangling\\n\n\
+    \n\
+    # In which order they are added, and which there are then: each once, in order of the lines.\n\
+    added\t\t\t\n\
+    added\t5\t\t5\n\
+    added\t01234567\t\t01234567\n\
+    added\t76543210\t\t01234567\n\
+    added\t42473274\t\t2347\n\
+    \n\
+    # Which are joined with others.\n\
+    joined\t\t\t\n\
+    joined\t31\t\t13\n\
+    joined\t\t31\t13\n\
+    joined\t604\t753\t034567\n\
+    joined\t415\t524\t1245\n";
 
-/// Each key and each reason, in byte order of the lines.
-const ROWS: [Row; 8] = [
+/// A notice's unit, key, word and reason.
+type Fields = (&'static [u8], NoticeKey, &'static [u8], Reason);
+
+/// Each key and each reason.
+const NOTICES: [Fields; 8] = [
     (b"a-b.service", NoticeKey::WantedBy, b"x", Reason::BadName),
     (
         b"a.service",
@@ -36,187 +62,142 @@ const ROWS: [Row; 8] = [
     ),
 ];
 
-const LINES: [&[u8]; 8] = [
-    b"  ! a-b.service: WantedBy x: bad name\n",
-    b"  ! a.service: Alias b.socket: bad alias\n",
-    b"  ! a.service: Also %q: bad specifier\n",
-    b"  ! a.service: Also c.service: masked\n",
-    b"  ! a.service: Also c.service: not found\n",
-    b"  ! a.service: Preset \xff: is an alias\n",
-    b"  ! a.socket: RequiredBy : not found\n",
-    b"  ! a:b.socket: RequiredBy c:: dangling\n",
-];
-
-fn notice(alloc: Global, row: Row) -> Result<Notice, AllocError> {
-    let (unit, key, word, reason) = row;
+fn notice(alloc: Global, fields: &Fields) -> Result<Notice, AllocError> {
+    let (unit, key, word, reason) = fields;
     Ok(Notice {
         unit: name(alloc, unit)?,
-        key,
+        key: *key,
         word: Word::from_slice(alloc, word)?,
-        reason,
+        reason: *reason,
     })
 }
 
-/// Adds the notice of a row.
-fn add(alloc: Global, notices: &mut Notices, row: Row) -> Result<(), AllocError> {
-    notices.add(notice(alloc, row)?)
+/// The fields of a digit's notice.
+fn fields_of(digit: u8) -> Option<Fields> {
+    NOTICES.get(usize::from(digit.wrapping_sub(b'0'))).copied()
 }
 
-/// The notices of these rows, added in this order. Where one finds no memory, the notices are as before, and it is added again.
-fn notices_of(alloc: Global, order: &[usize]) -> Result<Notices, AllocError> {
-    let mut notices = Notices::none(alloc);
-    for i in order {
-        if let Some(row) = ROWS.get(*i) {
-            ample!(add(alloc, &mut notices, *row), AllocError)?;
+fn has_fields(notice: &Notice, fields: &Fields) -> bool {
+    let (unit, key, word, reason) = fields;
+    notice.unit.text() == *unit
+        && notice.key == *key
+        && notice.word.bytes() == *word
+        && notice.reason == *reason
+}
+
+/// The digit of a notice.
+fn digit_of(notice: &Notice) -> u8 {
+    for digit in b'0'..b'8' {
+        if let Some(fields) = fields_of(digit) {
+            if has_fields(notice, &fields) {
+                return digit;
+            }
         }
+    }
+    b'?'
+}
+
+/// The line of a notice, which its copy has too.
+fn shared_line(alloc: Global, notice: &Notice, copy: &Notice) -> Result<Vec<u8>, AllocError> {
+    let line = notice.line(alloc)?;
+    if copy.line(alloc)? != line {
+        return Vec::from_slice(alloc, b"another line of the copy");
+    }
+    Ok(line)
+}
+
+/// The line of a digit's notice.
+fn line_of(alloc: Global, digits: &[u8]) -> Result<Vec<u8>, AllocError> {
+    let Some(fields) = fields_of(digits.first().copied().unwrap_or(b'?')) else {
+        return Vec::from_slice(alloc, b"no notice");
+    };
+    let notice = notice(alloc, &fields)?;
+    let copy = notice.copy()?;
+    if !has_fields(&copy, &fields) {
+        return Vec::from_slice(alloc, b"another copy");
+    }
+    shared_line(alloc, &notice, &copy)
+}
+
+/// Adds a digit's notice.
+fn add(alloc: Global, notices: &mut Notices, digit: u8) -> Result<(), AllocError> {
+    match fields_of(digit) {
+        Some(fields) => notices.add(notice(alloc, &fields)?),
+        None => Err(AllocError),
+    }
+}
+
+/// The notices of these digits, added in this order. If memory runs out, the notices are as before,
+/// and the one is added again.
+fn notices_of(alloc: Global, digits: &[u8]) -> Result<Notices, AllocError> {
+    let mut notices = Notices::none(alloc);
+    for digit in digits {
+        ample!(add(alloc, &mut notices, *digit), AllocError)?;
     }
     Ok(notices)
 }
 
-fn lines_of(alloc: Global, notices: &Notices) -> Result<Vec<u8>, AllocError> {
+/// The lines of all.
+fn text_of(alloc: Global, notices: &Notices) -> Result<Vec<u8>, AllocError> {
     let mut text = Vec::new(alloc);
     notices.push_lines(&mut text)?;
     Ok(text)
 }
 
-/// The lines of the notices that `iter` gives, one after another.
-fn lines_one_by_one(alloc: Global, notices: &Notices) -> Result<Vec<u8>, AllocError> {
-    let mut text = Vec::new(alloc);
+/// The digits of the notices that `iter` gives. Their lines together are the lines of all.
+fn digits_of(alloc: Global, notices: &Notices) -> Result<Vec<u8>, AllocError> {
+    let mut digits = Vec::new(alloc);
+    let mut lines = Vec::new(alloc);
     for notice in notices.iter() {
-        text.extend_from_slice(notice.line(alloc)?.as_slice())?;
+        digits.push(digit_of(notice))?;
+        lines.extend_from_slice(&notice.line(alloc)?)?;
     }
-    Ok(text)
-}
-
-/// The lines of these rows, one after another.
-fn expected_lines(alloc: Global, rows: &[usize]) -> Result<Vec<u8>, AllocError> {
-    let mut text = Vec::new(alloc);
-    for i in rows {
-        if let Some(line) = LINES.get(*i) {
-            text.extend_from_slice(line)?;
-        }
+    if notices.len() != digits.len() || notices.is_empty() != digits.is_empty() {
+        return Vec::from_slice(alloc, b"another number of notices");
     }
-    Ok(text)
+    if text_of(alloc, notices)? != lines {
+        return Vec::from_slice(alloc, b"other lines");
+    }
+    Ok(digits)
 }
 
-fn assert_lines(
-    rt: &impl Abort,
-    alloc: Global,
-    notices: &Notices,
-    rows: &[usize],
-) -> Result<(), AllocError> {
-    let expected = expected_lines(alloc, rows)?;
-    let found = lines_of(alloc, notices)?;
-    assert_eq!(rt; found, expected);
-    let one_by_one = lines_one_by_one(alloc, notices)?;
-    assert_eq!(rt; one_by_one, expected);
-    Ok(())
-}
-
-/// The notices are these rows, once each and in this order, and so is their copy.
-fn assert_notices(
-    rt: &impl Abort,
-    alloc: Global,
-    notices: &Notices,
-    rows: &[usize],
-) -> Result<(), AllocError> {
-    assert_eq!(rt; notices.len(), rows.len());
-    assert_eq!(rt; notices.is_empty(), rows.is_empty());
-    assert_lines(rt, alloc, notices, rows)?;
+/// The digits of notices, which their copy has too.
+fn shared_digits(alloc: Global, notices: &Notices) -> Result<Vec<u8>, AllocError> {
     let copy = notices.copy()?;
-    assert_lines(rt, alloc, &copy, rows)
-}
-
-fn assert_fields(rt: &impl Abort, notice: &Notice, row: &Row) {
-    assert_eq!(rt; notice.unit.text(), row.0);
-    assert_eq!(rt; notice.key, row.1);
-    assert_eq!(rt; notice.word.bytes(), row.2);
-    assert_eq!(rt; notice.reason, row.3);
-}
-
-fn assert_line(
-    rt: &impl Abort,
-    alloc: Global,
-    notice: &Notice,
-    line: &[u8],
-) -> Result<(), AllocError> {
-    let found = notice.line(alloc)?;
-    assert_eq!(rt; found.as_slice(), line);
-    Ok(())
-}
-
-/// The notice of a row has this line; its copy has the row's fields and this line.
-fn assert_notice(rt: &impl Abort, alloc: Global, row: Row, line: &[u8]) -> Result<(), AllocError> {
-    let notice = notice(alloc, row)?;
-    assert_line(rt, alloc, &notice, line)?;
-    let copy = notice.copy()?;
-    assert_fields(rt, &copy, &row);
-    assert_line(rt, alloc, &copy, line)
-}
-
-#[test]
-fn notices_have_lines(rt: HostRuntime) -> Result<(), Fail> {
-    for (row, line) in ROWS.into_iter().zip(LINES) {
-        ample!(assert_notice(&rt, rt.alloc(), row, line), AllocError)?;
+    let digits = digits_of(alloc, &copy)?;
+    if digits_of(alloc, notices)? != digits {
+        return Vec::from_slice(alloc, b"another copy");
     }
-    Ok(())
+    Ok(digits)
 }
 
-/// Notices added in this order are these.
-fn assert_added(
-    rt: &impl Abort,
-    alloc: Global,
-    order: &[usize],
-    expected: &[usize],
-) -> Result<(), AllocError> {
-    let notices = notices_of(alloc, order)?;
-    assert_notices(rt, alloc, &notices, expected)
+fn added(alloc: Global, digits: &[u8]) -> Result<Vec<u8>, AllocError> {
+    let notices = notices_of(alloc, digits)?;
+    shared_digits(alloc, &notices)
 }
 
-#[test]
-fn notices_are_a_set(rt: HostRuntime) -> Result<(), Fail> {
-    // In which order they are added, and which there are then.
-    let rows: [(&[usize], &[usize]); 5] = [
-        (&[], &[]),
-        (&[5], &[5]),
-        (&[0, 1, 2, 3, 4, 5, 6, 7], &[0, 1, 2, 3, 4, 5, 6, 7]),
-        (&[7, 6, 5, 4, 3, 2, 1, 0], &[0, 1, 2, 3, 4, 5, 6, 7]),
-        (&[4, 2, 4, 7, 3, 2, 7, 4], &[2, 3, 4, 7]),
-    ];
-    for (order, expected) in rows {
-        ample!(assert_added(&rt, rt.alloc(), order, expected), AllocError)?;
-    }
-    Ok(())
-}
-
-/// Notices that are joined with others are these.
-fn assert_joined(
-    rt: &impl Abort,
-    alloc: Global,
-    order: &[usize],
-    others: &[usize],
-    expected: &[usize],
-) -> Result<(), AllocError> {
-    let mut notices = notices_of(alloc, order)?;
+/// Notices that are joined with others. If memory runs out, the notices are as before, and they are
+/// joined again.
+fn joined(alloc: Global, digits: &[u8], others: &[u8]) -> Result<Vec<u8>, AllocError> {
+    let mut notices = notices_of(alloc, digits)?;
     let others = notices_of(alloc, others)?;
     ample!(notices.add_all(&others), AllocError)?;
-    assert_notices(rt, alloc, &notices, expected)
+    shared_digits(alloc, &notices)
+}
+
+fn answer(alloc: Global, row: &Row) -> Result<Vec<u8>, AllocError> {
+    if is(row, b"line") {
+        line_of(alloc, &row.one)
+    } else if is(row, b"added") {
+        added(alloc, &row.one)
+    } else if is(row, b"joined") {
+        joined(alloc, &row.one, &row.two)
+    } else {
+        Vec::from_slice(alloc, b"unknown kind")
+    }
 }
 
 #[test]
-fn notices_are_joined(rt: HostRuntime) -> Result<(), Fail> {
-    let rows: [(&[usize], &[usize], &[usize]); 5] = [
-        (&[], &[], &[]),
-        (&[3, 1], &[], &[1, 3]),
-        (&[], &[3, 1], &[1, 3]),
-        (&[6, 0, 4], &[7, 5, 3], &[0, 3, 4, 5, 6, 7]),
-        (&[4, 1, 5], &[5, 2, 4], &[1, 2, 4, 5]),
-    ];
-    for (order, others, expected) in rows {
-        ample!(
-            assert_joined(&rt, rt.alloc(), order, others, expected),
-            AllocError
-        )?;
-    }
-    Ok(())
+fn notices_are_a_set_of_lines(rt: HostRuntime) -> Result<(), Fail> {
+    assert_rows(&rt, rt.alloc(), ROWS, answer)
 }

@@ -1,156 +1,143 @@
+use crate::texts::{assert_rows, in_full, is, yes_or_no};
+use sample_rows::Row;
 use sample_values::path;
 use std::alloc::{AllocError, Global};
 use std::cmp::Ordering;
 use std::test::Fail;
-use unit_name::ample;
 use unit_paths::{PathError, TreePath};
 
-fn has_text(alloc: Global, text: &[u8]) -> Result<bool, AllocError> {
-    let path = path(alloc, text)?;
-    Ok(path.text() == text)
+const ROWS: &[u8] = b"\
+    # A path is absolute, without empty parts, `.` and `..`, and has at most 4,095 bytes.\n\
+    parse\t/a/b\t\ta path\n\
+    parse\t/a\t\ta path\n\
+    parse\t/a/...\t\ta path\n\
+    parse\t/.a/a.\t\ta path\n\
+    parse\t/a b/\\x01\t\ta path\n\
+    parse\t\t\tbad path\n\
+    parse\ta\t\tbad path\n\
+    parse\t/\t\tbad path\n\
+    parse\t/a/\t\tbad path\n\
+    parse\t/a//b\t\tbad path\n\
+    parse\t/a/../b\t\tbad path\n\
+    parse\t/a/.\t\tbad path\n\
+    parse\t/..\t\tbad path\n\
+    parse\t//a\t\tbad path\n\
+    parse\t/a\\x00\t\tbad path\n\
+    parse\t/a\\tb\t\tbad path\n\
+    parse\t/a\\nb\t\tbad path\n\
+    parse long\t/a*4094\t\ta path\n\
+    parse long\t/a*4095\t\tbad path\n\
+    \n\
+    # Paths are ordered by their bytes.\n\
+    compare\t/a\t/a\tequal\n\
+    compare\t/a\t/b\tless\n\
+    compare\t/a/b\t/a.b\tgreater\n\
+    compare\t/a\t/a/b\tless\n\
+    compare\t/B\t/a\tless\n\
+    \n\
+    # A path has a name and a directory, which is a path unless it is the root.\n\
+    parts\t/a\t\ta in '', beneath no path\n\
+    parts\t/a/b\t\tb in '/a', beneath /a\n\
+    parts\t/a.b/c.d/e.f\t\te.f in '/a.b/c.d', beneath /a.b/c.d\n\
+    \n\
+    # What the first path in byte order has behind the path that it can be beneath.\n\
+    first beneath\t/a/b\t\t/\\x01\n\
+    first beneath long\t/a*4092\t\t/\\x01\n\
+    first beneath long\t/a*4093\t\tno path\n\
+    \n\
+    # Whether a path is beneath another.\n\
+    beneath\t/a/b\t/a\tyes\n\
+    beneath\t/a/b/c\t/a\tyes\n\
+    beneath\t/a/b/c\t/a/b\tyes\n\
+    beneath\t/a\t/a\tno\n\
+    beneath\t/a\t/a/b\tno\n\
+    beneath\t/ab\t/a\tno\n\
+    beneath\t/b/a/c\t/a\tno\n";
+
+fn parsed(alloc: Global, text: &[u8]) -> Result<Vec<u8>, AllocError> {
+    match TreePath::parse(alloc, text) {
+        Ok(path) if path.text() == text => Vec::from_slice(alloc, b"a path"),
+        Ok(_) => Vec::from_slice(alloc, b"another path"),
+        Err(PathError::BadPath) => Vec::from_slice(alloc, b"bad path"),
+        Err(PathError::OutOfMemory) => Err(AllocError),
+    }
 }
 
-#[test]
-fn paths_are_absolute(rt: HostRuntime) -> Result<(), Fail> {
-    let alloc = rt.alloc();
-    for text in [
-        b"/a/b".as_slice(),
-        b"/a",
-        b"/a/...",
-        b"/.a/a.",
-        b"/a b/\x01",
-    ] {
-        let is_path = has_text(alloc, text)?;
-        assert!(rt; is_path);
-    }
-    let others: [&[u8]; 12] = [
-        b"", b"a", b"/", b"/a/", b"/a//b", b"/a/../b", b"/a/.", b"/..", b"//a", b"/a\0", b"/a\tb",
-        b"/a\nb",
-    ];
-    for text in others {
-        assert_eq!(rt; TreePath::parse(alloc, text), Err(PathError::BadPath));
-    }
-    let mut long = [b'a'; 4096];
-    long[0] = b'/';
-    let is_path = has_text(alloc, &long[..4095])?;
-    assert!(rt; is_path);
-    assert_eq!(rt; TreePath::parse(alloc, &long), Err(PathError::BadPath));
-    Ok(())
+fn is_as_its_copy(path: &TreePath) -> Result<bool, AllocError> {
+    let copy = path.copy()?;
+    Ok(copy == *path)
 }
 
-/// How two paths compare, and whether they are equal.
-fn compared(alloc: Global, one: &[u8], other: &[u8]) -> Result<(Ordering, bool), AllocError> {
+/// How two paths compare. They are equal if they compare so.
+fn order_of(one: &TreePath, other: &TreePath) -> &'static [u8] {
+    match (one.cmp(other), one == other) {
+        (Ordering::Less, false) => b"less",
+        (Ordering::Equal, true) => b"equal",
+        (Ordering::Greater, false) => b"greater",
+        _ => b"otherwise equal",
+    }
+}
+
+fn compared(alloc: Global, one: &[u8], other: &[u8]) -> Result<Vec<u8>, AllocError> {
     let one = path(alloc, one)?;
     let other = path(alloc, other)?;
-    Ok((one.cmp(&other), one == other))
+    if !is_as_its_copy(&one)? {
+        return Vec::from_slice(alloc, b"another copy");
+    }
+    Vec::from_slice(alloc, order_of(&one, &other))
 }
 
-fn is_as_its_copy(alloc: Global, text: &[u8]) -> Result<bool, AllocError> {
+/// The name, the directory and the parent.
+fn parts_of(alloc: Global, text: &[u8]) -> Result<Vec<u8>, AllocError> {
     let path = path(alloc, text)?;
-    let copy = path.copy()?;
-    Ok(copy == path)
-}
-
-#[test]
-fn paths_are_ordered_by_bytes(rt: HostRuntime) -> Result<(), Fail> {
-    let alloc = rt.alloc();
-    let orders: [(&[u8], &[u8], Ordering); 5] = [
-        (b"/a", b"/a", Ordering::Equal),
-        (b"/a", b"/b", Ordering::Less),
-        (b"/a/b", b"/a.b", Ordering::Greater),
-        (b"/a", b"/a/b", Ordering::Less),
-        (b"/B", b"/a", Ordering::Less),
-    ];
-    for (one, other, order) in orders {
-        let found = compared(alloc, one, other)?;
-        assert_eq!(rt; found, (order, order == Ordering::Equal));
-        let is_same = ample!(is_as_its_copy(alloc, one), AllocError)?;
-        assert!(rt; is_same);
+    let pieces = [path.file_name(), b" in '", path.directory(), b"', beneath "];
+    let mut parts = pieces.concat(alloc)?;
+    match path.into_parent() {
+        Some(parent) => parts.extend_from_slice(parent.text())?,
+        None => parts.extend_from_slice(b"no path")?,
     }
-    Ok(())
+    Ok(parts)
 }
 
-/// Whether a path has this directory and this name.
-fn is_cut_into(
-    alloc: Global,
-    text: &[u8],
-    directory: &[u8],
-    name: &[u8],
-) -> Result<bool, AllocError> {
-    let path = path(alloc, text)?;
-    Ok(path.directory() == directory && path.file_name() == name)
-}
-
-/// Whether a path's parent has this text; the root is no path.
-fn is_of_parent(alloc: Global, text: &[u8], directory: &[u8]) -> Result<bool, AllocError> {
-    let path = path(alloc, text)?;
-    Ok(match path.into_parent() {
-        Some(parent) => parent.text() == directory,
-        None => directory.is_empty(),
-    })
-}
-
-#[test]
-fn paths_have_directories_and_names(rt: HostRuntime) -> Result<(), Fail> {
-    let alloc = rt.alloc();
-    let paths: [(&[u8], &[u8], &[u8]); 3] = [
-        (b"/a", b"", b"a"),
-        (b"/a/b", b"/a", b"b"),
-        (b"/a.b/c.d/e.f", b"/a.b/c.d", b"e.f"),
-    ];
-    for (text, directory, name) in paths {
-        let found = is_cut_into(alloc, text, directory, name)?;
-        assert!(rt; found);
-        let above = is_of_parent(alloc, text, directory)?;
-        assert!(rt; above);
-    }
-    Ok(())
-}
-
-/// Whether the first path in byte order that can lie beneath one has this text, if there is such a path.
-fn first_is(alloc: Global, above: &[u8], text: &[u8]) -> Result<Option<bool>, AllocError> {
-    let above = path(alloc, above)?;
-    match above.first_beneath()? {
-        Some(first) => Ok(Some(first.text() == text)),
-        None => Ok(None),
+/// What the first path in byte order that can be beneath one has behind it, if there is one.
+fn first_beneath(alloc: Global, above: &[u8]) -> Result<Vec<u8>, AllocError> {
+    let path = path(alloc, above)?;
+    match path.first_beneath()? {
+        Some(first) => match first.text().strip_prefix(above) {
+            Some(rest) => Vec::from_slice(alloc, rest),
+            None => Vec::from_slice(alloc, b"a path elsewhere"),
+        },
+        None => Vec::from_slice(alloc, b"no path"),
     }
 }
 
-#[test]
-fn what_lies_beneath_begins_somewhere(rt: HostRuntime) -> Result<(), Fail> {
-    let is_first = ample!(first_is(rt.alloc(), b"/a/b", b"/a/b/\x01"), AllocError)?;
-    assert_eq!(rt; is_first, Some(true));
-    let mut long = [b'a'; 4095];
-    long[0] = b'/';
-    for (length, is_path) in [(4093, true), (4094, false)] {
-        let above = long.get(..length).unwrap_or(&[]);
-        let is_first = ample!(first_is(rt.alloc(), above, b""), AllocError)?;
-        assert_eq!(rt; is_first.is_some(), is_path);
-    }
-    Ok(())
-}
-
-fn lies_beneath(alloc: Global, below: &[u8], above: &[u8]) -> Result<bool, AllocError> {
+fn is_beneath(alloc: Global, below: &[u8], above: &[u8]) -> Result<Vec<u8>, AllocError> {
     let below = path(alloc, below)?;
     let above = path(alloc, above)?;
-    Ok(below.is_beneath(&above))
+    yes_or_no(alloc, below.is_beneath(&above))
+}
+
+fn answer(alloc: Global, row: &Row) -> Result<Vec<u8>, AllocError> {
+    if is(row, b"parse") {
+        parsed(alloc, &row.one)
+    } else if is(row, b"parse long") {
+        parsed(alloc, &in_full(alloc, &row.one)?)
+    } else if is(row, b"compare") {
+        compared(alloc, &row.one, &row.two)
+    } else if is(row, b"parts") {
+        parts_of(alloc, &row.one)
+    } else if is(row, b"first beneath") {
+        first_beneath(alloc, &row.one)
+    } else if is(row, b"first beneath long") {
+        first_beneath(alloc, &in_full(alloc, &row.one)?)
+    } else if is(row, b"beneath") {
+        is_beneath(alloc, &row.one, &row.two)
+    } else {
+        Vec::from_slice(alloc, b"unknown kind")
+    }
 }
 
 #[test]
-fn paths_lie_beneath_others(rt: HostRuntime) -> Result<(), Fail> {
-    let alloc = rt.alloc();
-    let pairs: [(&[u8], &[u8], bool); 7] = [
-        (b"/a/b", b"/a", true),
-        (b"/a/b/c", b"/a", true),
-        (b"/a/b/c", b"/a/b", true),
-        (b"/a", b"/a", false),
-        (b"/a", b"/a/b", false),
-        (b"/ab", b"/a", false),
-        (b"/b/a/c", b"/a", false),
-    ];
-    for (below, above, expected) in pairs {
-        let lies = lies_beneath(alloc, below, above)?;
-        assert_eq!(rt; lies, expected);
-    }
-    Ok(())
+fn paths_have_parts_and_an_order(rt: HostRuntime) -> Result<(), Fail> {
+    assert_rows(&rt, rt.alloc(), ROWS, answer)
 }

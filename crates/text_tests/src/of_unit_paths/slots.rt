@@ -1,189 +1,158 @@
+use crate::texts::{assert_rows, is, yes_or_no};
+use sample_rows::Row;
 use sample_values::{name, path};
 use std::alloc::{AllocError, Global};
 use std::test::Fail;
-use unit_name::ample;
-use unit_paths::{Dependency, Place, Scope, Slot};
+use unit_paths::{Dependency, Place, Scope, Slot, TreePath};
 
-/// Of what a path is the slot, and whether it is a unit's.
-fn slot_of(alloc: Global, text: &[u8]) -> Result<(Option<Slot>, bool), AllocError> {
+const ROWS: &[u8] = b"\
+    # Slots have four forms.\n\
+    slot\t/etc/systemd/system/ssh.service\t\tUnit(Etc)\n\
+    slot\t/run/systemd/system/a@b.service\t\tUnit(Run)\n\
+    slot\t/usr/local/lib/systemd/system/a.mount\t\tUnit(Local)\n\
+    slot\t/usr/lib/systemd/system/a@.socket\t\tUnit(Vendor)\n\
+    slot\t/etc/systemd/system/a.target.wants/b.service\t\tWants(Etc)\n\
+    slot\t/usr/lib/systemd/system/a.target.requires/b.service\t\tRequires(Vendor)\n\
+    slot\t/etc/systemd/system-preset/10-a.preset\t\tPreset(Etc)\n\
+    slot\t/run/systemd/system-preset/.b.preset\t\tPreset(Run)\n\
+    slot\t/usr/lib/systemd/system-preset/a.preset\t\tPreset(Vendor)\n\
+    slot\t/usr/local/lib/systemd/system-preset/a.preset\t\tnone\n\
+    slot\t/usr/lib/systemd/system-preset/.preset\t\tnone\n\
+    slot\t/usr/lib/systemd/system-preset/a.conf\t\tnone\n\
+    slot\t/etc/systemd/system/ssh.conf\t\tnone\n\
+    slot\t/etc/systemd/system/a.target.wants\t\tnone\n\
+    slot\t/etc/systemd/system/a.wants/b.service\t\tnone\n\
+    slot\t/etc/systemd/system/a.target.upholds/b.service\t\tnone\n\
+    slot\t/etc/systemd/system/a.target.wants/x/b.service\t\tnone\n\
+    slot\t/lib/systemd/system/ssh.service\t\tnone\n\
+    slot\t/ssh.service\t\tnone\n\
+    \n\
+    # Units have slots.\n\
+    slot of\tEtc\tgetty@tty1.service\t/etc/systemd/system/getty@tty1.service is Unit(Etc)\n\
+    slot of\tRun\tgetty@tty1.service\t/run/systemd/system/getty@tty1.service is Unit(Run)\n\
+    slot of\tLocal\tgetty@tty1.service\t\
+        /usr/local/lib/systemd/system/getty@tty1.service is Unit(Local)\n\
+    slot of\tVendor\tgetty@tty1.service\t\
+        /usr/lib/systemd/system/getty@tty1.service is Unit(Vendor)\n\
+    \n\
+    # So have the dependencies of other units, as t@.target.\n\
+    wants\tEtc\tgetty@tty1.service\t\
+        /etc/systemd/system/t@.target.wants/getty@tty1.service is Wants(Etc)\n\
+    requires\tLocal\tgetty@tty1.service\t\
+        /usr/local/lib/systemd/system/t@.target.requires/getty@tty1.service is Requires(Local)\n\
+    \n\
+    # The directories of units in the two scopes, and all directories of presets.\n\
+    scope\tEtc\t\t/etc/systemd/system\n\
+    scope\tRun\t\t/run/systemd/system\n\
+    presets\tEtc\t\t/etc/systemd/system-preset\n\
+    presets\tRun\t\t/run/systemd/system-preset\n\
+    presets\tLocal\t\t/usr/local/lib/systemd/system-preset\n\
+    presets\tVendor\t\t/usr/lib/systemd/system-preset\n\
+    \n\
+    # At some paths no entry can be, since they are above or beneath a slot.\n\
+    bad shape\t/etc/systemd/system/a.service/b\t\tyes\n\
+    bad shape\t/etc/systemd/system/a.service/b/c\t\tyes\n\
+    bad shape\t/etc/systemd/system/a.target.wants/b.service/c\t\tyes\n\
+    bad shape\t/etc/systemd/system\t\tyes\n\
+    bad shape\t/etc/systemd/system/a.target.wants\t\tyes\n\
+    bad shape\t/etc/systemd/system-preset\t\tyes\n\
+    bad shape\t/etc\t\tyes\n\
+    bad shape\t/usr/local\t\tyes\n\
+    bad shape\t/etc/systemd/system/a.service\t\tno\n\
+    bad shape\t/etc/systemd/system/a.wants\t\tno\n\
+    bad shape\t/etc/systemd/system/a.conf/b\t\tno\n\
+    bad shape\t/usr/local/lib/systemd/system-preset\t\tno\n\
+    bad shape\t/etc/systemd/user\t\tno\n\
+    bad shape\t/lib\t\tno\n";
+
+/// Of what a path is the slot: of a unit, if `is_of_unit` says so.
+fn kind_of(alloc: Global, path: &TreePath) -> Result<Vec<u8>, AllocError> {
+    let slot = Slot::of(path);
+    if Slot::is_of_unit(path) != matches!(slot, Some(Slot::Unit(_))) {
+        return Vec::from_slice(alloc, b"is_of_unit says otherwise");
+    }
+    match slot {
+        Some(slot) => Ok(format!(in alloc; "{slot:?}")?.into_bytes()),
+        None => Vec::from_slice(alloc, b"none"),
+    }
+}
+
+fn kind_at(alloc: Global, text: &[u8]) -> Result<Vec<u8>, AllocError> {
     let path = path(alloc, text)?;
-    Ok((Slot::of(&path), Slot::is_of_unit(&path)))
+    kind_of(alloc, &path)
+}
+
+fn place_named(word: &[u8]) -> Place {
+    if word == b"Etc".as_slice() {
+        Place::Etc
+    } else if word == b"Run".as_slice() {
+        Place::Run
+    } else if word == b"Local".as_slice() {
+        Place::Local
+    } else {
+        Place::Vendor
+    }
+}
+
+fn scope_directory(word: &[u8]) -> &'static str {
+    match place_named(word) {
+        Place::Etc => Scope::Etc.place().directory(),
+        _ => Scope::Run.place().directory(),
+    }
+}
+
+/// The path of a slot, and of what it is the slot.
+fn described(alloc: Global, slot: &TreePath) -> Result<Vec<u8>, AllocError> {
+    let kind = kind_of(alloc, slot)?;
+    [slot.text(), b" is ", kind.as_slice()].concat(alloc)
+}
+
+fn unit_slot(alloc: Global, place: Place, unit: &[u8]) -> Result<Vec<u8>, AllocError> {
+    let unit = name(alloc, unit)?;
+    let slot = place.slot(alloc, &unit)?;
+    described(alloc, &slot)
+}
+
+/// The slot of a unit among those that `t@.target` needs.
+fn dependency_slot(
+    alloc: Global,
+    place: Place,
+    dependency: Dependency,
+    unit: &[u8],
+) -> Result<Vec<u8>, AllocError> {
+    let of = name(alloc, b"t@.target")?;
+    let unit = name(alloc, unit)?;
+    let slot = place.dependency_slot(alloc, dependency, &of, &unit)?;
+    described(alloc, &slot)
+}
+
+fn is_bad_shape(alloc: Global, text: &[u8]) -> Result<Vec<u8>, AllocError> {
+    let path = path(alloc, text)?;
+    yes_or_no(alloc, path.is_bad_shape())
+}
+
+fn answer(alloc: Global, row: &Row) -> Result<Vec<u8>, AllocError> {
+    let place = place_named(&row.one);
+    if is(row, b"slot") {
+        kind_at(alloc, &row.one)
+    } else if is(row, b"bad shape") {
+        is_bad_shape(alloc, &row.one)
+    } else if is(row, b"slot of") {
+        unit_slot(alloc, place, &row.two)
+    } else if is(row, b"wants") {
+        dependency_slot(alloc, place, Dependency::Wants, &row.two)
+    } else if is(row, b"requires") {
+        dependency_slot(alloc, place, Dependency::Requires, &row.two)
+    } else if is(row, b"scope") {
+        Vec::from_slice(alloc, scope_directory(&row.one).as_bytes())
+    } else if is(row, b"presets") {
+        Vec::from_slice(alloc, place.preset_directory().as_bytes())
+    } else {
+        Vec::from_slice(alloc, b"unknown kind")
+    }
 }
 
 #[test]
 fn slots_have_four_forms(rt: HostRuntime) -> Result<(), Fail> {
-    let alloc = rt.alloc();
-    let paths: [(&[u8], Option<Slot>); 19] = [
-        (
-            b"/etc/systemd/system/ssh.service",
-            Some(Slot::Unit(Place::Etc)),
-        ),
-        (
-            b"/run/systemd/system/a@b.service",
-            Some(Slot::Unit(Place::Run)),
-        ),
-        (
-            b"/usr/local/lib/systemd/system/a.mount",
-            Some(Slot::Unit(Place::Local)),
-        ),
-        (
-            b"/usr/lib/systemd/system/a@.socket",
-            Some(Slot::Unit(Place::Vendor)),
-        ),
-        (
-            b"/etc/systemd/system/a.target.wants/b.service",
-            Some(Slot::Wants(Place::Etc)),
-        ),
-        (
-            b"/usr/lib/systemd/system/a.target.requires/b.service",
-            Some(Slot::Requires(Place::Vendor)),
-        ),
-        (
-            b"/etc/systemd/system-preset/10-a.preset",
-            Some(Slot::Preset(Place::Etc)),
-        ),
-        (
-            b"/run/systemd/system-preset/.b.preset",
-            Some(Slot::Preset(Place::Run)),
-        ),
-        (
-            b"/usr/lib/systemd/system-preset/a.preset",
-            Some(Slot::Preset(Place::Vendor)),
-        ),
-        (b"/usr/local/lib/systemd/system-preset/a.preset", None),
-        (b"/usr/lib/systemd/system-preset/.preset", None),
-        (b"/usr/lib/systemd/system-preset/a.conf", None),
-        (b"/etc/systemd/system/ssh.conf", None),
-        (b"/etc/systemd/system/a.target.wants", None),
-        (b"/etc/systemd/system/a.wants/b.service", None),
-        (b"/etc/systemd/system/a.target.upholds/b.service", None),
-        (b"/etc/systemd/system/a.target.wants/x/b.service", None),
-        (b"/lib/systemd/system/ssh.service", None),
-        (b"/ssh.service", None),
-    ];
-    for (text, slot) in paths {
-        let found = slot_of(alloc, text)?;
-        assert_eq!(rt; found, (slot, matches!(slot, Some(Slot::Unit(_)))));
-    }
-    assert_eq!(rt; Scope::Etc.place().directory(), "/etc/systemd/system");
-    assert_eq!(rt; Scope::Run.place().directory(), "/run/systemd/system");
-    Ok(())
-}
-
-/// Whether the slot of a unit in a place has this text, and of what it is the slot.
-fn unit_slot_is(
-    alloc: Global,
-    place: Place,
-    unit: &[u8],
-    text: &[u8],
-) -> Result<(bool, Option<Slot>), AllocError> {
-    let unit = name(alloc, unit)?;
-    let slot = place.slot(alloc, &unit)?;
-    Ok((slot.text() == text, Slot::of(&slot)))
-}
-
-#[test]
-fn units_have_slots(rt: HostRuntime) -> Result<(), Fail> {
-    let alloc = rt.alloc();
-    let places: [(Place, &[u8]); 4] = [
-        (Place::Etc, b"/etc/systemd/system/getty@tty1.service"),
-        (Place::Run, b"/run/systemd/system/getty@tty1.service"),
-        (
-            Place::Local,
-            b"/usr/local/lib/systemd/system/getty@tty1.service",
-        ),
-        (Place::Vendor, b"/usr/lib/systemd/system/getty@tty1.service"),
-    ];
-    for (place, text) in places {
-        let found = ample!(
-            unit_slot_is(alloc, place, b"getty@tty1.service", text),
-            AllocError
-        )?;
-        assert_eq!(rt; found, (true, Some(Slot::Unit(place))));
-    }
-    Ok(())
-}
-
-/// Whether the slot of `getty@tty1.service` among those that `t@.target` needs has this text, and of what it is the slot.
-fn dependency_slot_is(
-    alloc: Global,
-    place: Place,
-    dependency: Dependency,
-    text: &[u8],
-) -> Result<(bool, Option<Slot>), AllocError> {
-    let of = name(alloc, b"t@.target")?;
-    let unit = name(alloc, b"getty@tty1.service")?;
-    let slot = place.dependency_slot(alloc, dependency, &of, &unit)?;
-    Ok((slot.text() == text, Slot::of(&slot)))
-}
-
-#[test]
-fn dependencies_have_slots(rt: HostRuntime) -> Result<(), Fail> {
-    let alloc = rt.alloc();
-    let slots: [(Place, Dependency, Slot, &[u8]); 2] = [
-        (
-            Place::Etc,
-            Dependency::Wants,
-            Slot::Wants(Place::Etc),
-            b"/etc/systemd/system/t@.target.wants/getty@tty1.service",
-        ),
-        (
-            Place::Local,
-            Dependency::Requires,
-            Slot::Requires(Place::Local),
-            b"/usr/local/lib/systemd/system/t@.target.requires/getty@tty1.service",
-        ),
-    ];
-    for (place, dependency, kind, text) in slots {
-        let found = ample!(
-            dependency_slot_is(alloc, place, dependency, text),
-            AllocError
-        )?;
-        assert_eq!(rt; found, (true, Some(kind)));
-    }
-    Ok(())
-}
-
-#[test]
-fn presets_have_directories(rt: HostRuntime) -> Result<(), Fail> {
-    for (place, directory) in [
-        (Place::Etc, "/etc/systemd/system-preset"),
-        (Place::Run, "/run/systemd/system-preset"),
-        (Place::Local, "/usr/local/lib/systemd/system-preset"),
-        (Place::Vendor, "/usr/lib/systemd/system-preset"),
-    ] {
-        assert_eq!(rt; place.preset_directory(), directory);
-    }
-    Ok(())
-}
-
-fn is_bad_shape(alloc: Global, text: &[u8]) -> Result<bool, AllocError> {
-    let path = path(alloc, text)?;
-    Ok(path.is_bad_shape())
-}
-
-#[test]
-fn some_paths_hold_no_entry(rt: HostRuntime) -> Result<(), Fail> {
-    let alloc = rt.alloc();
-    let paths: [(&[u8], bool); 14] = [
-        (b"/etc/systemd/system/a.service/b", true),
-        (b"/etc/systemd/system/a.service/b/c", true),
-        (b"/etc/systemd/system/a.target.wants/b.service/c", true),
-        (b"/etc/systemd/system", true),
-        (b"/etc/systemd/system/a.target.wants", true),
-        (b"/etc/systemd/system-preset", true),
-        (b"/etc", true),
-        (b"/usr/local", true),
-        (b"/etc/systemd/system/a.service", false),
-        (b"/etc/systemd/system/a.wants", false),
-        (b"/etc/systemd/system/a.conf/b", false),
-        (b"/usr/local/lib/systemd/system-preset", false),
-        (b"/etc/systemd/user", false),
-        (b"/lib", false),
-    ];
-    for (text, is_bad) in paths {
-        let found = is_bad_shape(alloc, text)?;
-        assert_eq!(rt; found, is_bad);
-    }
-    Ok(())
+    assert_rows(&rt, rt.alloc(), ROWS, answer)
 }

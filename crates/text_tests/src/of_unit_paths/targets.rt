@@ -1,8 +1,55 @@
+use crate::texts::{assert_rows, in_full, is, yes_or_no};
+use sample_rows::Row;
 use sample_values::path;
 use std::alloc::{AllocError, Global};
 use std::test::Fail;
-use unit_name::ample;
 use unit_paths::{Target, TargetError, canonical, is_null_target};
+
+const ROWS: &[u8] = b"\
+    # A target is a text of at most 4,095 bytes.\n\
+    parse\ta\t\ta target\n\
+    parse\t/\t\ta target\n\
+    parse\t../../b\t\ta target\n\
+    parse\t \t\ta target\n\
+    parse\t\t\tbad target\n\
+    parse\ta\\x00\t\tbad target\n\
+    parse\ta\\tb\t\tbad target\n\
+    parse\t\\n\t\tbad target\n\
+    parse long\ta*4095\t\ta target\n\
+    parse long\ta*4096\t\tbad target\n\
+    \n\
+    # Where a link at a path leads.\n\
+    link\t/a/b\tc\t/a/c\n\
+    link\t/a/b\t/c/d\t/c/d\n\
+    link\t/a/b\t../..\tno path\n\
+    link\t/a/b\t..\tno path\n\
+    link\t/a/b\t.\t/a\n\
+    link\t/a/b/c\t../d\t/a/d\n\
+    link\t/a/b\t//c//d/\t/c/d\n\
+    link\t/a/b\t/./c/./d\t/c/d\n\
+    link\t/a/b\t/../../c\t/c\n\
+    link\t/a/b\t../../../../c\t/c\n\
+    link\t/a/b\t/lib/systemd\t/lib/systemd\n\
+    link\t/a/b\t/lib/systemdx/c\t/lib/systemdx/c\n\
+    link\t/a/b\t/x/lib/systemd/c\t/x/lib/systemd/c\n\
+    link\t/a/b\t/lib/systemd/\t/lib/systemd\n\
+    link\t/etc/systemd/system/multi-user.target.wants/ssh.service\t\
+        ../../../../lib/systemd/system/ssh.service\t/usr/lib/systemd/system/ssh.service\n\
+    link\t/etc/systemd/system/multi-user.target.wants/ssh.service\t\
+        /lib/systemd/system/ssh.service\t/usr/lib/systemd/system/ssh.service\n\
+    long link\t/a/b\t/a*4094\tits target\n\
+    long link\t/a/b\t/a*4095\tno path\n\
+    \n\
+    # A link to /dev/null masks.\n\
+    mask\t/dev/null\t\tyes\n\
+    mask\t../../../dev/null\t\tyes\n\
+    mask\t//dev/./null\t\tyes\n\
+    mask\t/../dev/x/../null/\t\tyes\n\
+    mask\tdev/null\t\tno\n\
+    mask\t/dev/null/x\t\tno\n\
+    mask\t/dev\t\tno\n\
+    mask\t/lib/systemd/null\t\tno\n\
+    mask\t/dev/nul\t\tno\n";
 
 /// Whether a target and its copy have this text.
 fn has_text(alloc: Global, text: &[u8]) -> Result<bool, TargetError> {
@@ -11,75 +58,31 @@ fn has_text(alloc: Global, text: &[u8]) -> Result<bool, TargetError> {
     Ok(target.text() == text && copy.text() == text)
 }
 
-#[test]
-fn targets_are_short_texts(rt: HostRuntime) -> Result<(), Fail> {
-    let alloc = rt.alloc();
-    for text in [b"a".as_slice(), b"/", b"../../b", b" ", &[b'a'; 4095]] {
-        let has_text = ample!(has_text(alloc, text), TargetError::OutOfMemory)?;
-        assert!(rt; has_text);
+fn parsed(alloc: Global, text: &[u8]) -> Result<Vec<u8>, AllocError> {
+    match has_text(alloc, text) {
+        Ok(true) => Vec::from_slice(alloc, b"a target"),
+        Ok(false) => Vec::from_slice(alloc, b"another target"),
+        Err(TargetError::BadTarget) => Vec::from_slice(alloc, b"bad target"),
+        Err(TargetError::OutOfMemory) => Err(AllocError),
     }
-    for text in [b"".as_slice(), b"a\0", b"a\tb", b"\n", &[b'a'; 4096]] {
-        let refused = Target::parse(alloc, text);
-        assert!(rt; matches!(refused, Err(TargetError::BadTarget)));
-    }
-    Ok(())
 }
 
-/// Whether a link at a path with a target leads to this path, or, where that is empty, to none.
-fn leads_to(alloc: Global, from: &[u8], target: &[u8], to: &[u8]) -> Result<bool, AllocError> {
+/// Where a link leads.
+fn end_of(alloc: Global, from: &[u8], target: &[u8]) -> Result<Vec<u8>, AllocError> {
     let from = path(alloc, from)?;
-    Ok(match canonical(alloc, &from, target)? {
-        Some(found) => found.text() == to,
-        None => to.is_empty(),
-    })
-}
-
-#[test]
-fn links_lead_to_canonical_paths(rt: HostRuntime) -> Result<(), Fail> {
-    let wants = b"/etc/systemd/system/multi-user.target.wants/ssh.service";
-    let links: [(&[u8], &[u8], &[u8]); 16] = [
-        (b"/a/b", b"c", b"/a/c"),
-        (b"/a/b", b"/c/d", b"/c/d"),
-        (b"/a/b", b"../..", b""),
-        (b"/a/b", b"..", b""),
-        (b"/a/b", b".", b"/a"),
-        (b"/a/b/c", b"../d", b"/a/d"),
-        (b"/a/b", b"//c//d/", b"/c/d"),
-        (b"/a/b", b"/./c/./d", b"/c/d"),
-        (b"/a/b", b"/../../c", b"/c"),
-        (b"/a/b", b"../../../../c", b"/c"),
-        (
-            wants,
-            b"../../../../lib/systemd/system/ssh.service",
-            b"/usr/lib/systemd/system/ssh.service",
-        ),
-        (
-            wants,
-            b"/lib/systemd/system/ssh.service",
-            b"/usr/lib/systemd/system/ssh.service",
-        ),
-        (b"/a/b", b"/lib/systemd", b"/lib/systemd"),
-        (b"/a/b", b"/lib/systemdx/c", b"/lib/systemdx/c"),
-        (b"/a/b", b"/x/lib/systemd/c", b"/x/lib/systemd/c"),
-        (b"/a/b", b"/lib/systemd/", b"/lib/systemd"),
-    ];
-    for (from, target, to) in links {
-        let leads = ample!(leads_to(rt.alloc(), from, target, to), AllocError)?;
-        assert!(rt; leads);
+    match canonical(alloc, &from, target)? {
+        Some(end) => Vec::from_slice(alloc, end.text()),
+        None => Vec::from_slice(alloc, b"no path"),
     }
-    Ok(())
 }
 
-#[test]
-fn links_lead_to_no_longer_path(rt: HostRuntime) -> Result<(), Fail> {
-    let mut long = [b'a'; 4096];
-    long[0] = b'/';
-    let longest = long.get(..4095).unwrap_or(&[]);
-    let leads = ample!(leads_to(rt.alloc(), b"/a/b", longest, longest), AllocError)?;
-    assert!(rt; leads);
-    let leads_nowhere = ample!(leads_to(rt.alloc(), b"/a/b", &long, b""), AllocError)?;
-    assert!(rt; leads_nowhere);
-    Ok(())
+/// Where a link leads, if not to its target as it is written.
+fn end_of_long(alloc: Global, from: &[u8], target: &[u8]) -> Result<Vec<u8>, AllocError> {
+    let end = end_of(alloc, from, target)?;
+    if end.as_slice() == target {
+        return Vec::from_slice(alloc, b"its target");
+    }
+    Ok(end)
 }
 
 /// Whether a link with this target masks a unit.
@@ -89,22 +92,30 @@ fn masks(alloc: Global, target: &[u8]) -> Result<bool, TargetError> {
     Ok(is_null_target(&from, &target))
 }
 
-#[test]
-fn links_to_dev_null_mask(rt: HostRuntime) -> Result<(), Fail> {
-    let targets: [(&[u8], bool); 9] = [
-        (b"/dev/null", true),
-        (b"../../../dev/null", true),
-        (b"//dev/./null", true),
-        (b"/../dev/x/../null/", true),
-        (b"dev/null", false),
-        (b"/dev/null/x", false),
-        (b"/dev", false),
-        (b"/lib/systemd/null", false),
-        (b"/dev/nul", false),
-    ];
-    for (target, expected) in targets {
-        let masks = ample!(masks(rt.alloc(), target), TargetError::OutOfMemory)?;
-        assert_eq!(rt; masks, expected);
+fn is_mask(alloc: Global, target: &[u8]) -> Result<Vec<u8>, AllocError> {
+    match masks(alloc, target) {
+        Ok(masks) => yes_or_no(alloc, masks),
+        Err(_) => Err(AllocError),
     }
-    Ok(())
+}
+
+fn answer(alloc: Global, row: &Row) -> Result<Vec<u8>, AllocError> {
+    if is(row, b"parse") {
+        parsed(alloc, &row.one)
+    } else if is(row, b"parse long") {
+        parsed(alloc, &in_full(alloc, &row.one)?)
+    } else if is(row, b"link") {
+        end_of(alloc, &row.one, &row.two)
+    } else if is(row, b"long link") {
+        end_of_long(alloc, &row.one, &in_full(alloc, &row.two)?)
+    } else if is(row, b"mask") {
+        is_mask(alloc, &row.one)
+    } else {
+        Vec::from_slice(alloc, b"unknown kind")
+    }
+}
+
+#[test]
+fn links_lead_to_canonical_paths(rt: HostRuntime) -> Result<(), Fail> {
+    assert_rows(&rt, rt.alloc(), ROWS, answer)
 }

@@ -11,8 +11,8 @@ invariant_of-self-2 g c =
     let rows = c.self.inside.rows.items in
     let room : length rows < c.self.inside.limit = subst (λ (v : Log g.row.O.Denot). length v.rows < v.limit) (sym c.self.view_is) c.requires.room in
     let why = subst (λ (v : Log g.row.O.Denot). undo_refusal g.O.Operation.asks v.rows c.args.n ≡ Some c.args.refusal) (sym c.self.view_is) c.requires.why in (
-      rw (c.in_ok-push.ensures.items, c.of_undo-row.ensures)
+      rw (c.push_reserved.ensures.items, c.in_ok-reserve.ensures.items, c.of_undo-row.ensures)
           (kept-refuse c.args.operator c.self.inside.first c.self.inside.tree rows c.self.inside.limit c.args.n c.args.refusal room why c.self.invariant.0),
-      rw (c.in_ok-push.ensures.items, c.of_undo-row.ensures)
+      rw (c.push_reserved.ensures.items, c.in_ok-reserve.ensures.items, c.of_undo-row.ensures)
           (agrees_undo g.O.Operation.asks c.self.inside.readers rows c.args.operator c.args.n (UndoRefused c.args.refusal) c.self.invariant.1),
     )

@@ -1,0 +1,67 @@
+-- For loops that take one argument after another: steps in turn, in a form in which each turn of
+-- the loop computes one step.
+use Rattle.std.proofs.Common.{◌≡◌, List, [], ◌∷◌, ◌++◌, Result, Ok, Err, refl, sym, ap, ◌∙◌}
+use Rattle.link_tree.specs.Trees.{Entries}
+use Rattle.footprint.specs.declared.key.Key.{Key}
+use Rattle.footprint.specs.declared.refusal.Refusal.{Refusal}
+use Rattle.footprint.specs.Placing.{Placed, Ruling, placed_in, placed_before, concluded_after, keys_after}
+use Rattle.footprint.specs.Steps.{Step, each_in_turn}
+use Rattle.footprint.proofs.Turns.{left_more}
+use Rattle.transaction.specs.Runs.{Run, taking, placed_by}
+use Rattle.transaction.specs.Seen.{Transacted}
+
+-- the rest of a run, which is done only if the first part was not refused
+abbrev pub concluded_on : (Entries → Result (Unit {0} × Entries) Refusal) → Result (Unit {0} × Entries) Refusal → Result (Unit {0} × Entries) Refusal
+concluded_on on (Ok done) = on done.1
+concluded_on on (Err refusal) = Err refusal
+
+abbrev pub looked_on : (Entries → List Key) → Result (Unit {0} × Entries) Refusal → List Key
+looked_on on (Ok done) = on done.1
+looked_on on (Err refusal) = []
+
+abbrev pub concluded : {A : Type 0} → (A → Step) → List A → Entries → Result (Unit {0} × Entries) Refusal
+concluded step [] t = Ok (tt, t)
+concluded step (a ∷ rest) t = concluded_on (concluded step rest) (placed_by ((step a).conclusion t) t)
+
+abbrev pub looked : {A : Type 0} → (A → Step) → List A → Entries → List Key
+looked step [] t = []
+looked step (a ∷ rest) t = (step a).keys t ++ looked_on (looked step rest) (placed_by ((step a).conclusion t) t)
+
+-- a step for each of these arguments
+abbrev pub turns : {A : Type 0} → (A → Step) → List A → Run (Unit {0})
+turns step args = record { conclusion = concluded step args; keys = looked step args }
+
+placed_more : (placed : List Placed) (ruling : Ruling) (t : Entries) → placed_by (placed_before placed ruling) t ≡ placed_by ruling (placed_in placed t)
+placed_more placed (Ok more) t = ap alone (left_more placed (Ok more) t)
+  where
+    alone : Result Entries Refusal → Result (Unit {0} × Entries) Refusal
+    alone (Ok u) = Ok (tt, u)
+    alone (Err refusal) = Err refusal
+placed_more placed (Err refusal) t = refl
+
+then_concluded : (ruling : Ruling) (next : Entries → Ruling) (t : Entries) → concluded_on (λ u. placed_by (next u) u) (placed_by ruling t) ≡ placed_by (concluded_after ruling next t) t
+then_concluded (Ok placed) next t = sym (placed_more placed (next (placed_in placed t)) t)
+then_concluded (Err refusal) next t = refl
+
+then_looked : (ruling : Ruling) (keys : Entries → List Key) (t : Entries) → looked_on keys (placed_by ruling t) ≡ keys_after ruling keys t
+then_looked (Ok placed) keys t = refl
+then_looked (Err refusal) keys t = refl
+
+-- This form does what `each_in_turn` does.
+pub turns_conclude : {A : Type 0} (step : A → Step) (args : List A) (t : Entries) → concluded step args t ≡ placed_by ((each_in_turn step args).conclusion t) t
+turns_conclude step [] t = refl
+turns_conclude step (a ∷ rest) t =
+    (λ i. concluded_on (λ u. turns_conclude step rest u i) (placed_by ((step a).conclusion t) t)) ∙ then_concluded ((step a).conclusion t) (each_in_turn step rest).conclusion t
+
+pub turns_look : {A : Type 0} (step : A → Step) (args : List A) (t : Entries) → looked step args t ≡ (each_in_turn step args).keys t
+turns_look step [] t = refl
+turns_look step (a ∷ rest) t =
+    ap (λ keys. (step a).keys t ++ keys)
+    ((λ i. looked_on (λ u. turns_look step rest u i) (placed_by ((step a).conclusion t) t)) ∙ then_looked ((step a).conclusion t) (each_in_turn step rest).keys t)
+
+-- The invariant of a loop: from the tree as it is now, the rest of the arguments leads to what all
+-- of them lead to from the first one, and what it looks at follows what was looked at so far.
+abbrev pub GoesOn : {A : Type 0} → (A → Step) → (rest args : List A) → (old now : Transacted) → Type 0
+GoesOn step rest args old now =
+    ((turns step rest).conclusion now.tree ≡ (taking (each_in_turn step args)).conclusion old.tree)
+    × (now.keys ++ (turns step rest).keys now.tree ≡ old.keys ++ (taking (each_in_turn step args)).keys old.tree) × (now.first ≡ old.first)

@@ -1,0 +1,75 @@
+-- What the functions do that are given a transaction.
+use Rattle.std.specs.Prelude.{◌≡◌, ℕ, List, ◌++◌, Option, Result, Ok, Err}
+use Rattle.std.specs.FinMap as map
+use Rattle.unit_file.specs.Notices.{NoticeMap}
+use Rattle.link_tree.specs.Trees.{Entries, set_entry}
+use Rattle.link_tree.specs.declared.entry.Entry.{Entry}
+use Rattle.footprint.specs.declared.key.Key.{Key}
+use Rattle.footprint.specs.declared.outcome.Outcome.{Outcome}
+use Rattle.footprint.specs.declared.refusal.Refusal.{Refusal}
+use Rattle.footprint.specs.Edits.{ended}
+use Rattle.footprint.specs.Inquiry.{Inquiry}
+use Rattle.footprint.specs.Placing.{Ruling, placed_in}
+use Rattle.footprint.specs.Steps.{Step}
+use Rattle.transaction.specs.declared.stop.Stop.{Stop}
+use Rattle.transaction.specs.declared.stop.Stop.TheVariants.{Refused, OutOfMemory}
+use Rattle.transaction.specs.Seen.{Transacted}
+
+-- What a function does from a tree on: its value with the tree that it leaves, or its refusal; and
+-- the keys of what it looks at.
+pub record Run (X : Type 0) : Type 0 where
+  pub conclusion : Entries → Result (X × Entries) Refusal
+  pub keys : Entries → List Key
+
+-- a value with an unchanged tree, or the refusal
+abbrev pub with_tree : {X : Type 0} → Entries → Result X Refusal → Result (X × Entries) Refusal
+with_tree t (Ok x) = Ok (x, t)
+with_tree t (Err refusal) = Err refusal
+
+-- the tree in which all is placed that a ruling places, or the refusal
+abbrev pub placed_by : Ruling → Entries → Result (Unit {0} × Entries) Refusal
+placed_by (Ok placed) t = Ok (tt, placed_in placed t)
+placed_by (Err refusal) t = Err refusal
+
+-- an inquiry leaves the tree as it is
+abbrev pub asking : {X : Type 0} → Inquiry X → Run X
+asking q = record { conclusion = λ t. Ok (q.conclusion t, t); keys = q.keys }
+
+-- so does an inquiry that may result in a refusal
+abbrev pub asking_for : {X : Type 0} → Inquiry (Result X Refusal) → Run X
+asking_for q = record { conclusion = λ t. with_tree t (q.conclusion t); keys = q.keys }
+
+-- a step leaves what it places
+abbrev pub taking : Step → Run (Unit {0})
+taking step = record { conclusion = λ t. placed_by (step.conclusion t) t; keys = step.keys }
+
+-- The contract of functions that are given a transaction, which was so before and is so afterwards:
+-- with this result they did the run. If memory ran out, only the first tree is known to be the
+-- same.
+abbrev pub Runs : {X : Type 0} → Run X → (old new : Transacted) → Result X Stop → Type 0
+Runs run old new (Ok x) = (run.conclusion old.tree ≡ Ok (x, new.tree)) × (new.keys ≡ old.keys ++ run.keys old.tree) × (new.first ≡ old.first)
+Runs run old new (Err (Refused refusal)) = (run.conclusion old.tree ≡ Err refusal) × (new.keys ≡ old.keys ++ run.keys old.tree) × (new.first ≡ old.first)
+Runs run old new (Err OutOfMemory) = new.first ≡ old.first
+
+-- The contract of functions that decide without a transaction: the result is this value or refusal,
+-- unless memory ran out.
+abbrev pub Gives : {X : Type 0} → Result X Refusal → Result X Stop → Type 0
+Gives decided (Ok x) = decided ≡ Ok x
+Gives decided (Err (Refused refusal)) = decided ≡ Err refusal
+Gives decided (Err OutOfMemory) = Unit {0}
+
+-- an entry is put at a slot, or what is there is removed
+abbrev pub put : List ℕ → Option Entry → Transacted → Transacted
+put slot entry old = record old { tree = set_entry old.tree slot entry }
+
+-- The outcome of a command that has ended. Its changes lead from the first tree to the last one; a
+-- refusal has none. There is no outcome if memory ran out.
+abbrev pub Closes : Transacted → Result NoticeMap Stop → Outcome → Type 0
+Closes txn (Ok notices) outcome = outcome ≡ ended txn.first txn.keys notices (Ok (txn.first, txn.tree))
+Closes txn (Err (Refused refusal)) outcome = outcome ≡ ended txn.first txn.keys map.empty (Err refusal)
+Closes txn (Err OutOfMemory) outcome = ⊥
+
+-- the same of a command that reports nothing
+abbrev pub silently : Result (Unit {0}) Stop → Result NoticeMap Stop
+silently (Ok done) = Ok map.empty
+silently (Err stop) = Err stop

@@ -1,0 +1,179 @@
+//! Trees that a command reads and edits.
+ghost use Rattle.std.specs.Prelude.{◌≡◌, [], true, Ok, All, IfOk, OnOk, OnErr};
+ghost use Rattle.unit_paths.specs.Slots.{is_slot};
+ghost use Rattle.load_path.specs.Find.{find};
+ghost use Rattle.load_path.specs.Follow.{follow};
+ghost use Rattle.footprint.specs.Inquiry.{by_cells, giving, stands_at};
+ghost use Rattle.footprint.specs.Units.{found_unit};
+ghost use Rattle.transaction.specs.Seen.{tree_of, StartsAt};
+ghost use Rattle.transaction.specs.Runs.{asking, asking_for, put, silently, Runs, Closes};
+
+use crate::stop::Stop;
+use footprint::{Edit, Key, Keys, Notices, Outcome, Refusal, Subject};
+use link_tree::{Entry, Tree, TreePath};
+use load_path::{End, Found};
+use std::alloc::{AllocError, Global};
+use std::marker::Model;
+use unit_name::UnitName;
+
+/// A tree that a command reads and edits: as it was at first, as it is now, and the keys of what
+/// was looked at. The first tree itself never changes: the edits become the changes of an outcome.
+/// If memory runs out, the edits may be lost, and the command must be given up. Contracts see the
+/// two trees and the keys.
+#[derive(Drop)]
+pub struct Transaction<'t> {
+    first: &'t Tree,
+    /// `None` as long as nothing is edited.
+    edit: Option<Edit<'t>>,
+    keys: Keys,
+}
+
+impl<'t> Model for Transaction<'t> {
+    ghost use Rattle.std.specs.Coded.{codes};
+    ghost use Rattle.std.specs.FinMap as map;
+    ghost use Rattle.link_tree.specs.Trees.{path_cmp};
+    ghost use Rattle.link_tree.specs.Values.{coded_path, coded_entry};
+    ghost use Rattle.transaction.specs.Seen.{Transacted, tree_of, StartsAt};
+
+    ghost Value = { Transacted };
+
+    ghost coded = { Prim.hlevel (codes, map.code {R = path_cmp} coded_path coded_entry) };
+
+    ghost view = { λ txn. record { first = txn.first.now; tree = tree_of txn.first.now txn.edit; keys = txn.keys } };
+
+    ghost invariant = { λ txn. StartsAt txn.first.now txn.edit };
+}
+
+/// The tree as it is now.
+fn current<'a>(first: &'a Tree, edit: &'a Option<Edit<'_>>) -> &'a Tree
+    ensures { result.now ≡ tree_of first.now edit.now }
+{
+    match edit {
+        Some(edit) => edit.tree(),
+        None => first,
+    }
+}
+
+/// The edit so far; a new one if nothing was edited.
+fn begun<'t>(alloc: Global, first: &'t Tree, edit: Option<Edit<'t>>) -> Result<Edit<'t>, AllocError>
+    requires { StartsAt first.now edit }
+    ensures { IfOk result (λ begun. begun ≡ (first.now, tree_of first.now edit.entry)) }
+{
+    match edit {
+        Some(edit) => Ok(edit),
+        None => Edit::new(alloc, first),
+    }
+}
+
+impl<'t> Transaction<'t> {
+    /// Begins a command on a tree: nothing has been looked at or edited yet. Takes no memory.
+    pub fn new(alloc: Global, tree: &'t Tree) -> Transaction<'t>
+        ensures { result ≡ record { first = tree.now; tree = tree.now; keys = [] } }
+    {
+        Transaction {
+            first: tree,
+            edit: None,
+            keys: Keys::none(alloc),
+        }
+    }
+
+    /// What is at a path now, after all edits so far. Notes that the path was looked at. Fails only
+    /// if memory runs out.
+    pub fn get(&mut self, path: &TreePath) -> Result<Option<Entry>, AllocError>
+        ensures ok { IfOk result (λ entry. Runs (asking (stands_at path.now)) self.old self.new (Ok entry)) }
+        ensures err { OnErr result (self.new.first ≡ self.old.first) }
+    {
+        self.keys.push(Key::Cell(path.copy()?))?;
+        match current(self.first, &self.edit).get(path) {
+            Some(entry) => Ok(Some(entry.copy()?)),
+            None => Ok(None),
+        }
+    }
+
+    /// Looks up a unit that the command needs, and returns its own name and the path of its file:
+    /// systemd.unit(5), "Unit File Load Path". Notes each path that was looked at. Refused by
+    /// `NotFound` if no directory has the unit, by `Masked` if it is masked, and by `Dangling` with
+    /// the last link if its links lead to nothing.
+    pub fn unit(&mut self, alloc: Global, name: &UnitName) -> Result<(UnitName, TreePath), Stop>
+        ensures { Runs (asking_for (giving (by_cells (find name.now)) (found_unit name.now))) self.old self.new result }
+    {
+        match self.find(alloc, name)? {
+            Found::Missing => Err(Stop::Refused(Refusal::NotFound(Subject::Unit(name.copy()?)))),
+            Found::Masked(_) => Err(Stop::Refused(Refusal::Masked(Subject::Unit(name.copy()?)))),
+            Found::Dangling(link) => Err(Stop::Refused(Refusal::Dangling(link))),
+            Found::Unit { real, file, .. } => Ok((real, file)),
+        }
+    }
+
+    /// Looks up a unit that may also be missing or masked. Notes each path that was looked at.
+    /// Fails only if memory runs out.
+    pub fn find(&mut self, alloc: Global, name: &UnitName) -> Result<Found, AllocError>
+        ensures ok { IfOk result (λ found. Runs (asking (by_cells (find name.now))) self.old self.new (Ok found)) }
+        ensures err { OnErr result (self.new.first ≡ self.old.first) }
+    {
+        let tree = current(self.first, &self.edit);
+        self.keys.find(alloc, tree, name)
+    }
+
+    /// Follows links from a path to their end. Notes each path that was looked at. Fails only if
+    /// memory runs out.
+    pub fn follow(&mut self, alloc: Global, path: &TreePath) -> Result<End, AllocError>
+        ensures ok { IfOk result (λ end. Runs (asking (by_cells (follow path.now))) self.old self.new (Ok end)) }
+        ensures err { OnErr result (self.new.first ≡ self.old.first) }
+    {
+        let tree = current(self.first, &self.edit);
+        self.keys.follow(alloc, tree, path)
+    }
+
+    /// Replaces what is at a slot by an entry, or removes it if `entry` is `None`. The path must be
+    /// a slot, which `Slot::of` tests. Fails only if memory runs out, and then all edits so far are
+    /// lost.
+    pub fn put(
+        &mut self,
+        alloc: Global,
+        slot: &TreePath,
+        entry: Option<Entry>,
+    ) -> Result<(), AllocError>
+        requires { is_slot slot.now ≡ true }
+        ensures ok { OnOk result (self.new ≡ put slot.now entry self.old) }
+        ensures err { OnErr result (self.new.first ≡ self.old.first) }
+    {
+        let edit = begun(alloc, self.first, self.edit.take())?;
+        self.edit = Some(edit.with(slot, entry)?);
+        Ok(())
+    }
+
+    /// Ends the command: makes the outcome of what it did, with the notices that it reports. After
+    /// a refusal the outcome has no changes. Fails if memory ran out, during the command or here.
+    pub fn outcome(self, alloc: Global, done: Result<Notices, Stop>) -> Result<Outcome, AllocError>
+        ensures outcome { IfOk result (Closes self.entry done) }
+        ensures slots { IfOk result (λ outcome. All (λ change. is_slot change.path ≡ true) outcome.changes) }
+    {
+        let Transaction { first, edit, keys } = self;
+        match done {
+            Ok(notices) => {
+                let edit = begun(alloc, first, edit)?;
+                Outcome::of(alloc, first, keys, notices, Ok(edit))
+            }
+            Err(Stop::Refused(refusal)) => {
+                Outcome::of(alloc, first, keys, Notices::none(alloc), Err(refusal))
+            }
+            Err(Stop::OutOfMemory) => Err(AllocError),
+        }
+    }
+
+    /// Ends a command that reports no notices: as `outcome`.
+    pub fn outcome_of_steps(
+        self,
+        alloc: Global,
+        done: Result<(), Stop>,
+    ) -> Result<Outcome, AllocError>
+        ensures outcome { IfOk result (Closes self.entry (silently done)) }
+        ensures slots { IfOk result (λ outcome. All (λ change. is_slot change.path ≡ true) outcome.changes) }
+    {
+        match done {
+            Ok(()) => self.outcome(alloc, Ok(Notices::none(alloc))),
+            Err(stop) => self.outcome(alloc, Err(stop)),
+        }
+    }
+}
