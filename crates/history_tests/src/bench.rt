@@ -1,12 +1,26 @@
-//! A history and a plan, what words do with them, and what comes of each word, in two bytes.
+//! A history and a plan, and what words do with them.
+//!
+//! | Word | What is done | What it answers |
+//! |---|---|---|
+//! | `put:a`, `undo:1` and the like | alice calls it | the reply of the row; `full` |
+//! | `plan:put:a` | a plan of the step is made, on the tree as it is | `planned` |
+//! | `commit` | bob commits the plan | `row:2`; `stale:a`, `full`, `no-plan` |
+//! | `answer` | the plan is asked what it answers | `accepted` or `refused`; `no-plan` |
+//! | `take-apart:put:a` | the plan is taken apart, which is of this step | `put:a`; `no-plan` |
+//! | `index` | each row is looked up | `1:read-by:1,2:blocked-by:2 2:unread` (`index.rt`) |
+//!
+//! A plan that is stale is kept, and so is one that is committed to a full history.
 
 ghost use Rattle.std.specs.Prelude.{◌≤◌};
 
 use crate::index::{agrees, push_index};
 use footprint::{Answer, Operation};
 use history::{CallError, Commit, History, MAX_ROWS, Operator, Plan, Uncommitted, Unrun};
-use link_tree::Tree;
-use sample_steps::{Step, digit, number, operator, reply_text, step, unit_at};
+use link_tree::{Tree, push_decimal};
+use sample_steps::{
+    Step, begin_word, is, number, operator, parts, push_numbered, push_pair, push_reply, step,
+    unit_at,
+};
 use std::alloc::{AllocError, Global};
 
 #[derive(Drop)]
@@ -25,190 +39,183 @@ fn begun(alloc: Global, limit: usize) -> Result<Box<History<Step>>, AllocError>
 }
 
 impl Bench {
-    /// A history of the empty tree, and no plan. One that is small has room for one row.
-    pub(crate) fn new(alloc: Global, is_small: bool) -> Result<Bench, AllocError> {
-        let limit = if is_small { 1 } else { MAX_ROWS };
+    /// A history of the empty tree, and no plan. One that is short has room for one row.
+    pub(crate) fn new(alloc: Global, is_short: bool) -> Result<Bench, AllocError> {
+        let limit = if is_short { 1 } else { MAX_ROWS };
         Ok(Bench {
             history: begun(alloc, limit)?,
             plan: None,
         })
     }
 
-    /// What the last row says.
-    fn last(&self) -> [u8; 2] {
+    /// Adds the reply of the last row.
+    fn push_last(&self, out: &mut Vec<u8>) -> Result<(), AllocError> {
         match self.history.rows().last() {
-            Some(row) => reply_text(&row.reply),
-            None => *b"--",
+            Some(row) => push_reply(out, &row.reply),
+            None => out.extend_from_slice(b"no-row"),
         }
     }
 
-    /// Whether there are as many rows as before, and what is looked up of them is what a walk finds.
+    /// Whether there are as many rows as before, and the history looks up what a walk finds.
     fn is_as_before(&self, alloc: Global, rows: usize) -> Result<bool, AllocError> {
         Ok(self.history.rows().len() == rows && agrees(alloc, &self.history)?)
     }
 
-    /// Where memory ran out, calls the operation that came back; where the history is full, that is the step of the same sign and unit.
+    /// If memory ran out, calls the operation that came back; if the history is full, that is the
+    /// step of the word.
     fn call_again(
         &mut self,
         alloc: Global,
-        caller: Operator,
         unrun: Unrun<Step>,
-        [sign, unit]: [u8; 2],
-    ) -> Result<[u8; 2], AllocError> {
+        word: &[u8],
+        out: &mut Vec<u8>,
+    ) -> Result<(), AllocError> {
         let Unrun { operation, why } = unrun;
         if why == CallError::Full {
-            return came_back(alloc, &operation, sign, unit);
+            return push_if_same(alloc, &operation, word, b"full", out);
         }
-        match self.history.call(alloc, caller, operation) {
-            Ok(_) => Ok(self.last()),
+        match self.history.call(alloc, operator(b"alice")?, operation) {
+            Ok(_) => self.push_last(out),
             Err(_) => Err(AllocError),
         }
     }
 
-    fn call(
-        &mut self,
-        alloc: Global,
-        caller: Operator,
-        [sign, unit]: [u8; 2],
-    ) -> Result<[u8; 2], AllocError> {
+    /// Alice's call of the step of a word.
+    fn call(&mut self, alloc: Global, word: &[u8], out: &mut Vec<u8>) -> Result<(), AllocError> {
         let rows = self.history.rows().len();
-        let unrun = match self.history.call(alloc, caller, step(alloc, sign, unit)?) {
-            Ok(_) => return Ok(self.last()),
+        let step = step(alloc, word)?;
+        let unrun = match self.history.call(alloc, operator(b"alice")?, step) {
+            Ok(_) => return self.push_last(out),
             Err(unrun) => unrun,
         };
         if self.is_as_before(alloc, rows)? {
-            self.call_again(alloc, caller, unrun, [sign, unit])
+            self.call_again(alloc, unrun, word, out)
         } else {
-            Ok(*b"!!")
+            out.extend_from_slice(b"changed")
         }
     }
 
-    /// Where memory ran out, undoes the row then.
+    /// If memory ran out, undoes the row then.
     fn undo_again(
         &mut self,
         alloc: Global,
-        caller: Operator,
         n: u32,
         why: CallError,
-    ) -> Result<[u8; 2], AllocError> {
+        out: &mut Vec<u8>,
+    ) -> Result<(), AllocError> {
         if why == CallError::Full {
-            return Ok(*b"f-");
+            return out.extend_from_slice(b"full");
         }
-        match self.history.undo(alloc, caller, n) {
-            Ok(_) => Ok(self.last()),
+        match self.history.undo(alloc, operator(b"alice")?, n) {
+            Ok(_) => self.push_last(out),
             Err(_) => Err(AllocError),
         }
     }
 
-    fn undo(&mut self, alloc: Global, caller: Operator, n: u32) -> Result<[u8; 2], AllocError> {
+    /// Alice's undo of a row.
+    fn undo(&mut self, alloc: Global, n: u32, out: &mut Vec<u8>) -> Result<(), AllocError> {
         let rows = self.history.rows().len();
-        let why = match self.history.undo(alloc, caller, n) {
-            Ok(_) => return Ok(self.last()),
+        let why = match self.history.undo(alloc, operator(b"alice")?, n) {
+            Ok(_) => return self.push_last(out),
             Err(why) => why,
         };
         if self.is_as_before(alloc, rows)? {
-            self.undo_again(alloc, caller, n, why)
+            self.undo_again(alloc, n, why, out)
         } else {
-            Ok(*b"!!")
+            out.extend_from_slice(b"changed")
         }
     }
 
-    fn plan(&mut self, alloc: Global, step: Step) -> Result<[u8; 2], AllocError> {
-        self.plan = Some(planned(alloc, self.history.tree(), step)?);
-        Ok(*b"p-")
+    fn plan(&mut self, alloc: Global, word: &[u8], out: &mut Vec<u8>) -> Result<(), AllocError> {
+        self.plan = Some(planned(alloc, self.history.tree(), step(alloc, word)?)?);
+        out.extend_from_slice(b"planned")
     }
 
-    /// Keeps a plan that makes no row.
-    fn keep(
+    /// Bob commits the plan, which is kept if it makes no row.
+    fn commit(&mut self, alloc: Global, out: &mut Vec<u8>) -> Result<(), AllocError> {
+        let bob = operator(b"bob")?;
+        let Some(plan) = self.plan.take() else {
+            return out.extend_from_slice(b"no-plan");
+        };
+        let committing = Box::new(alloc, committed(&mut self.history, bob, plan))?;
+        push_committed(out, &committing)?;
+        self.plan = kept_plan(alloc, committing)?;
+        Ok(())
+    }
+
+    /// What the plan answers.
+    fn answered(&self) -> &'static [u8] {
+        match &self.plan {
+            Some(plan) if matches!(plan.answer(), Answer::Refused(_)) => b"refused",
+            Some(_) => b"accepted",
+            None => b"no-plan",
+        }
+    }
+
+    /// Takes the plan apart, which is of the step of a word.
+    fn take_apart(
         &mut self,
         alloc: Global,
-        plan: Plan<Step>,
-        said: [u8; 2],
-    ) -> Result<[u8; 2], AllocError> {
-        self.plan = Some(Box::new(alloc, plan)?);
-        Ok(said)
-    }
-
-    fn commit(&mut self, alloc: Global, committer: Operator) -> Result<[u8; 2], AllocError> {
-        let Some(plan) = self.plan.take() else {
-            return Ok(*b"n-");
-        };
-        match committed(&mut self.history, committer, plan) {
-            Ok(Commit::Committed(n)) => Ok([b'k', digit(n)]),
-            Ok(Commit::Stale { plan, at }) => self.keep(alloc, plan, [b's', unit_at(&at)]),
-            Err(
-                Uncommitted {
-                    plan,
-                    why: CallError::Full,
-                },
-            ) => self.keep(alloc, plan, *b"f-"),
-            Err(_) => Err(AllocError),
-        }
-    }
-
-    /// What the plan answered.
-    fn answered(&self) -> [u8; 2] {
-        match &self.plan {
-            Some(plan) if matches!(plan.answer(), Answer::Refused(_)) => *b"ar",
-            Some(_) => *b"ak",
-            None => *b"a-",
-        }
-    }
-
-    /// Takes the plan apart, which is of a step of a sign and a unit.
-    fn take_apart(&mut self, alloc: Global, sign: u8, unit: u8) -> Result<[u8; 2], AllocError> {
+        word: &[u8],
+        out: &mut Vec<u8>,
+    ) -> Result<(), AllocError> {
         match self.plan.take() {
-            Some(plan) => came_back(alloc, &Box::into_inner(plan).into_op(), sign, unit),
-            None => Ok(*b"n-"),
+            Some(plan) => {
+                let operation = Box::into_inner(plan).into_op();
+                push_if_same(alloc, &operation, word, word, out)
+            }
+            None => out.extend_from_slice(b"no-plan"),
         }
     }
 
-    /// What comes of a word: `+a` is a call of alice's, and `u1` her undo of row 1; `p+a` makes a plan of the step `+a` on the tree as it is, and
-    /// `c` commits it for bob; `?` asks what the plan answered, and `o+a` takes apart a plan of the step `+a`.
-    pub(crate) fn answer(&mut self, alloc: Global, word: &[u8]) -> Result<[u8; 2], AllocError> {
-        match word {
-            [b'c'] => self.commit(alloc, operator(b"bob")?),
-            [b'?'] => Ok(self.answered()),
-            [b'u', n] => self.undo(alloc, operator(b"alice")?, number(*n)),
-            [sign, unit] => self.call(alloc, operator(b"alice")?, [*sign, *unit]),
-            [b'p', sign, unit] => self.plan(alloc, step(alloc, *sign, *unit)?),
-            [b'o', sign, unit] => self.take_apart(alloc, *sign, *unit),
-            _ => Err(AllocError),
+    /// Does what a word says, and adds what it answers.
+    pub(crate) fn answer(
+        &mut self,
+        alloc: Global,
+        word: &[u8],
+        out: &mut Vec<u8>,
+    ) -> Result<(), AllocError> {
+        let (first, rest) = parts(word);
+        if is(first, b"undo") {
+            return self.undo(alloc, number(rest), out);
         }
+        if is(first, b"plan") {
+            return self.plan(alloc, rest, out);
+        }
+        if is(first, b"commit") {
+            return self.commit(alloc, out);
+        }
+        if is(first, b"answer") {
+            return out.extend_from_slice(self.answered());
+        }
+        if is(first, b"take-apart") {
+            return self.take_apart(alloc, rest, out);
+        }
+        if is(first, b"index") {
+            return push_index(alloc, &self.history, out);
+        }
+        self.call(alloc, word, out)
     }
 
-    /// Adds what comes of the words of a script, of which `i` tells what is looked up of all rows.
+    /// Adds what the words of a script answer.
     fn play(&mut self, alloc: Global, script: &[u8], out: &mut Vec<u8>) -> Result<(), AllocError> {
         for word in script.split(|b| *b == b' ') {
-            if matches!(word, [b'i']) {
-                push_index(alloc, &self.history, out)?;
-            } else {
-                out.extend_from_slice(&self.answer(alloc, word)?)?;
-            }
+            begin_word(out)?;
+            self.answer(alloc, word, out)?;
         }
         Ok(())
     }
 
-    /// What comes of a script, and then how many entries the first tree and the last one have, each as a digit.
-    fn said(&mut self, alloc: Global, script: &[u8]) -> Result<Vec<u8>, AllocError> {
-        let mut out = Vec::new(alloc);
-        self.play(alloc, script, &mut out)?;
-        let counts = [
-            b' ',
-            count(self.history.first()),
-            count(self.history.tree()),
-        ];
-        out.extend_from_slice(&counts)?;
-        Ok(out)
+    /// Adds how many entries the first tree has, and how many the tree has now.
+    fn push_entries(&self, out: &mut Vec<u8>) -> Result<(), AllocError> {
+        out.extend_from_slice(b" / entries:")?;
+        push_decimal(out, self.history.first().len())?;
+        out.extend_from_slice(b" to:")?;
+        push_decimal(out, self.history.tree().len())
     }
 }
 
-/// How many entries a tree has, as a digit.
-fn count(tree: &Tree) -> u8 {
-    digit(u32::try_from(tree.len()).unwrap_or(99))
-}
-
-/// A plan. Where memory runs out, it is made of the operation that came back.
+/// A plan. If memory runs out, it is made of the operation that came back.
 fn planned(alloc: Global, tree: &Tree, step: Step) -> Result<Box<Plan<Step>>, AllocError> {
     let made = match Plan::make(alloc, step, tree) {
         Err(unrun) => Plan::make(alloc, unrun.operation, tree),
@@ -220,12 +227,15 @@ fn planned(alloc: Global, tree: &Tree, step: Step) -> Result<Box<Plan<Step>>, Al
     }
 }
 
-/// Commits a plan. Where memory runs out, the plan that came back is committed.
+/// What a commit answers.
+type Committing = Result<Commit<Plan<Step>>, Uncommitted<Plan<Step>>>;
+
+/// Commits a plan. If memory runs out, the plan that came back is committed.
 fn committed(
     history: &mut History<Step>,
     committer: Operator,
     plan: Box<Plan<Step>>,
-) -> Result<Commit<Plan<Step>>, Uncommitted<Plan<Step>>> {
+) -> Committing {
     match history.commit(committer, Box::into_inner(plan)) {
         Err(
             Uncommitted {
@@ -237,18 +247,48 @@ fn committed(
     }
 }
 
-/// Says that the step came back of a sign and a unit.
-fn came_back(alloc: Global, operation: &Step, sign: u8, unit: u8) -> Result<[u8; 2], AllocError> {
-    let expected = step(alloc, sign, unit)?;
-    Ok(if operation.same(&expected) {
-        [b'f', unit]
-    } else {
-        *b"f?"
-    })
+fn push_committed(out: &mut Vec<u8>, committing: &Committing) -> Result<(), AllocError> {
+    match committing {
+        Ok(Commit::Committed(n)) => push_numbered(out, b"row", *n),
+        Ok(Commit::Stale { plan: _, at }) => push_pair(out, b"stale", unit_at(at)),
+        Err(left) if left.why == CallError::Full => out.extend_from_slice(b"full"),
+        Err(_) => Err(AllocError),
+    }
 }
 
-/// What comes of a script on a history of the empty tree, and how many entries the first tree and the last one have.
-pub(crate) fn said(alloc: Global, is_small: bool, script: &[u8]) -> Result<Vec<u8>, AllocError> {
-    let mut bench = Bench::new(alloc, is_small)?;
-    bench.said(alloc, script)
+/// The plan, if it made no row.
+fn kept_plan(
+    alloc: Global,
+    committing: Box<Committing>,
+) -> Result<Option<Box<Plan<Step>>>, AllocError> {
+    match Box::into_inner(committing) {
+        Ok(Commit::Committed(_)) => Ok(None),
+        Ok(Commit::Stale { plan, at: _ }) => Ok(Some(Box::new(alloc, plan)?)),
+        Err(left) => Ok(Some(Box::new(alloc, left.plan)?)),
+    }
+}
+
+/// Adds what is said of a step that came back, if it is the step of the word.
+fn push_if_same(
+    alloc: Global,
+    operation: &Step,
+    word: &[u8],
+    said: &[u8],
+    out: &mut Vec<u8>,
+) -> Result<(), AllocError> {
+    if operation.same(&step(alloc, word)?) {
+        out.extend_from_slice(said)
+    } else {
+        out.extend_from_slice(b"another-step")
+    }
+}
+
+/// What the words of a script answer on a history of the empty tree, and how many entries the first
+/// tree and the last one have.
+pub(crate) fn said(alloc: Global, is_short: bool, script: &[u8]) -> Result<Vec<u8>, AllocError> {
+    let mut out = Vec::new(alloc);
+    let mut bench = Bench::new(alloc, is_short)?;
+    bench.play(alloc, script, &mut out)?;
+    bench.push_entries(&mut out)?;
+    Ok(out)
 }

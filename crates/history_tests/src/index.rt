@@ -1,12 +1,57 @@
-//! Which rows looked at what a row changed, and which row blocks it: as a history looks it up, and as a walk over its rows finds it.
+//! Which rows looked at what a row changed, and which row blocks its undo: as a history looks it
+//! up, and as a walk over its rows finds it.
 
 use footprint::touches;
 use history::{History, Row};
-use link_tree::Change;
-use sample_steps::{Step, digit};
+use link_tree::{Change, push_decimal};
+use sample_steps::{Step, push_numbered};
 use std::alloc::{AllocError, Global};
 
-/// For each row the rows that looked at what it changed, and the one that blocks it, each as a digit: `12:2 :- ` and so on.
+/// Adds a word for a row: `1:read-by:1,2:blocked-by:2`, `1:read-by:1`, or `1:unread`.
+fn push_found(
+    out: &mut Vec<u8>,
+    n: u32,
+    readers: &[u32],
+    blocker: Option<u32>,
+) -> Result<(), AllocError> {
+    if n > 1 {
+        out.extend_from_slice(b" ")?;
+    }
+    push_decimal(out, n as usize)?;
+    push_readers(out, readers)?;
+    match blocker {
+        Some(by) => push_numbered(out, b":blocked-by", by),
+        None => Ok(()),
+    }
+}
+
+fn push_readers(out: &mut Vec<u8>, readers: &[u32]) -> Result<(), AllocError> {
+    let mut before = b":read-by:".as_slice();
+    for reader in readers {
+        out.extend_from_slice(before)?;
+        push_decimal(out, *reader as usize)?;
+        before = b",";
+    }
+    if readers.is_empty() {
+        return out.extend_from_slice(b":unread");
+    }
+    Ok(())
+}
+
+/// The rows that the history lists as those that looked at what a row changed.
+fn listed_readers(
+    alloc: Global,
+    history: &History<Step>,
+    row: &Row<Step>,
+) -> Result<Vec<u32>, AllocError> {
+    let mut readers = Vec::new(alloc);
+    for change in row.changes.as_slice() {
+        readers.extend_from_slice(&history.readers(alloc, change)?)?;
+    }
+    Ok(readers)
+}
+
+/// Adds a word for each row, as the history looks it up.
 pub(crate) fn push_index(
     alloc: Global,
     history: &History<Step>,
@@ -15,28 +60,10 @@ pub(crate) fn push_index(
     let mut n = 0u32;
     for row in history.rows() {
         n = n.wrapping_add(1);
-        push_readers(alloc, history, row, out)?;
-        push_blocker(history.blocker(n), out)?;
+        let readers = listed_readers(alloc, history, row)?;
+        push_found(out, n, &readers, history.blocker(n))?;
     }
     Ok(())
-}
-
-fn push_readers(
-    alloc: Global,
-    history: &History<Step>,
-    row: &Row<Step>,
-    out: &mut Vec<u8>,
-) -> Result<(), AllocError> {
-    for change in row.changes.as_slice() {
-        for n in &history.readers(alloc, change)? {
-            out.push(digit(*n))?;
-        }
-    }
-    Ok(())
-}
-
-fn push_blocker(blocker: Option<u32>, out: &mut Vec<u8>) -> Result<(), AllocError> {
-    Ok(out.extend_from_slice(&[b':', blocker.map_or(b'-', digit), b' '])?)
 }
 
 /// Whether a row is a survivor that looked at what a change touches.
@@ -49,19 +76,23 @@ fn has_looked(row: &Row<Step>, change: &Change) -> bool {
             .any(|observation| touches(change, &observation.key))
 }
 
-fn push_walked_readers(
+/// The rows that looked at what a row changed.
+fn walked_readers(
+    alloc: Global,
     rows: &[Row<Step>],
-    change: &Change,
-    out: &mut Vec<u8>,
-) -> Result<(), AllocError> {
-    let mut n = 0u32;
-    for row in rows {
-        n = n.wrapping_add(1);
-        if has_looked(row, change) {
-            out.push(digit(n))?;
+    changed: &Row<Step>,
+) -> Result<Vec<u32>, AllocError> {
+    let mut readers = Vec::new(alloc);
+    for change in changed.changes.as_slice() {
+        let mut n = 0u32;
+        for row in rows {
+            n = n.wrapping_add(1);
+            if has_looked(row, change) {
+                readers.push(n)?;
+            }
         }
     }
-    Ok(())
+    Ok(readers)
 }
 
 /// The first later survivor that looked at what a row changed.
@@ -77,24 +108,17 @@ fn walked_blocker(rows: &[Row<Step>], n: u32, changed: &Row<Step>) -> Option<u32
     None
 }
 
-/// The same by a walk over all rows.
-fn push_walked(rows: &[Row<Step>], out: &mut Vec<u8>) -> Result<(), AllocError> {
+/// Whether a walk over all rows finds what the history looks up.
+pub(crate) fn agrees(alloc: Global, history: &History<Step>) -> Result<bool, AllocError> {
+    let rows = history.rows();
     let mut n = 0u32;
     for row in rows {
         n = n.wrapping_add(1);
-        for change in row.changes.as_slice() {
-            push_walked_readers(rows, change, out)?;
+        let listed = listed_readers(alloc, history, row)?;
+        let are_same = listed == walked_readers(alloc, rows, row)?;
+        if !are_same || history.blocker(n) != walked_blocker(rows, n, row) {
+            return Ok(false);
         }
-        push_blocker(walked_blocker(rows, n, row), out)?;
     }
-    Ok(())
-}
-
-/// Whether a walk over all rows finds what the history looks up.
-pub(crate) fn agrees(alloc: Global, history: &History<Step>) -> Result<bool, AllocError> {
-    let mut looked_up = Vec::new(alloc);
-    let mut walked = Vec::new(alloc);
-    push_index(alloc, history, &mut looked_up)?;
-    push_walked(history.rows(), &mut walked)?;
-    Ok(looked_up == walked)
+    Ok(true)
 }

@@ -1,4 +1,5 @@
-//! A hundred random histories, in which what is looked up is compared with what a walk over all rows finds.
+//! A hundred random histories, in which what is looked up is compared with what a walk over all
+//! rows finds.
 
 use crate::bench::Bench;
 use crate::index::agrees;
@@ -6,8 +7,22 @@ use std::alloc::{AllocError, Global};
 use std::test::Fail;
 
 const WORDS: [&[u8]; 16] = [
-    b"+a", b"-a", b"=a", b"?a", b"+b", b"-b", b"=b", b"?b", b"u1", b"u2", b"u3", b"u4", b"u5",
-    b"u6", b"u7", b"u8",
+    b"put:a",
+    b"remove:a",
+    b"look:a",
+    b"ask:a",
+    b"put:b",
+    b"remove:b",
+    b"look:b",
+    b"ask:b",
+    b"undo:1",
+    b"undo:2",
+    b"undo:3",
+    b"undo:4",
+    b"undo:5",
+    b"undo:6",
+    b"undo:7",
+    b"undo:8",
 ];
 
 fn next(random: u32) -> u32 {
@@ -22,9 +37,10 @@ fn word(random: u32) -> &'static [u8] {
 /// Nine random calls, and after how many of them a walk finds the same.
 fn play(alloc: Global, bench: &mut Bench, random: &mut u32) -> Result<u32, AllocError> {
     let mut agreed = 0u32;
+    let mut said = Vec::new(alloc);
     for _ in 0..9 {
         *random = next(*random);
-        let _said = bench.answer(alloc, word(*random))?;
+        bench.answer(alloc, word(*random), &mut said)?;
         agreed = agreed.wrapping_add(u32::from(agrees(alloc, &bench.history)?));
     }
     Ok(agreed)

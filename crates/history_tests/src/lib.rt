@@ -4,13 +4,13 @@
 #[cfg(test)]
 mod bench;
 #[cfg(test)]
-mod copies;
-#[cfg(test)]
 mod index;
 #[cfg(test)]
 mod kinds;
 #[cfg(test)]
 mod large;
+#[cfg(test)]
+mod operations;
 #[cfg(test)]
 mod scripts;
 #[cfg(test)]

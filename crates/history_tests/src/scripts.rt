@@ -1,104 +1,90 @@
-//! Scripts of calls, undos, plans and commits, and what comes of them.
+//! Scripts of calls, undos, plans and commits, and what their words answer.
 
 use crate::bench::said;
-use std::alloc::Global;
-use std::process::Abort;
+use sample_rows::{Row, unlike};
+use sample_steps::is;
+use std::alloc::{AllocError, Global};
+use std::str;
 use std::test::Fail;
-use unit_name::ample;
 
-/// Whether the history has room for one row alone, a script, and what comes of its words; then how many entries the first tree and the last one have.
-type Said = (bool, &'static [u8], &'static [u8]);
+/// A script on a history of the empty tree, and what its words answer; then how many entries the
+/// first tree has, and how many the last one has. A short history has room for one row.
+const ROWS: &[u8] = b"\
+    # a command is undone under later ones\n\
+    history\tput:a put:b look:b undo:1 undo:1 remove:a put:b\t\t\
+        ok ok ok undid:1 already-undone:4 absent:a exists:b / entries:0 to:1\n\
+    # what looked at a change blocks it\n\
+    history\tput:a look:a remove:a look:a put:b \
+        undo:1 undo:3 undo:4 undo:3 undo:2 undo:1 remove:a put:b\t\t\
+        ok ok ok ok ok \
+        blocked:2 blocked:4 undid:4 undid:3 undid:2 undid:1 absent:a exists:b / entries:0 to:1\n\
+    # refused calls and questions block nothing\n\
+    history\tput:a put:a ask:a undo:0 undo:6 undo:2 undo:3 undo:4 undo:1 undo:1\t\t\
+        ok exists:a static no-such-row no-such-row not-a-command not-a-command not-a-command \
+        undid:1 already-undone:9 / entries:0 to:0\n\
+    \n\
+    # a plan is committed if the tree agrees\n\
+    history\tplan:put:a put:b commit\t\tplanned ok row:2 / entries:0 to:2\n\
+    # it is stale, and fresh again after an undo\n\
+    history\tplan:put:a put:a commit undo:1 commit\t\t\
+        planned ok stale:a undid:1 row:3 / entries:0 to:1\n\
+    # the plan of a question\n\
+    history\tplan:ask:a commit plan:ask:a put:a commit\t\t\
+        planned row:1 planned ok stale:a / entries:0 to:1\n\
+    # a command that is refused, and would not be after the undo\n\
+    history\tput:a plan:put:a commit plan:put:a undo:1 commit\t\t\
+        ok planned row:2 planned undid:1 stale:a / entries:0 to:0\n\
+    # a command that changes nothing blocks the undo of what it looked at\n\
+    history\tput:a plan:look:a commit undo:1\t\t\
+        ok planned row:2 blocked:2 / entries:0 to:1\n\
+    # the row of a plan is undone\n\
+    history\tplan:put:a commit undo:1 plan:put:a commit\t\t\
+        planned row:1 undid:1 planned row:3 / entries:0 to:1\n\
+    \n\
+    # a full history takes no row: the operation comes back, an undo is refused too,\n\
+    # and nothing changes\n\
+    short history\tput:a put:b undo:0 undo:1 index\t\t\
+        ok full full full 1:read-by:1 / entries:0 to:1\n\
+    # a plan comes back from a full history, and a stale one from there too\n\
+    short history\tplan:put:b put:a commit answer take-apart:put:b commit\t\t\
+        planned ok full accepted put:b no-plan / entries:0 to:1\n\
+    short history\tplan:remove:a put:a commit answer take-apart:remove:a index\t\t\
+        planned ok stale:a refused remove:a 1:read-by:1 / entries:0 to:1\n\
+    \n\
+    # a row looks at what it changes itself, and a later one may too\n\
+    history\tput:a look:a index\t\t\
+        ok ok 1:read-by:1,2:blocked-by:2 2:unread / entries:0 to:1\n\
+    # a row that is undone is listed no longer, of itself or of others\n\
+    history\tput:a look:a undo:2 index\t\t\
+        ok ok undid:2 1:read-by:1 2:unread 3:unread / entries:0 to:1\n\
+    history\tput:a look:a undo:2 undo:1 index\t\t\
+        ok ok undid:2 undid:1 1:unread 2:unread 3:unread 4:unread / entries:0 to:0\n\
+    # a row that is refused or only asks never was\n\
+    history\tput:a put:a ask:a remove:b index\t\t\
+        ok exists:a static absent:b 1:read-by:1 2:unread 3:unread 4:unread / entries:0 to:1\n\
+    # an undo that is refused changes nothing\n\
+    history\tput:a put:b look:b undo:2 remove:a index\t\t\
+        ok ok ok blocked:3 ok 1:read-by:1,5:blocked-by:5 2:read-by:2,3:blocked-by:3 \
+        3:unread 4:unread 5:read-by:1,5 / entries:0 to:1\n\
+    history\tput:a remove:a put:a index\t\t\
+        ok ok ok 1:read-by:1,2,3:blocked-by:2 2:read-by:1,2,3:blocked-by:3 3:read-by:1,2,3 \
+        / entries:0 to:1\n\
+    history\tput:a look:a remove:a index undo:3 index\t\t\
+        ok ok ok 1:read-by:1,2,3:blocked-by:2 2:unread 3:read-by:1,2,3 \
+        undid:3 1:read-by:1,2:blocked-by:2 2:unread 3:read-by:1,2 4:unread / entries:0 to:1\n\
+    ";
 
-fn assert_said(rt: &impl Abort, alloc: Global, row: &Said) -> Result<(), Fail> {
-    let text = ample!(said(alloc, row.0, row.1), AllocError)?;
-    assert_eq!(rt; text.as_slice(), row.2);
-    Ok(())
-}
-
-fn assert_all_said(rt: &impl Abort, alloc: Global, table: &[Said]) -> Result<(), Fail> {
-    for row in table {
-        assert_said(rt, alloc, row)?;
+fn answer(alloc: Global, row: &Row) -> Result<Vec<u8>, AllocError> {
+    let is_short = is(&row.kind, b"short history");
+    if is_short || is(&row.kind, b"history") {
+        return said(alloc, is_short, &row.one);
     }
+    Vec::from_slice(alloc, b"unknown kind")
+}
+
+#[test]
+fn each_word_of_a_script_is_answered(rt: HostRuntime) -> Result<(), Fail> {
+    let found = unlike(rt.alloc(), ROWS, answer)?;
+    assert!(rt; found.is_empty(), "{:?}", str::from_utf8(&found));
     Ok(())
-}
-
-const UNDONE: [Said; 3] = [
-    // a command is undone under later ones
-    (false, b"+a +b =b u1 u1 -a +b", b"k-k-k-U1a4r-r- 01"),
-    // what looked at a change blocks it
-    (
-        false,
-        b"+a =a -a =a +b u1 u3 u4 u3 u2 u1 -a +b",
-        b"k-k-k-k-k-b2b4U4U3U2U1r-r- 01",
-    ),
-    // refused calls and questions block nothing
-    (
-        false,
-        b"+a +a ?a u0 u6 u2 u3 u4 u1 u1",
-        b"k-r-s-n-n-c-c-c-U1a9 00",
-    ),
-];
-
-#[test]
-fn rows_are_undone_that_no_other_blocks(rt: HostRuntime) -> Result<(), Fail> {
-    assert_all_said(&rt, rt.alloc(), &UNDONE)
-}
-
-const COMMITTED: [Said; 6] = [
-    (false, b"p+a +b c", b"p-k-k2 02"),
-    // stale, and fresh again after an undo
-    (false, b"p+a +a c u1 c", b"p-k-saU1k3 01"),
-    // a question
-    (false, b"p?a c p?a +a c", b"p-k1p-k-sa 01"),
-    // a command that is refused, and would not be after the undo
-    (false, b"+a p+a c p+a u1 c", b"k-p-k2p-U1sa 00"),
-    // a command that changes nothing blocks the undo of what it looked at
-    (false, b"+a p=a c u1", b"k-p-k2b2 01"),
-    // the row of a plan is undone
-    (false, b"p+a c u1 p+a c", b"p-k1U1p-k3 01"),
-];
-
-#[test]
-fn a_plan_is_committed_where_the_tree_agrees(rt: HostRuntime) -> Result<(), Fail> {
-    assert_all_said(&rt, rt.alloc(), &COMMITTED)
-}
-
-const FULL: [Said; 3] = [
-    // the operation comes back, an undo is refused too, and nothing has changed
-    (true, b"+a +b u0 u1 i", b"k-fbf-f-1:-  01"),
-    // a plan comes back from a full history, and a stale one from there too
-    (true, b"p+b +a c ? o+b c", b"p-k-f-akfbn- 01"),
-    (true, b"p-a +a c ? o-a i", b"p-k-saarfa1:-  01"),
-];
-
-#[test]
-fn a_full_history_takes_no_row(rt: HostRuntime) -> Result<(), Fail> {
-    assert_all_said(&rt, rt.alloc(), &FULL)
-}
-
-const LOOKED_UP: [Said; 7] = [
-    // a row looks at what it changes itself, and a later one may too
-    (false, b"+a =a i", b"k-k-12:2 :-  01"),
-    // a row that is undone is told no longer, of itself or of others
-    (false, b"+a =a u2 i", b"k-k-U21:- :- :-  01"),
-    (false, b"+a =a u2 u1 i", b"k-k-U2U1:- :- :- :-  00"),
-    // a row that is refused or only asks never was
-    (false, b"+a +a ?a -b i", b"k-r-s-r-1:- :- :- :-  01"),
-    // an undo that is refused changes nothing
-    (
-        false,
-        b"+a +b =b u2 -a i",
-        b"k-k-k-b3k-15:5 23:3 :- :- 15:-  01",
-    ),
-    (false, b"+a -a +a i", b"k-k-k-123:2 123:3 123:-  01"),
-    (
-        false,
-        b"+a =a -a i u3 i",
-        b"k-k-k-123:2 :- 123:- U312:2 :- 12:- :-  01",
-    ),
-];
-
-#[test]
-fn readers_of_a_row_are_told(rt: HostRuntime) -> Result<(), Fail> {
-    assert_all_said(&rt, rt.alloc(), &LOOKED_UP)
 }

@@ -6,7 +6,9 @@ ghost use Rattle.sample_steps.specs.Samples.{told_of, watch_command};
 use footprint::{
     Edit, Key, Keys, Notice, NoticeKey, Notices, Operation, Outcome, Reason, Refusal, link_at,
 };
-use link_tree::{Slot, Tree, TreePath};
+use link_tree::{Scope, Slot, Tree, TreePath};
+use sample_steps::{is, parts};
+use sample_values::{name, path};
 use std::alloc::{AllocError, Global};
 use unit_file::Word;
 use unit_name::UnitName;
@@ -111,4 +113,50 @@ impl Operation for Watch {
             && self.file == other.file
             && self.slot == other.slot
     }
+}
+
+/// The key of a word: `slot:a.service` is the slot of a name in `/etc`, and `name:a.service` are
+/// its links there.
+fn key(alloc: Global, word: &[u8]) -> Result<Key, AllocError> {
+    let (first, of) = parts(word);
+    if is(first, b"slot") {
+        return Ok(Key::Cell(Scope::Etc.place().slot(alloc, &name(alloc, of)?)?));
+    }
+    if is(first, b"name") {
+        return Ok(Key::Marked(Scope::Etc, name(alloc, of)?));
+    }
+    if is(first, b"presets") {
+        return Ok(Key::Presets);
+    }
+    if is(first, b"links") {
+        return Ok(Key::Links);
+    }
+    Err(AllocError)
+}
+
+/// Looks by a key, and links the file of `a.service` at a slot; gives a notice of a unit, if there
+/// is one.
+fn linking(
+    alloc: Global,
+    key: Key,
+    slot: &[u8],
+    told: Option<UnitName>,
+) -> Result<Box<Watch>, AllocError> {
+    let watch = Watch {
+        key,
+        told,
+        file: path(alloc, b"/usr/lib/systemd/system/a.service")?,
+        slot: path(alloc, slot)?,
+    };
+    Ok(Box::new(alloc, watch)?)
+}
+
+/// Looks by the key of a word.
+pub(crate) fn looking(alloc: Global, word: &[u8], slot: &[u8]) -> Result<Box<Watch>, AllocError> {
+    linking(alloc, key(alloc, word)?, slot, None)
+}
+
+/// Looks by the presets, and gives a notice of a unit.
+pub(crate) fn telling(alloc: Global, slot: &[u8], unit: &[u8]) -> Result<Box<Watch>, AllocError> {
+    linking(alloc, Key::Presets, slot, Some(name(alloc, unit)?))
 }

@@ -1,0 +1,174 @@
+//! Two operations in one; and copies of replies, requests and operations.
+
+use crate::watching::{Watch, telling};
+use footprint::{Answer, Operation, Outcome, Then};
+use history::{Request, RowReply};
+use link_tree::{Tree, push_decimal};
+use sample_rows::{Row, unlike};
+use sample_steps::{Step, is, parts, push_reply, reply, request, step};
+use std::alloc::{AllocError, Global};
+use std::str;
+use std::test::Fail;
+
+/// Two operations `UNIT:SLOT`, each of which gives a notice of a unit and links a slot, and the
+/// outcome of both as one: how many keys it looked at, and the lines of its notices. Two steps, and
+/// whether they only ask, as one. What is copied, and what the copy is.
+const ROWS: &[u8] = b"\
+    # both give their notices, each once\n\
+    both\tb.service:/etc/systemd/system/a.service\t\
+        a.service:/etc/systemd/system/m.target.wants/a.service\t\
+        3 keys\\n  \
+        ! a.service: Also a.service: not found\\n  \
+        ! b.service: Also b.service: not found\\n\n\
+    both\ta.service:/etc/systemd/system/a.service\t\
+        a.service:/etc/systemd/system/m.target.wants/a.service\t\
+        3 keys\\n  \
+        ! a.service: Also a.service: not found\\n\n\
+    # if the second is refused, there are no notices\n\
+    both\ta.service:/etc/systemd/system/a.service\tb.service:/opt/a\t2 keys\\nrefused\n\
+    \n\
+    # two that only ask are one that only asks\n\
+    only asks\task:a\task:a\tyes\n\
+    only asks\task:a\tput:a\tno\n\
+    only asks\tput:a\task:a\tno\n\
+    only asks\tput:a\tput:a\tno\n\
+    \n\
+    copied reply\tstatic\t\tstatic\n\
+    copied reply\tundid:1\t\tundid:1\n\
+    copied reply\tno-such-row\t\tno-such-row\n\
+    copied reply\tnot-a-command\t\tnot-a-command\n\
+    copied reply\talready-undone:2\t\talready-undone:2\n\
+    copied reply\tblocked:3\t\tblocked:3\n\
+    copied request\tput:a\tremove:a\tthe same\n\
+    copied request\tundo:3\tundo:4\tthe same\n\
+    copied operation\ta.service:/etc/systemd/system/a.service\t\tthe same\n\
+    ";
+
+/// What an outcome says: how many keys were looked at, and the lines of its notices, or that it is
+/// refused and changes nothing.
+fn text_of(alloc: Global, outcome: &Outcome) -> Result<Vec<u8>, AllocError> {
+    let mut out = Vec::new(alloc);
+    push_decimal(&mut out, outcome.reading.as_slice().len())?;
+    out.extend_from_slice(b" keys\n")?;
+    match &outcome.answer {
+        Answer::Done(notices) => notices.push_lines(&mut out)?,
+        Answer::Refused(_) if outcome.changes.as_slice().is_empty() => {
+            out.extend_from_slice(b"refused")?;
+        }
+        _ => out.extend_from_slice(b"another answer")?,
+    }
+    Ok(out)
+}
+
+/// The operation of `UNIT:SLOT`.
+fn watch(alloc: Global, word: &[u8]) -> Result<Box<Watch>, AllocError> {
+    let (unit, slot) = parts(word);
+    telling(alloc, slot, unit)
+}
+
+/// Two operations in one.
+fn both(alloc: Global, first: &[u8], second: &[u8]) -> Result<Box<Then<Watch, Watch>>, AllocError> {
+    let first = watch(alloc, first)?;
+    let second = watch(alloc, second)?;
+    let both = Then {
+        first: Box::into_inner(first),
+        second: Box::into_inner(second),
+    };
+    Ok(Box::new(alloc, both)?)
+}
+
+/// The outcome of an operation on the empty tree.
+fn outcome<O: Operation>(alloc: Global, operation: &O) -> Result<Box<Outcome>, AllocError> {
+    let tree = Box::new(alloc, Tree::empty(alloc)?)?;
+    Ok(Box::new(alloc, operation.run(alloc, &tree)?)?)
+}
+
+fn said_by_both(alloc: Global, first: &[u8], second: &[u8]) -> Result<Vec<u8>, AllocError> {
+    let both = both(alloc, first, second)?;
+    let outcome = outcome(alloc, &*both)?;
+    text_of(alloc, &outcome)
+}
+
+/// Whether two steps in one only ask.
+fn only_ask(alloc: Global, first: &[u8], second: &[u8]) -> Result<&'static [u8], AllocError> {
+    let both = Then {
+        first: step(alloc, first)?,
+        second: step(alloc, second)?,
+    };
+    Ok(if both.asks_only() { b"yes" } else { b"no" })
+}
+
+fn boxed_reply(alloc: Global, word: &[u8]) -> Result<Box<RowReply>, AllocError> {
+    Ok(Box::new(alloc, reply(alloc, word)?)?)
+}
+
+/// The word of a reply's copy, if that is the same.
+fn copied_reply(alloc: Global, word: &[u8]) -> Result<Vec<u8>, AllocError> {
+    let reply = boxed_reply(alloc, word)?;
+    let copy = Box::new(alloc, reply.copy()?)?;
+    let mut out = Vec::new(alloc);
+    if copy.same(&reply) {
+        push_reply(&mut out, &copy)?;
+    }
+    Ok(out)
+}
+
+fn boxed_request(alloc: Global, word: &[u8]) -> Result<Box<Request<Step>>, AllocError> {
+    Ok(Box::new(alloc, request(alloc, word)?)?)
+}
+
+/// Whether a request's copy is the same, and not another.
+fn copied_request(alloc: Global, word: &[u8], other: &[u8]) -> Result<&'static [u8], AllocError> {
+    let request = boxed_request(alloc, word)?;
+    let other = boxed_request(alloc, other)?;
+    let copy = Box::new(alloc, request.copy()?)?;
+    let is_told_apart = copy.same(&request) && !copy.same(&other);
+    Ok(if is_told_apart {
+        b"the same"
+    } else {
+        b"not the same"
+    })
+}
+
+/// Whether an operation's copy is the same, and no question.
+fn copied_operation(alloc: Global, word: &[u8]) -> Result<&'static [u8], AllocError> {
+    let watch = watch(alloc, word)?;
+    let copy = Box::new(alloc, watch.copy()?)?;
+    let is_same = copy.same(&watch) && !copy.asks_only();
+    Ok(if is_same {
+        b"the same"
+    } else {
+        b"not the same"
+    })
+}
+
+/// Whether two operations as one only ask, or a copy is the same.
+fn said_of(alloc: Global, row: &Row) -> Result<&'static [u8], AllocError> {
+    if is(&row.kind, b"only asks") {
+        return only_ask(alloc, &row.one, &row.two);
+    }
+    if is(&row.kind, b"copied request") {
+        return copied_request(alloc, &row.one, &row.two);
+    }
+    if is(&row.kind, b"copied operation") {
+        return copied_operation(alloc, &row.one);
+    }
+    Ok(b"unknown kind")
+}
+
+fn answer(alloc: Global, row: &Row) -> Result<Vec<u8>, AllocError> {
+    if is(&row.kind, b"both") {
+        return said_by_both(alloc, &row.one, &row.two);
+    }
+    if is(&row.kind, b"copied reply") {
+        return copied_reply(alloc, &row.one);
+    }
+    Vec::from_slice(alloc, said_of(alloc, row)?)
+}
+
+#[test]
+fn operations_are_joined_and_copied(rt: HostRuntime) -> Result<(), Fail> {
+    let found = unlike(rt.alloc(), ROWS, answer)?;
+    assert!(rt; found.is_empty(), "{:?}", str::from_utf8(&found));
+    Ok(())
+}
