@@ -64,10 +64,11 @@ def peak_of(child):
 
 
 def peak_of_reading(words, given):
-    """The peak of memory once a program has read all of its input and waits for more."""
-    child = subprocess.Popen(
-        words, stdin=subprocess.PIPE, stdout=subprocess.DEVNULL, env=dict(os.environ, LC_ALL="C")
-    )
+    """The peak of memory once a program has read all of its input and waits for more. That it
+    complains in the end, since no more comes, isn't shown."""
+    quiet = {"stdout": subprocess.DEVNULL, "stderr": subprocess.DEVNULL}
+    env = dict(os.environ, LC_ALL="C")
+    child = subprocess.Popen(words, stdin=subprocess.PIPE, env=env, **quiet)
     with open(given, "rb") as stdin:
         child.stdin.write(stdin.read())
         child.stdin.flush()

@@ -1,40 +1,120 @@
 //! Scripts of events, and what comes of them.
+//!
+//! | Word | What happens | What comes of it |
+//! |---|---|---|
+//! | `snapshot:0` | slot 0 takes a snapshot | `taken` |
+//! | `plan:0:put:a` | slot 0 plans the step on its snapshot | `planned`; `nothing` |
+//! | `alice:commit:0` | alice commits the plan of slot 0 | `row:1`, `stale:a`, `full`; `nothing` |
+//! | `bob:put:a`, `bob:undo:1` | bob calls it | `row:1`, `full` |
 ghost use Rattle.std.specs.Prelude.{◌<◌, All, IfOk, OnOk};
 ghost use Rattle.shared_admin.specs.Events.{HasSlot};
 
 use history::{History, Operator, Plan};
-use link_tree::Tree;
-use sample_steps::{Step, digit, number, operator, push_row, step, unit_at};
+use link_tree::{Tree, push_decimal};
+use sample_rows::{Row, unlike};
+use sample_steps::{
+    Step, begin_word, is, number, operator, parts, push_numbered, push_pair, push_row, step,
+    unit_at,
+};
 use shared_admin::{Event, EventReply, Kept, SLOTS, drive, empty_slots, happen};
 use std::alloc::{AllocError, Global};
-use std::process::Abort;
+use std::str;
 use std::test::Fail;
-use unit_name::ample;
 
-/// The slot of a hexadecimal digit.
-fn slot(digit: u8) -> u8
+/// Events on a history of the empty tree, and what comes of each; then the rows, and how many
+/// entries the tree has. A short history has room for one row.
+const ROWS: &[u8] = b"\
+    # bob's call comes first; made again, alice's is refused, and an undo of bob's\n\
+    # gives the first tree back\n\
+    history\tsnapshot:0 plan:0:put:a bob:put:a alice:commit:0 \
+        snapshot:0 plan:0:put:a alice:commit:0 bob:undo:1\t\t\
+        taken planned row:1 stale:a taken planned row:2 row:3 \
+        / bob:ok alice:exists:a bob:undid:1 / entries:0\n\
+    history\tsnapshot:0 plan:0:put:a bob:put:a alice:commit:0 alice:commit:0\t\t\
+        taken planned row:1 stale:a nothing / bob:ok / entries:1\n\
+    # of two plans each makes the other stale\n\
+    history\tsnapshot:0 plan:0:put:a snapshot:1 plan:1:put:a alice:commit:0 alice:commit:1\t\t\
+        taken planned taken planned row:1 stale:a / alice:ok / entries:1\n\
+    history\tsnapshot:0 plan:0:put:a snapshot:1 plan:1:put:a alice:commit:1 alice:commit:0\t\t\
+        taken planned taken planned row:1 stale:a / alice:ok / entries:1\n\
+    # a plan that was refused isn't run again after an undo\n\
+    history\tbob:put:a snapshot:0 plan:0:put:a bob:undo:1 alice:commit:0\t\t\
+        row:1 taken planned row:2 stale:a / bob:ok bob:undid:1 / entries:0\n\
+    \n\
+    # a plan is committed if the tree agrees\n\
+    history\tsnapshot:0 plan:0:put:a bob:put:b alice:commit:0\t\t\
+        taken planned row:1 row:2 / bob:ok alice:ok / entries:2\n\
+    # the tree agrees again\n\
+    history\tsnapshot:0 plan:0:put:a bob:put:a bob:undo:1 alice:commit:0\t\t\
+        taken planned row:1 row:2 row:3 / bob:ok bob:undid:1 alice:ok / entries:1\n\
+    # a question, and a command that is refused\n\
+    history\tbob:put:a snapshot:0 plan:0:ask:a alice:commit:0\t\t\
+        row:1 taken planned row:2 / bob:ok alice:static / entries:1\n\
+    history\tbob:put:a snapshot:0 plan:0:put:a alice:commit:0\t\t\
+        row:1 taken planned row:2 / bob:ok alice:exists:a / entries:1\n\
+    \n\
+    # slots keep a snapshot and a plan\n\
+    history\talice:commit:0 plan:0:put:a\t\tnothing nothing / / entries:0\n\
+    history\tsnapshot:0 alice:commit:0\t\ttaken nothing / / entries:0\n\
+    history\tsnapshot:15 plan:15:put:a alice:commit:15 alice:commit:0\t\t\
+        taken planned row:1 nothing / alice:ok / entries:1\n\
+    # a plan stays if a snapshot is taken, and is lost if another one is made\n\
+    history\tsnapshot:0 plan:0:put:a snapshot:0 alice:commit:0\t\t\
+        taken planned taken row:1 / alice:ok / entries:1\n\
+    history\tsnapshot:0 plan:0:put:a plan:0:put:b alice:commit:0 bob:remove:b\t\t\
+        taken planned planned row:1 row:2 / alice:ok bob:ok / entries:0\n\
+    \n\
+    # a full history takes no row; the tree agrees with one plan, and another one is stale:\n\
+    # once each was committed, its slot has none\n\
+    short history\tsnapshot:0 plan:0:put:b snapshot:1 plan:1:remove:a bob:put:a \
+        alice:commit:1 alice:commit:0 alice:commit:0 alice:commit:1 bob:put:b bob:undo:1 \
+        snapshot:2 plan:2:put:b alice:commit:2 alice:commit:2\t\t\
+        taken planned taken planned row:1 stale:a full nothing nothing full full \
+        taken planned full nothing / bob:ok / entries:1\n\
+    ";
+
+/// The slot of a number.
+fn slot(digits: &[u8]) -> u8
     ensures { result < 16 }
 {
-    match digit {
-        b'0'..=b'9' => digit - b'0',
-        b'a'..=b'f' => digit - b'a' + 10,
-        _ => 0,
-    }
+    let number = number(digits);
+    if number < 16 { number as u8 } else { 0 }
 }
 
-/// The event of a word. `s0` takes a snapshot in slot 0, `p0+a` plans the step `+a` on it, and alice commits it by `c0`; `+a` is bob's call, and `u1`
-/// undoes row 1 for him.
-fn event(alloc: Global, bob: Operator, word: &[u8]) -> Result<Event<Step>, AllocError>
+/// The event of what an operator does: a commit, an undo, or the call of a step.
+fn event_of(alloc: Global, operator: Operator, word: &[u8]) -> Result<Event<Step>, AllocError>
     ensures { IfOk result (HasSlot {O = Step}) }
 {
-    match word {
-        [b's', at] => Ok(Event::Snap(slot(*at))),
-        [b'p', at, sign, unit] => Ok(Event::Plan(slot(*at), step(alloc, *sign, *unit)?)),
-        [b'c', at] => Ok(Event::Commit(slot(*at), operator(b"alice")?)),
-        [b'u', n] => Ok(Event::Undo(bob, number(*n))),
-        [sign, unit] => Ok(Event::Call(bob, step(alloc, *sign, *unit)?)),
-        _ => Err(AllocError),
+    let (first, rest) = parts(word);
+    if is(first, b"commit") {
+        return Ok(Event::Commit(slot(rest), operator));
     }
+    if is(first, b"undo") {
+        return Ok(Event::Undo(operator, number(rest)));
+    }
+    Ok(Event::Call(operator, step(alloc, word)?))
+}
+
+/// The plan of a slot and a step.
+fn planning(alloc: Global, word: &[u8]) -> Result<Event<Step>, AllocError>
+    ensures { IfOk result (HasSlot {O = Step}) }
+{
+    let (at, word) = parts(word);
+    Ok(Event::Plan(slot(at), step(alloc, word)?))
+}
+
+/// The event of a word.
+fn event(alloc: Global, word: &[u8]) -> Result<Event<Step>, AllocError>
+    ensures { IfOk result (HasSlot {O = Step}) }
+{
+    let (first, rest) = parts(word);
+    if is(first, b"snapshot") {
+        return Ok(Event::Snap(slot(rest)));
+    }
+    if is(first, b"plan") {
+        return planning(alloc, rest);
+    }
+    event_of(alloc, operator(first)?, rest)
 }
 
 fn add(events: &mut Vec<Event<Step>>, event: Event<Step>) -> Result<(), AllocError>
@@ -48,40 +128,42 @@ fn add(events: &mut Vec<Event<Step>>, event: Event<Step>) -> Result<(), AllocErr
 fn events(alloc: Global, script: &[u8]) -> Result<Vec<Event<Step>>, AllocError>
     ensures { IfOk result (λ events. All (HasSlot {O = Step}) events.items) }
 {
-    let bob = operator(b"bob")?;
     let mut events = Vec::new(alloc);
     for word in script.split(|b| *b == b' ') {
-        add(&mut events, event(alloc, bob, word)?)?;
+        add(&mut events, event(alloc, word)?)?;
     }
     Ok(events)
 }
 
-/// Two bytes for the reply to an event.
-fn reply_text(reply: &EventReply) -> [u8; 2] {
+/// Adds the word of the reply to an event.
+fn push_event_reply(out: &mut Vec<u8>, reply: &EventReply) -> Result<(), AllocError> {
+    begin_word(out)?;
     match reply {
-        EventReply::Taken => *b"t-",
-        EventReply::Planned => *b"p-",
-        EventReply::Nothing => *b"n-",
-        EventReply::Committed(n) => [b'k', digit(*n)],
-        EventReply::Stale(key) => [b's', unit_at(key)],
-        EventReply::Full => *b"f-",
+        EventReply::Taken => out.extend_from_slice(b"taken"),
+        EventReply::Planned => out.extend_from_slice(b"planned"),
+        EventReply::Nothing => out.extend_from_slice(b"nothing"),
+        EventReply::Committed(n) => push_numbered(out, b"row", *n),
+        EventReply::Stale(key) => push_pair(out, b"stale", unit_at(key)),
+        EventReply::Full => out.extend_from_slice(b"full"),
     }
 }
 
 fn push_replies(out: &mut Vec<u8>, replies: &[EventReply]) -> Result<(), AllocError> {
     for reply in replies {
-        out.extend_from_slice(&reply_text(reply))?;
+        push_event_reply(out, reply)?;
     }
     Ok(())
 }
 
-/// Three bytes for each row, the first of them its operator's, and then how many entries the tree has.
+/// Adds the rows, and how many entries the tree has.
 fn push_history(out: &mut Vec<u8>, history: &History<Step>) -> Result<(), AllocError> {
+    out.extend_from_slice(b" /")?;
     for row in history.rows() {
+        begin_word(out)?;
         push_row(out, row)?;
     }
-    let entries = u32::try_from(history.tree().len()).unwrap_or(99);
-    Ok(out.push(digit(entries))?)
+    out.extend_from_slice(b" / entries:")?;
+    push_decimal(out, history.tree().len())
 }
 
 /// What is left of the events of a script on the empty tree, and the replies.
@@ -93,76 +175,13 @@ fn driven(alloc: Global, script: &[u8]) -> Result<Box<Driven>, AllocError> {
     Ok(Box::new(alloc, driven)?)
 }
 
-/// Two bytes for each event of a script, then the history.
+/// What comes of each event of a script, then the history.
 pub(crate) fn said(alloc: Global, script: &[u8]) -> Result<Vec<u8>, AllocError> {
     let mut out = Vec::new(alloc);
     let driven = driven(alloc, script)?;
     push_replies(&mut out, &driven.1)?;
     push_history(&mut out, &driven.0)?;
     Ok(out)
-}
-
-/// A script, and what comes of it.
-type Said = (&'static [u8], &'static [u8]);
-
-fn assert_said(rt: &impl Abort, alloc: Global, row: &Said) -> Result<(), Fail> {
-    let text = ample!(said(alloc, row.0), AllocError)?;
-    assert_eq!(rt; text.as_slice(), row.1);
-    Ok(())
-}
-
-fn assert_all_said(rt: &impl Abort, alloc: Global, table: &[Said]) -> Result<(), Fail> {
-    for row in table {
-        assert_said(rt, alloc, row)?;
-    }
-    Ok(())
-}
-
-const STALE: [Said; 5] = [
-    // bob's call comes first; made again, alice's is refused, and an undo of bob's gives the first tree back
-    (
-        b"s0 p0+a +a c0 s0 p0+a c0 u1",
-        b"t-p-k1sat-p-k2k3bk-ar-bU10",
-    ),
-    (b"s0 p0+a +a c0 c0", b"t-p-k1san-bk-1"),
-    // of two plans each makes the other stale
-    (b"s0 p0+a s1 p1+a c0 c1", b"t-p-t-p-k1saak-1"),
-    (b"s0 p0+a s1 p1+a c1 c0", b"t-p-t-p-k1saak-1"),
-    // a plan that was refused isn't run again after an undo
-    (b"+a s0 p0+a u1 c0", b"k1t-p-k2sabk-bU10"),
-];
-
-#[test]
-fn a_plan_is_stale_where_the_tree_differs(rt: HostRuntime) -> Result<(), Fail> {
-    assert_all_said(&rt, rt.alloc(), &STALE)
-}
-
-const COMMITTED: [Said; 4] = [
-    (b"s0 p0+a +b c0", b"t-p-k1k2bk-ak-2"),
-    // the tree agrees again
-    (b"s0 p0+a +a u1 c0", b"t-p-k1k2k3bk-bU1ak-1"),
-    // a question, and a command that is refused
-    (b"+a s0 p0?a c0", b"k1t-p-k2bk-as-1"),
-    (b"+a s0 p0+a c0", b"k1t-p-k2bk-ar-1"),
-];
-
-#[test]
-fn a_plan_is_committed_where_the_tree_agrees(rt: HostRuntime) -> Result<(), Fail> {
-    assert_all_said(&rt, rt.alloc(), &COMMITTED)
-}
-
-const IN_SLOTS: [Said; 5] = [
-    (b"c0 p0+a", b"n-n-0"),
-    (b"s0 c0", b"t-n-0"),
-    (b"sf pf+a cf c0", b"t-p-k1n-ak-1"),
-    // a plan stays where a snapshot is taken, and is lost where another one is made
-    (b"s0 p0+a s0 c0", b"t-p-t-k1ak-1"),
-    (b"s0 p0+a p0+b c0 -b", b"t-p-p-k1k2ak-bk-0"),
-];
-
-#[test]
-fn slots_keep_a_snapshot_and_a_plan(rt: HostRuntime) -> Result<(), Fail> {
-    assert_all_said(&rt, rt.alloc(), &IN_SLOTS)
 }
 
 /// Lets the event of a word happen.
@@ -173,10 +192,10 @@ fn push_next(
     word: &[u8],
     out: &mut Vec<u8>,
 ) -> Result<(), AllocError> {
-    let event = event(alloc, operator(b"bob")?, word)?;
+    let event = event(alloc, word)?;
     if slots.len() == SLOTS {
         let reply = happen(alloc, history, slots, event)?;
-        out.extend_from_slice(&reply_text(&reply))?;
+        push_event_reply(out, &reply)?;
     }
     Ok(())
 }
@@ -209,15 +228,19 @@ fn said_in_one_row(alloc: Global, script: &[u8]) -> Result<Vec<u8>, AllocError> 
     Ok(out)
 }
 
-/// A plan of `+b` with which the tree agrees, and one of `-a` that is stale: once each was committed, its slot has none.
-const FULL: &[u8] = b"s0 p0+b s1 p1-a +a c1 c0 c0 c1 +b u1 s2 p2+b c2 c2";
+fn answer(alloc: Global, row: &Row) -> Result<Vec<u8>, AllocError> {
+    if is(&row.kind, b"history") {
+        return said(alloc, &row.one);
+    }
+    if is(&row.kind, b"short history") {
+        return said_in_one_row(alloc, &row.one);
+    }
+    Vec::from_slice(alloc, b"unknown kind")
+}
 
 #[test]
-fn a_full_history_takes_no_row(rt: HostRuntime) -> Result<(), Fail> {
-    let said = ample!(said_in_one_row(rt.alloc(), FULL), AllocError)?;
-    assert_eq!(&rt;
-        said.as_slice(),
-        b"t-p-t-p-k1saf-n-n-f-f-t-p-f-n-bk-1".as_slice()
-    );
+fn each_event_has_its_reply(rt: HostRuntime) -> Result<(), Fail> {
+    let found = unlike(rt.alloc(), ROWS, answer)?;
+    assert!(rt; found.is_empty(), "{:?}", str::from_utf8(&found));
     Ok(())
 }

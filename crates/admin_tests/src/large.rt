@@ -1,7 +1,8 @@
-//! Random scripts of events, against a machine of plain bytes that runs everything anew for each reply.
+//! Random scripts of events, against a plain machine that runs everything anew for each reply.
 
 use crate::events::said;
-use sample_steps::{digit, number};
+use link_tree::push_decimal;
+use sample_steps::{begin_word, is, number, parts, push_numbered, push_pair};
 use std::alloc::{AllocError, Global};
 use std::process::Abort;
 use std::test::Fail;
@@ -14,48 +15,101 @@ fn next(random: u32) -> u32 {
     random.wrapping_mul(1_664_525).wrapping_add(1_013_904_223)
 }
 
-/// The byte of a text that a number chooses.
-fn chosen(text: &[u8], number: u32) -> u8 {
-    let at = (number as usize).checked_rem(text.len()).unwrap_or(0);
-    text.get(at).copied().unwrap_or(b'?')
+const SLOTS: [&[u8]; 3] = [b"0", b"7", b"15"];
+
+const VERBS: [&[u8]; 6] = [b"put", b"put", b"remove", b"remove", b"look", b"ask"];
+
+const UNITS: [&[u8]; 3] = [b"a", b"b", b"c"];
+
+/// The word that a number chooses.
+fn chosen(words: &[&'static [u8]], number: u32) -> &'static [u8] {
+    let at = (number as usize).checked_rem(words.len()).unwrap_or(0);
+    words.get(at).copied().unwrap_or(b"?")
 }
 
-/// Adds the word that the upper bits of a random number make: of ten, two are a snapshot, two a plan, two a commit, three a call, and one is an undo.
+/// Adds the word that the upper bits of a random number make: of ten, two are a snapshot, two a
+/// plan, two a commit, three a call, and one is an undo.
 fn push_word(random: u32, script: &mut Vec<u8>) -> Result<(), AllocError> {
     let bits = random >> 8;
-    let slot = chosen(b"07f", bits / 10);
-    let sign = chosen(b"++--=?", bits / 30);
-    let unit = chosen(b"abc", bits / 180);
+    let slot = chosen(&SLOTS, bits / 10);
+    let verb = chosen(&VERBS, bits / 30);
+    let unit = chosen(&UNITS, bits / 180);
     match bits % 10 {
-        0 | 1 => script.extend_from_slice(&[b's', slot])?,
-        2 | 3 => script.extend_from_slice(&[b'p', slot, sign, unit])?,
-        4 | 5 => script.extend_from_slice(&[b'c', slot])?,
-        9 => script.extend_from_slice(&[b'u', chosen(b"012345678", bits / 540)])?,
-        _ => script.extend_from_slice(&[sign, unit])?,
+        0 | 1 => push_pair(script, b"snapshot", slot),
+        2 | 3 => {
+            push_pair(script, b"plan", slot)?;
+            push_pair(script, b"", verb)?;
+            push_pair(script, b"", unit)
+        }
+        4 | 5 => push_pair(script, b"alice:commit", slot),
+        9 => push_numbered(script, b"bob:undo", bits / 540 % 9),
+        _ => {
+            push_pair(script, b"bob", verb)?;
+            push_pair(script, b"", unit)
+        }
     }
-    Ok(())
 }
 
 fn script(alloc: Global, seed: u32) -> Result<Vec<u8>, AllocError> {
     let mut random = seed;
     let mut script = Vec::new(alloc);
-    for n in 0..EVENTS {
-        if n > 0 {
-            script.push(b' ')?;
-        }
+    for _ in 0..EVENTS {
+        begin_word(&mut script)?;
         random = next(random);
         push_word(random, &mut script)?;
     }
     Ok(script)
 }
 
-/// A row as plain bytes: the operator's letter, the step, and two bytes for what it says.
+#[derive(Clone, Copy, Debug, PartialEq, Eq)]
+enum Verb {
+    Put,
+    Remove,
+    Look,
+    Ask,
+    Undo,
+}
+
+fn verb_of(word: &[u8]) -> Verb {
+    if is(word, b"put") {
+        return Verb::Put;
+    }
+    if is(word, b"remove") {
+        return Verb::Remove;
+    }
+    if is(word, b"look") {
+        return Verb::Look;
+    }
+    Verb::Ask
+}
+
+/// The verb and the unit of a step.
+fn step_of(word: &[u8]) -> (Verb, u8) {
+    let (verb, unit) = parts(word);
+    (verb_of(verb), unit.first().copied().unwrap_or(b'?'))
+}
+
+/// What a row says.
+#[derive(Clone, Copy, Debug, PartialEq, Eq)]
+enum Said {
+    Done,
+    Exists,
+    Absent,
+    Static,
+    Undid(u32),
+    NoSuchRow,
+    NotACommand,
+    AlreadyUndone(u32),
+    Blocked(u32),
+}
+
+/// A row: the operator, the step, and what it says.
 #[derive(Clone, Copy, Debug)]
 struct PlainRow {
-    who: u8,
-    sign: u8,
+    operator: &'static [u8],
+    verb: Verb,
     unit: u8,
-    said: [u8; 2],
+    said: Said,
     /// The row that undid it, or 0.
     undone_by: u32,
 }
@@ -63,11 +117,26 @@ struct PlainRow {
 impl PlainRow {
     /// Whether it is an accepted command.
     fn is_command(&self) -> bool {
-        self.said[0] == b'k'
+        self.said == Said::Done
     }
 
     fn survives(&self) -> bool {
         self.is_command() && self.undone_by == 0
+    }
+
+    fn push(&self, out: &mut Vec<u8>) -> Result<(), AllocError> {
+        push_pair(out, self.operator, b"")?;
+        match self.said {
+            Said::Done => out.extend_from_slice(b"ok"),
+            Said::Exists => push_pair(out, b"exists", &[self.unit]),
+            Said::Absent => push_pair(out, b"absent", &[self.unit]),
+            Said::Static => out.extend_from_slice(b"static"),
+            Said::Undid(n) => push_numbered(out, b"undid", n),
+            Said::NoSuchRow => out.extend_from_slice(b"no-such-row"),
+            Said::NotACommand => out.extend_from_slice(b"not-a-command"),
+            Said::AlreadyUndone(by) => push_numbered(out, b"already-undone", by),
+            Said::Blocked(by) => push_numbered(out, b"blocked", by),
+        }
     }
 }
 
@@ -79,14 +148,14 @@ fn bit(unit: u8) -> u8 {
     }
 }
 
-/// The units at whose slots a file stands, a bit each, when all surviving commands have run anew.
-fn standing(rows: &[PlainRow]) -> u8 {
+/// The units at whose slots a file is, a bit each, when all surviving commands have run anew.
+fn present(rows: &[PlainRow]) -> u8 {
     let mut units = 0u8;
     for row in rows {
         if row.survives() {
-            units = match row.sign {
-                b'+' => units | bit(row.unit),
-                b'-' => units & !bit(row.unit),
+            units = match row.verb {
+                Verb::Put => units | bit(row.unit),
+                Verb::Remove => units & !bit(row.unit),
                 _ => units,
             };
         }
@@ -98,7 +167,7 @@ fn has(units: u8, unit: u8) -> bool {
     units & bit(unit) != 0
 }
 
-/// The number of the first survivor of a unit after the first `n` rows, or 0.
+/// The first surviving command behind row `n` that looked at the slot of a unit, or 0.
 fn first_later(rows: &[PlainRow], n: u32, unit: u8) -> u32 {
     let mut number: u32 = 0;
     for row in rows {
@@ -111,30 +180,31 @@ fn first_later(rows: &[PlainRow], n: u32, unit: u8) -> u32 {
 }
 
 /// What an undo of row `n` says.
-fn said_of_undo(rows: &[PlainRow], n: u32) -> [u8; 2] {
+fn said_of_undo(rows: &[PlainRow], n: u32) -> Said {
     let Some(row) = rows.get((n as usize).wrapping_sub(1)) else {
-        return *b"n-";
+        return Said::NoSuchRow;
     };
     if !row.is_command() {
-        return *b"c-";
+        return Said::NotACommand;
     }
     if row.undone_by != 0 {
-        return [b'a', digit(row.undone_by)];
+        return Said::AlreadyUndone(row.undone_by);
     }
     let blocker = first_later(rows, n, row.unit);
-    if row.sign != b'=' && blocker != 0 {
-        [b'b', digit(blocker)]
+    if row.verb != Verb::Look && blocker != 0 {
+        Said::Blocked(blocker)
     } else {
-        [b'U', digit(n)]
+        Said::Undid(n)
     }
 }
 
-/// What a step says where a file stands at its slot, or none.
-fn said_of_step(sign: u8, there: bool) -> [u8; 2] {
-    match (sign, there) {
-        (b'?', _) => *b"s-",
-        (b'+', true) | (b'-', false) => *b"r-",
-        _ => *b"k-",
+/// What a step says if a file is at its slot, or none.
+fn said_of_step(verb: Verb, there: bool) -> Said {
+    match (verb, there) {
+        (Verb::Ask, _) => Said::Static,
+        (Verb::Put, true) => Said::Exists,
+        (Verb::Remove, false) => Said::Absent,
+        _ => Said::Done,
     }
 }
 
@@ -144,11 +214,11 @@ fn mark(rows: &mut [PlainRow], n: u32, by: u32) {
     }
 }
 
-/// What a slot keeps: the units at whose slots a file stood, and a step with whether it saw a file.
+/// What a slot keeps: the units at whose slots a file was, and a step with whether it saw a file.
 #[derive(Clone, Copy, Debug)]
 struct PlainSlot {
     snapshot: Option<u8>,
-    plan: Option<(u8, u8, bool)>,
+    plan: Option<(Verb, u8, bool)>,
 }
 
 const EMPTY: PlainSlot = PlainSlot {
@@ -156,20 +226,19 @@ const EMPTY: PlainSlot = PlainSlot {
     plan: None,
 };
 
-/// Which of the slots in use a hexadecimal digit names.
-fn place(digit: u8) -> usize {
-    match digit {
-        b'0' => 0,
-        b'7' => 1,
-        _ => 2,
+/// Which of the slots in use a number names.
+fn place(number: &[u8]) -> usize {
+    if is(number, b"0") {
+        return 0;
     }
+    if is(number, b"7") { 1 } else { 2 }
 }
 
 #[derive(Drop)]
 struct Plain {
     rows: Vec<PlainRow>,
     slots: [PlainSlot; 3],
-    said: Vec<u8>,
+    out: Vec<u8>,
 }
 
 impl Plain {
@@ -177,7 +246,7 @@ impl Plain {
         Plain {
             rows: Vec::new(alloc),
             slots: [EMPTY; 3],
-            said: Vec::new(alloc),
+            out: Vec::new(alloc),
         }
     }
 
@@ -186,109 +255,133 @@ impl Plain {
         u32::try_from(self.rows.len()).unwrap_or(0)
     }
 
-    fn say(&mut self, said: [u8; 2]) -> Result<(), AllocError> {
-        Ok(self.said.extend_from_slice(&said)?)
+    fn say(&mut self, word: &[u8]) -> Result<(), AllocError> {
+        self.out.extend_from_slice(word)
     }
 
-    fn add(&mut self, who: u8, sign: u8, unit: u8, said: [u8; 2]) -> Result<(), AllocError> {
+    fn add(
+        &mut self,
+        operator: &'static [u8],
+        verb: Verb,
+        unit: u8,
+        said: Said,
+    ) -> Result<(), AllocError> {
         self.rows.push(PlainRow {
-            who,
-            sign,
+            operator,
+            verb,
             unit,
             said,
             undone_by: 0,
         })?;
-        let number = digit(self.count());
-        self.say([b'k', number])
+        let count = self.count();
+        push_numbered(&mut self.out, b"row", count)
     }
 
-    fn call(&mut self, who: u8, sign: u8, unit: u8) -> Result<(), AllocError> {
-        let said = said_of_step(sign, has(standing(&self.rows), unit));
-        self.add(who, sign, unit, said)
+    fn call(&mut self, operator: &'static [u8], verb: Verb, unit: u8) -> Result<(), AllocError> {
+        let said = said_of_step(verb, has(present(&self.rows), unit));
+        self.add(operator, verb, unit, said)
     }
 
     fn undo(&mut self, n: u32) -> Result<(), AllocError> {
         let said = said_of_undo(&self.rows, n);
         let by = self.count().wrapping_add(1);
-        if said[0] == b'U' {
+        if said == Said::Undid(n) {
             mark(&mut self.rows, n, by);
         }
-        self.add(b'b', b'u', b'-', said)
+        self.add(b"bob", Verb::Undo, b'?', said)
     }
 
     /// What a slot keeps.
-    fn kept(&self, digit: u8) -> PlainSlot {
-        self.slots.get(place(digit)).copied().unwrap_or(EMPTY)
+    fn kept(&self, slot: &[u8]) -> PlainSlot {
+        self.slots.get(place(slot)).copied().unwrap_or(EMPTY)
     }
 
-    fn keep(&mut self, digit: u8, kept: PlainSlot) {
-        if let Some(there) = self.slots.get_mut(place(digit)) {
+    fn keep(&mut self, slot: &[u8], kept: PlainSlot) {
+        if let Some(there) = self.slots.get_mut(place(slot)) {
             *there = kept;
         }
     }
 
-    fn snap(&mut self, slot: u8) -> Result<(), AllocError> {
+    fn snap(&mut self, slot: &[u8]) -> Result<(), AllocError> {
         let mut kept = self.kept(slot);
-        kept.snapshot = Some(standing(&self.rows));
+        kept.snapshot = Some(present(&self.rows));
         self.keep(slot, kept);
-        self.say(*b"t-")
+        self.say(b"taken")
     }
 
-    fn plan(&mut self, slot: u8, sign: u8, unit: u8) -> Result<(), AllocError> {
+    /// Plans a step, of `7:put:a` in slot 7.
+    fn plan(&mut self, word: &[u8]) -> Result<(), AllocError> {
+        let (slot, step) = parts(word);
+        let (verb, unit) = step_of(step);
         let mut kept = self.kept(slot);
         let Some(units) = kept.snapshot else {
-            return self.say(*b"n-");
+            return self.say(b"nothing");
         };
-        kept.plan = Some((sign, unit, has(units, unit)));
+        kept.plan = Some((verb, unit, has(units, unit)));
         self.keep(slot, kept);
-        self.say(*b"p-")
+        self.say(b"planned")
     }
 
-    fn commit(&mut self, slot: u8) -> Result<(), AllocError> {
+    fn commit(&mut self, slot: &[u8]) -> Result<(), AllocError> {
         let mut kept = self.kept(slot);
-        let Some((sign, unit, saw)) = kept.plan else {
-            return self.say(*b"n-");
+        let Some((verb, unit, saw)) = kept.plan else {
+            return self.say(b"nothing");
         };
         kept.plan = None;
         self.keep(slot, kept);
-        if has(standing(&self.rows), unit) == saw {
-            self.call(b'a', sign, unit)
+        if has(present(&self.rows), unit) == saw {
+            self.call(b"alice", verb, unit)
         } else {
-            self.say([b's', unit])
+            push_pair(&mut self.out, b"stale", &[unit])
         }
+    }
+
+    /// What bob does: an undo, or a step.
+    fn bob(&mut self, word: &[u8]) -> Result<(), AllocError> {
+        let (first, n) = parts(word);
+        if is(first, b"undo") {
+            return self.undo(number(n));
+        }
+        let (verb, unit) = step_of(word);
+        self.call(b"bob", verb, unit)
     }
 
     fn happen(&mut self, word: &[u8]) -> Result<(), AllocError> {
-        match word {
-            [b's', slot] => self.snap(*slot),
-            [b'p', slot, sign, unit] => self.plan(*slot, *sign, *unit),
-            [b'c', slot] => self.commit(*slot),
-            [b'u', n] => self.undo(number(*n)),
-            [sign, unit] => self.call(b'b', *sign, *unit),
-            _ => Err(AllocError),
+        let (first, rest) = parts(word);
+        if is(first, b"snapshot") {
+            return self.snap(rest);
         }
+        if is(first, b"plan") {
+            return self.plan(rest);
+        }
+        if is(first, b"alice") {
+            return self.commit(parts(rest).1);
+        }
+        self.bob(rest)
     }
 
-    /// Adds the rows, and how many files stand, to what was said of the events.
+    /// Adds the rows, and how many files there are, to what was said of the events.
     fn say_rows(&mut self) -> Result<(), AllocError> {
+        self.out.extend_from_slice(b" /")?;
         for row in &self.rows {
-            self.said
-                .extend_from_slice(&[row.who, row.said[0], row.said[1]])?;
+            begin_word(&mut self.out)?;
+            row.push(&mut self.out)?;
         }
-        let standing = standing(&self.rows);
-        self.said.push(digit(standing.count_ones()))?;
-        Ok(())
+        let present = present(&self.rows);
+        self.out.extend_from_slice(b" / entries:")?;
+        push_decimal(&mut self.out, present.count_ones() as usize)
     }
 }
 
-/// What comes of a script by plain bytes.
+/// What comes of a script by the plain machine.
 fn expected(alloc: Global, script: &[u8]) -> Result<Vec<u8>, AllocError> {
     let mut plain = Plain::new(alloc);
     for word in script.split(|b| *b == b' ') {
+        begin_word(&mut plain.out)?;
         plain.happen(word)?;
     }
     plain.say_rows()?;
-    Ok(plain.said)
+    Ok(plain.out)
 }
 
 fn assert_as_expected(rt: &impl Abort, alloc: Global, seed: u32) -> Result<(), AllocError> {
