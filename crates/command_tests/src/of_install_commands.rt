@@ -1,5 +1,4 @@
 mod again;
-mod checking;
 mod commands;
 mod composites;
 mod disabling;

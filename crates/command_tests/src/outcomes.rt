@@ -1,12 +1,9 @@
-//! What operations come to.
-use crate::readings::{assert_looks_at, outcome};
-use footprint::{Answer, Operation, Outcome, Refusal, Subject};
-use link_tree::{Change, Entry, Tree, TreePath};
-use sample_values::tree;
+//! What operations result in.
+use crate::lines::{push_line, without_last_end};
+use footprint::{Answer, Outcome, Refusal, StateWord, Subject};
+use link_tree::{Change, Entry, TreePath};
 use std::alloc::{AllocError, Global};
-use std::process::Abort;
-use std::test::Fail;
-use unit_name::{UnitName, ample};
+use unit_name::UnitName;
 
 fn push_entry(out: &mut Vec<u8>, entry: &Entry) -> Result<(), AllocError> {
     let kind: &[u8] = match entry {
@@ -32,7 +29,7 @@ fn push_side(
     out.extend_from_slice(b"\n")
 }
 
-/// What stood at each path, and what stands there.
+/// What is removed at each path, and what is placed there.
 fn push_changes(out: &mut Vec<u8>, changes: &[Change]) -> Result<(), AllocError> {
     for change in changes {
         push_side(out, b"- ", &change.path, &change.before)?;
@@ -81,10 +78,21 @@ fn named_by(refusal: &Refusal) -> &[u8] {
     }
 }
 
-fn push_line(out: &mut Vec<u8>, front: &[u8], text: &[u8]) -> Result<(), AllocError> {
-    out.extend_from_slice(front)?;
-    out.extend_from_slice(text)?;
-    out.extend_from_slice(b"\n")
+/// The word that `is-enabled` prints.
+fn state_text(word: StateWord) -> &'static [u8] {
+    match word {
+        StateWord::NotFound => b"not-found",
+        StateWord::Masked => b"masked",
+        StateWord::MaskedRuntime => b"masked-runtime",
+        StateWord::Alias => b"alias",
+        StateWord::Enabled => b"enabled",
+        StateWord::EnabledRuntime => b"enabled-runtime",
+        StateWord::Linked => b"linked",
+        StateWord::LinkedRuntime => b"linked-runtime",
+        StateWord::Static => b"static",
+        StateWord::Indirect => b"indirect",
+        StateWord::Disabled => b"disabled",
+    }
 }
 
 fn push_names(out: &mut Vec<u8>, names: &[UnitName]) -> Result<(), AllocError> {
@@ -104,88 +112,14 @@ fn push_answer(out: &mut Vec<u8>, answer: &Answer) -> Result<(), AllocError> {
         }
         Answer::Name(name) => push_line(out, b"is ", name.text()),
         Answer::Names(names) => push_names(out, names.as_slice()),
-        Answer::State(_) => out.extend_from_slice(b"a state\n"),
+        Answer::State(word) => push_line(out, b"", state_text(*word)),
     }
 }
 
-/// What an operation comes to: its answer, and a line for each entry before and after.
-fn outcome_text(alloc: Global, outcome: &Outcome) -> Result<Vec<u8>, AllocError> {
+/// What an operation results in: its answer, and a line for each entry that is removed or placed.
+pub(crate) fn outcome_text(alloc: Global, outcome: &Outcome) -> Result<Vec<u8>, AllocError> {
     let mut out = Vec::new(alloc);
     push_answer(&mut out, &outcome.answer)?;
     push_changes(&mut out, outcome.changes.as_slice())?;
-    Ok(out)
-}
-
-fn told<O: Operation>(alloc: Global, operation: &O, tree: &Tree) -> Result<Vec<u8>, AllocError> {
-    let outcome = outcome(alloc, operation, tree)?;
-    outcome_text(alloc, &outcome)
-}
-
-/// An operation comes to this.
-pub(crate) fn assert_comes_to<O: Operation>(
-    rt: &impl Abort,
-    alloc: Global,
-    operation: &O,
-    tree: &Tree,
-    text: &[u8],
-) -> Result<(), Fail> {
-    let told = ample!(told(alloc, operation, tree), AllocError)?;
-    assert_eq!(rt; told.as_slice(), text);
-    Ok(())
-}
-
-/// A copy of a command is the same, and no question.
-fn assert_copied<O: Operation>(rt: &impl Abort, command: &O) -> Result<(), AllocError> {
-    let copy = ample!(command.copy(), AllocError)?;
-    assert!(rt; copy.same(command) && !copy.asks_only());
-    Ok(())
-}
-
-/// A question is answered so on the tree of an inventory.
-pub(crate) fn assert_answered<O: Operation>(
-    rt: &impl Abort,
-    alloc: Global,
-    question: O,
-    inventory: &[u8],
-    text: &[u8],
-) -> Result<(), Fail> {
-    let tree = tree(alloc, inventory)?;
-    assert_comes_to(rt, alloc, &question, &tree, text)
-}
-
-/// A command comes to this on the tree of an inventory, and can be copied.
-pub(crate) fn assert_told<O: Operation>(
-    rt: &impl Abort,
-    alloc: Global,
-    command: O,
-    inventory: &[u8],
-    text: &[u8],
-) -> Result<(), Fail> {
-    assert_copied(rt, &command)?;
-    assert_answered(rt, alloc, command, inventory, text)
-}
-
-/// A command comes to this text on the tree of an inventory, can be copied, and looks at these keys.
-pub(crate) fn assert_told_and_reads<O: Operation>(
-    rt: &impl Abort,
-    alloc: Global,
-    command: O,
-    inventory: &[u8],
-    (text, keys): (&[u8], &[u8]),
-) -> Result<(), Fail> {
-    let tree = tree(alloc, inventory)?;
-    assert_copied(rt, &command)?;
-    assert_comes_to(rt, alloc, &command, &tree, text)?;
-    assert_looks_at(rt, alloc, &command, &tree, keys)
-}
-
-/// A copy of a question is the same, and a question; another is not the same.
-pub(crate) fn assert_question_copied<O: Operation>(
-    rt: &impl Abort,
-    one: O,
-    other: O,
-) -> Result<(), Fail> {
-    let copy = ample!(one.copy(), AllocError)?;
-    assert!(rt; copy.same(&one) && !copy.same(&other) && copy.asks_only());
-    Ok(())
+    without_last_end(out)
 }

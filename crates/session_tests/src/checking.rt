@@ -1,18 +1,15 @@
-//! What is told of a run in which a log isn't of what was asked for.
+//! What is said of a run in which a log isn't of what was asked for.
 
-use crate::scripts::asks;
-use crate::serving::{place_in, session_told, shared};
-use history::Request;
+use crate::scripts::{asks, push_fault};
+use crate::serving::{session_told, shared};
+use history::{History, Request};
 use sample_steps::{Step, operator};
 use sessions::{Desk, Fed, Session, close_fed};
-use shared_admin::SessionLogs;
+use shared_admin::{SessionLogs, SharedAdmin, Unclosed};
 use std::alloc::{AllocError, Global};
-use std::process::Abort;
 use std::sync::Wait;
-use std::test::Fail;
-use unit_name::ample;
 
-/// A desk, which has a job of alice's without an answer where that is wanted.
+/// A desk, which has a job of alice's without an answer, if that is wanted.
 fn desk(alloc: Global, with_job: bool) -> Result<Desk, AllocError> {
     let mut desk = Desk::new(alloc);
     if with_job {
@@ -34,46 +31,43 @@ fn fed(alloc: Global, session: Box<Session<Step>>, desk: Desk) -> Result<Fed<Ste
     })
 }
 
-/// What alice had asked for, so many times, whose session put a file at the slot of a and took that back; whether the desk has a job left; and
-/// the place that is told, if the run isn't closed.
-type Asked = (&'static [u8], usize, bool, Option<u32>);
+/// What a close answers.
+pub(crate) type Closed = Result<
+    (History<Step>, SessionLogs<Step>),
+    Unclosed<History<Step>, SessionLogs<Step>>,
+>;
 
-fn told(rt: &impl Wait, alloc: Global, asked: &Asked) -> Result<Option<u32>, AllocError> {
-    let admin = shared(alloc, b"A")?;
+/// Adds whether a run is closed, or why it isn't.
+pub(crate) fn push_closed(out: &mut Vec<u8>, closed: &Closed) -> Result<(), AllocError> {
+    match closed {
+        Ok(_) => out.extend_from_slice(b"closed"),
+        Err(left) => push_fault(out, &left.fault),
+    }
+}
+
+/// How closing goes of a session that put a file at the slot of a and took that back, if alice had
+/// asked for what a script says; the desk may have a job left.
+fn closed(
+    rt: &impl Wait,
+    alloc: Global,
+    script: &[u8],
+    with_job: bool,
+) -> Result<Box<Closed>, AllocError> {
+    let admin = shared(alloc, b"alice")?;
     let session = session_told(rt, alloc, &admin, 0)?;
-    let asks = asks(alloc, asked.0, asked.1)?;
-    let fed = fed(alloc, session, desk(alloc, asked.2)?)?;
+    let asks = asks(alloc, script, 1)?;
+    let fed = fed(alloc, session, desk(alloc, with_job)?)?;
     let closed = close_fed(Box::into_inner(admin), fed, asks.as_slice());
-    match &*Box::new(alloc, closed)? {
-        Ok(_) => Ok(None),
-        Err(left) => Ok(Some(place_in(&left.fault))),
-    }
+    Ok(Box::new(alloc, closed)?)
 }
 
-const ASKED: [Asked; 8] = [
-    (b"A+a Au1", 1, false, None),
-    // another request at the first place, and at the second
-    (b"A-a Au1", 1, false, Some(1)),
-    (b"A+a Au2", 1, false, Some(2)),
-    // a request that has no entry, and entries without a request
-    (b"A+a Au1 A+b", 1, false, Some(3)),
-    (b"A+a", 1, false, Some(2)),
-    (b"A+a", 0, false, Some(1)),
-    // all was served, but the desk has no answer; a log that isn't of what was asked for is told first
-    (b"A+a Au1", 1, true, Some(0)),
-    (b"A+a Au2", 1, true, Some(2)),
-];
-
-fn assert_told(rt: &(impl Abort + Wait), alloc: Global, asked: &Asked) -> Result<(), Fail> {
-    let told = ample!(told(rt, alloc, asked), AllocError)?;
-    assert_eq!(rt; told, asked.3);
-    Ok(())
-}
-
-#[test]
-fn the_first_place_is_told_that_was_not_asked_for(rt: HostRuntime) -> Result<(), Fail> {
-    for asked in &ASKED {
-        assert_told(&rt, rt.alloc(), asked)?;
-    }
-    Ok(())
+pub(crate) fn push_said(
+    rt: &impl Wait,
+    alloc: Global,
+    script: &[u8],
+    with_job: bool,
+    out: &mut Vec<u8>,
+) -> Result<(), AllocError> {
+    let closed = closed(rt, alloc, script, with_job)?;
+    push_closed(out, &closed)
 }

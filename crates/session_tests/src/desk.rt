@@ -1,81 +1,92 @@
 //! A desk, and the answers that it takes.
+//!
+//! | Word | What is done | What the desk says |
+//! |---|---|---|
+//! | `issue:bob` | a job is issued to bob | `job:1`; `closed` |
+//! | `answer:1:bob` | bob answers job 1 | `taken`, `unknown`, `double` |
+//! | `open` | it is asked how many jobs have no answer | `open:2` |
+//! | `shut` | the desk is shut | `shut` |
 
 use history::{Request, RowReply};
-use sample_steps::named;
+use sample_steps::{begin_word, is, number, operator, parts, push_numbered};
 use sessions::{AcceptError, Answered, Desk, IssueError, Job, Unissued};
 use std::alloc::{AllocError, Global};
-use std::test::Fail;
-use unit_name::ample;
 
-fn digit(n: u64) -> u8 {
-    u8::try_from(n).map_or(b'?', |n| b'0'.wrapping_add(n))
+fn push_count(out: &mut Vec<u8>, word: &[u8], n: u64) -> Result<(), AllocError> {
+    push_numbered(out, word, u32::try_from(n).unwrap_or(u32::MAX))
 }
 
-/// The number of a job that is issued to an operator, or `c` where the desk is shut.
-fn issue(desk: &mut Desk, letter: u8) -> Result<u8, AllocError> {
-    let issued: Result<Job<u8>, Unissued<u8>> = desk.issue(named(letter)?, Request::Undo(7));
+/// Issues a job to an operator.
+fn issue(desk: &mut Desk, name: &[u8], out: &mut Vec<u8>) -> Result<(), AllocError> {
+    let issued: Result<Job<u8>, Unissued<u8>> = desk.issue(operator(name)?, Request::Undo(7));
     match issued {
-        Ok(job) => Ok(digit(job.number)),
+        Ok(job) => push_count(out, b"job", job.number),
         Err(left) => match left.why {
-            IssueError::Closed => Ok(b'c'),
+            IssueError::Closed => out.extend_from_slice(b"closed"),
             IssueError::OutOfMemory => Err(AllocError),
         },
     }
 }
 
-/// An operator's answer to a job.
-fn answer(letter: u8, number: u8) -> Result<Answered, AllocError> {
-    Ok(Answered {
-        number: u64::from(number.wrapping_sub(b'0')),
-        operator: named(letter)?,
+/// The answer of `1:bob`, which is bob's to job 1.
+fn answer_of(alloc: Global, word: &[u8]) -> Result<Box<Answered>, AllocError> {
+    let (job, name) = parts(word);
+    let answer = Answered {
+        number: u64::from(number(job)),
+        operator: operator(name)?,
         reply: RowReply::Undid(7),
-    })
+    };
+    Ok(Box::new(alloc, answer)?)
 }
 
-/// What is said of an answer: `k` that it is taken, `u` that the job is unknown, `d` that it is the second.
-fn letter_of(accepted: Result<(), AcceptError>) -> u8 {
+fn text_of(accepted: Result<(), AcceptError>) -> &'static [u8] {
     match accepted {
-        Ok(()) => b'k',
-        Err(AcceptError::UnknownJob) => b'u',
-        Err(AcceptError::Double) => b'd',
+        Ok(()) => b"taken",
+        Err(AcceptError::UnknownJob) => b"unknown",
+        Err(AcceptError::Double) => b"double",
     }
 }
 
-fn accept(desk: &mut Desk, letter: u8, number: u8) -> Result<u8, AllocError> {
-    let answer = answer(letter, number)?;
-    Ok(letter_of(desk.accept(&answer)))
+fn accept(
+    alloc: Global,
+    desk: &mut Desk,
+    word: &[u8],
+    out: &mut Vec<u8>,
+) -> Result<(), AllocError> {
+    let answer = answer_of(alloc, word)?;
+    out.extend_from_slice(text_of(desk.accept(&answer)))
 }
 
-/// What the desk says to a word: `iB` issues a job to bob, `1B` is his answer to job 1, `s-` shuts the desk, and `o-` asks how many jobs are
-/// without an answer.
-fn said_to(desk: &mut Desk, word: &[u8]) -> Result<u8, AllocError> {
-    match word {
-        b"o-" => Ok(digit(desk.outstanding())),
-        b"s-" => {
-            desk.shut();
-            Ok(b'-')
-        }
-        [b'i', letter] => issue(desk, *letter),
-        [number, letter] => accept(desk, *letter, *number),
-        _ => Err(AllocError),
+/// Adds what the desk says to a word.
+fn push_one(
+    alloc: Global,
+    desk: &mut Desk,
+    word: &[u8],
+    out: &mut Vec<u8>,
+) -> Result<(), AllocError> {
+    let (first, rest) = parts(word);
+    if is(first, b"issue") {
+        return issue(desk, rest, out);
     }
+    if is(first, b"answer") {
+        return accept(alloc, desk, rest, out);
+    }
+    if is(first, b"open") {
+        return push_count(out, b"open", desk.outstanding());
+    }
+    if is(first, b"shut") {
+        desk.shut();
+        return out.extend_from_slice(b"shut");
+    }
+    Err(AllocError)
 }
 
-fn said(alloc: Global, script: &[u8]) -> Result<Vec<u8>, AllocError> {
+/// Adds what a desk says to the words of a script.
+pub(crate) fn push_said(alloc: Global, script: &[u8], out: &mut Vec<u8>) -> Result<(), AllocError> {
     let mut desk = Desk::new(alloc);
-    let mut out = Vec::new(alloc);
     for word in script.split(|b| *b == b' ') {
-        out.push(said_to(&mut desk, word)?)?;
+        begin_word(out)?;
+        push_one(alloc, &mut desk, word, out)?;
     }
-    Ok(out)
-}
-
-/// Jobs for bob and for alice. Answers to no job, to one of another operator's, and for the second time aren't taken.
-const SCRIPT: &[u8] = b"iB iA o- 0B 3B 1A 1B o- 1B 1A s- iB 2A o-";
-
-#[test]
-fn a_desk_takes_each_answer_once(rt: HostRuntime) -> Result<(), Fail> {
-    let said = ample!(said(rt.alloc(), SCRIPT), AllocError)?;
-    assert_eq!(&rt; said.as_slice(), b"122uuuk1du-ck0".as_slice());
     Ok(())
 }

@@ -1,4 +1,5 @@
-//! Runs that are long, or in which one session waits for another: `tools/each-growth` leaves them out.
+//! Runs that are long, or in which one session waits for another: `tools/each-growth` leaves them
+//! out.
 
 use crate::running::{text_of_feed, text_of_run};
 use crate::scripts::Open;
@@ -13,7 +14,8 @@ use std::thread;
 use std::thread::Threads;
 use std::time::{Clock, Duration};
 
-/// Holds alice's first call up until bob's second comes, and bob's first until alice's first comes, ten seconds at most.
+/// Holds alice's first call up until bob's second comes, and bob's first until alice's first comes,
+/// ten seconds at most.
 #[derive(Drop)]
 struct Meeting<'a, R: Clock> {
     rt: &'a R,
@@ -46,9 +48,12 @@ impl<'a, R: Clock> Gate for Meeting<'a, R> {
     }
 }
 
-/// Bob's first call is accepted; alice's, planned before it and made again, is refused; bob's second comes before that or after it.
+/// Bob's first call is accepted; alice's, planned before it and made again, is refused; bob's
+/// second comes before that or after it.
 fn assert_bob_came_first(rt: &impl Abort, text: &[u8], alice_came: u64) {
-    assert!(rt; text == b"2bk-bk-ar-".as_slice() || text == b"2bk-ar-bk-".as_slice());
+    let is_last = text == b"logs:2 bob:ok bob:ok alice:exists:a".as_slice();
+    let is_second = text == b"logs:2 bob:ok alice:exists:a bob:ok".as_slice();
+    assert!(rt; is_last || is_second);
     assert_eq!(rt; alice_came, 2);
 }
 
@@ -61,7 +66,7 @@ fn gate_two_sessions(rt: HostRuntime) -> Result<(), Fail> {
         alice_came: &alice_came,
         bob_came: &bob_came,
     };
-    let text = text_of_run(&rt, rt.alloc(), b"A +a/B +a +b", &gate)?;
+    let text = text_of_run(&rt, rt.alloc(), b"alice put:a / bob put:a put:b", &gate)?;
     assert_bob_came_first(&rt, &text, alice_came.load(Ordering::SeqCst));
     Ok(())
 }
@@ -75,43 +80,59 @@ fn gate_desk(rt: HostRuntime) -> Result<(), Fail> {
         alice_came: &alice_came,
         bob_came: &bob_came,
     };
-    let text = text_of_feed(&rt, rt.alloc(), (b"AB", b"A+a B+a B+b", 1), &gate)?;
+    let text = text_of_feed(
+        &rt,
+        rt.alloc(),
+        (b"alice bob", b"alice:put:a bob:put:a bob:put:b", 1),
+        &gate,
+    )?;
     assert_bob_came_first(&rt, &text, alice_came.load(Ordering::SeqCst));
     Ok(())
 }
 
-/// Works of sixteen operators with twenty requests each: a file is put at one slot, and taken away.
+const NAMES: [&[u8]; 16] = [
+    b"alice", b"bob", b"c", b"d", b"e", b"f", b"g", b"h", b"i", b"j", b"k", b"l", b"m", b"n", b"o",
+    b"p",
+];
+
+/// Works of sixteen operators with twenty requests each: a file is put at one slot, and removed.
 fn script_of_many(alloc: Global) -> Result<Vec<u8>, AllocError> {
     let mut script = Vec::new(alloc);
-    for letter in b"ABcdefghijklmnop" {
+    for name in &NAMES {
         if !script.is_empty() {
-            script.push(b'/')?;
+            script.extend_from_slice(b" / ")?;
         }
-        script.push(*letter)?;
+        script.extend_from_slice(name)?;
         for _ in 0..10 {
-            script.extend_from_slice(b" +a -a")?;
+            script.extend_from_slice(b" put:a remove:a")?;
         }
     }
     Ok(script)
 }
 
-/// A text of so many logs and rows.
-fn assert_counts(rt: &impl Abort, text: &[u8], logs: u8, rows: usize) {
-    assert_eq!(rt; text.first().copied(), Some(b'0'.wrapping_add(logs)));
-    assert_eq!(rt; text.len(), rows.wrapping_mul(3).wrapping_add(1));
+/// A text of logs that begins so, with a word for each of so many rows behind.
+fn assert_counts(rt: &impl Abort, text: &[u8], logs: &[u8], rows: usize) {
+    assert!(rt; text.starts_with(logs));
+    let words = text.split(|b| *b == b' ').count();
+    assert_eq!(rt; words, rows.wrapping_add(1));
 }
 
 #[test]
 fn sixteen_sessions_of_twenty_calls(rt: HostRuntime) -> Result<(), Fail> {
     let script = script_of_many(rt.alloc())?;
     let text = text_of_run(&rt, rt.alloc(), &script, &Open)?;
-    assert_counts(&rt, &text, 16, 320);
+    assert_counts(&rt, &text, b"logs:16 ", 320);
     Ok(())
 }
 
 #[test]
 fn two_operators_are_fed_forty_calls_each(rt: HostRuntime) -> Result<(), Fail> {
-    let text = text_of_feed(&rt, rt.alloc(), (b"AB", b"A+a B-a", 40), &Open)?;
-    assert_counts(&rt, &text, 2, 80);
+    let text = text_of_feed(
+        &rt,
+        rt.alloc(),
+        (b"alice bob", b"alice:put:a bob:remove:a", 40),
+        &Open,
+    )?;
+    assert_counts(&rt, &text, b"logs:2 ", 80);
     Ok(())
 }

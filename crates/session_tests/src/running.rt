@@ -2,13 +2,27 @@
 
 use crate::scripts::{Open, Ran, asks, operators, push_run, works};
 use link_tree::Tree;
+use sample_rows::{Row, unlike};
+use sample_steps::is;
 use sessions::{Gate, run_desk, run_sessions};
 use std::alloc::{AllocError, Global};
-use std::process::Abort;
+use std::str;
 use std::sync::Wait;
 use std::test::Fail;
 use std::thread::Threads;
-use unit_name::ample;
+
+/// Works that are run, and what the run comes to. Operators who are fed, their asks, and what comes
+/// of that.
+const ROWS: &[u8] = b"\
+    run\talice put:a put:a undo:1\t\tlogs:1 alice:ok alice:exists:a alice:undid:1\n\
+    run\talice / bob put:b\t\tlogs:2 bob:ok\n\
+    run\talice put:a / bob / alice\t\tan-operator-twice\n\
+    run\talice / bob / c / d / e / f / g / h / i / j / k / l / m / n / o / p / alice put:a\t\t\
+        too-many-sessions\n\
+    feed\talice bob\tbob:put:a bob:put:a bob:remove:a\tlogs:2 bob:ok bob:exists:a bob:ok\n\
+    feed\talice bob alice\talice:put:a\tan-operator-twice\n\
+    feed\talice bob c d e f g h i j k l m n o p alice\talice:put:a\ttoo-many-sessions\n\
+    ";
 
 /// Runs works on an empty tree.
 fn ran<R: Threads + Wait + Sync, G: Gate + Sync>(
@@ -30,21 +44,21 @@ pub(crate) fn text_of_run<R: Threads + Wait + Sync, G: Gate + Sync>(
     gate: &G,
 ) -> Result<Vec<u8>, AllocError> {
     let mut out = Vec::new(alloc);
-    push_run(&*ran(rt, alloc, script, gate)?, &mut out)?;
+    push_run(&mut out, &*ran(rt, alloc, script, gate)?)?;
     Ok(out)
 }
 
-/// Which operators are fed, their letters; the requests of a script, and how many times.
+/// Which operators are fed, their names; the asks of a script, and how many times.
 pub(crate) type Feed<'a> = (&'a [u8], &'a [u8], usize);
 
 /// Feeds operators, on an empty tree.
 fn fed<R: Threads + Wait + Sync, G: Gate + Sync>(
     rt: &R,
     alloc: Global,
-    (letters, script, times): Feed<'_>,
+    (names, script, times): Feed<'_>,
     gate: &G,
 ) -> Result<Box<Ran>, AllocError> {
-    let operators = operators(alloc, letters)?;
+    let operators = operators(alloc, names)?;
     let asks = asks(alloc, script, times)?;
     if !asks.are_of(operators.as_slice()) {
         return Err(AllocError);
@@ -61,61 +75,27 @@ pub(crate) fn text_of_feed<R: Threads + Wait + Sync, G: Gate + Sync>(
     gate: &G,
 ) -> Result<Vec<u8>, AllocError> {
     let mut out = Vec::new(alloc);
-    push_run(&*fed(rt, alloc, feed, gate)?, &mut out)?;
+    push_run(&mut out, &*fed(rt, alloc, feed, gate)?)?;
     Ok(out)
 }
 
-/// A script of works, and what a run of it comes to.
-type Run = (&'static [u8], &'static [u8]);
-
-const RUNS: [Run; 4] = [
-    (b"A +a +a u1", b"1ak-ar-aU1"),
-    (b"A/B +b", b"2bk-"),
-    (b"A +a/B/A", b"S"),
-    (b"A/B/c/d/e/f/g/h/i/j/k/l/m/n/o/p/A +a", b"T"),
-];
-
-fn assert_runs<R: Abort + Threads + Wait + Sync>(
+fn answer<R: Threads + Wait + Sync>(
     rt: &R,
     alloc: Global,
-    row: &Run,
-) -> Result<(), Fail> {
-    let text = ample!(text_of_run(rt, alloc, row.0, &Open), AllocError)?;
-    assert_eq!(rt; text.as_slice(), row.1);
-    Ok(())
+    row: &Row,
+) -> Result<Vec<u8>, AllocError> {
+    if is(&row.kind, b"run") {
+        return text_of_run(rt, alloc, &row.one, &Open);
+    }
+    if is(&row.kind, b"feed") {
+        return text_of_feed(rt, alloc, (&row.one, &row.two, 1), &Open);
+    }
+    Vec::from_slice(alloc, b"unknown kind")
 }
 
 #[test]
 fn sessions_run_side_by_side(rt: HostRuntime) -> Result<(), Fail> {
-    for row in &RUNS {
-        assert_runs(&rt, rt.alloc(), row)?;
-    }
-    Ok(())
-}
-
-/// What is fed, and what comes of it.
-type Fed = (Feed<'static>, &'static [u8]);
-
-const FEEDS: [Fed; 3] = [
-    ((b"AB", b"B+a B+a B-a", 1), b"2bk-br-bk-"),
-    ((b"ABA", b"A+a", 1), b"S"),
-    ((b"ABcdefghijklmnopA", b"A+a", 1), b"T"),
-];
-
-fn assert_feeds<R: Abort + Threads + Wait + Sync>(
-    rt: &R,
-    alloc: Global,
-    row: &Fed,
-) -> Result<(), Fail> {
-    let text = ample!(text_of_feed(rt, alloc, row.0, &Open), AllocError)?;
-    assert_eq!(rt; text.as_slice(), row.1);
-    Ok(())
-}
-
-#[test]
-fn jobs_are_fed_to_workers(rt: HostRuntime) -> Result<(), Fail> {
-    for row in &FEEDS {
-        assert_feeds(&rt, rt.alloc(), row)?;
-    }
+    let found = unlike(rt.alloc(), ROWS, |alloc, row| answer(&rt, alloc, row))?;
+    assert!(rt; found.is_empty(), "{:?}", str::from_utf8(&found));
     Ok(())
 }

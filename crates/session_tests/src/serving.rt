@@ -1,26 +1,62 @@
-//! Sessions on one thread.
+//! Desks, and sessions on one thread.
 
+use crate::checking::{self, Closed, push_closed};
+use crate::desk;
 use crate::scripts::{Open, operators};
 use history::Operator;
-use link_tree::Tree;
-use sample_steps::{Step, operator, reply_text, request, step};
+use link_tree::{Tree, push_decimal};
+use sample_rows::{Row, unlike};
+use sample_steps::{Step, is, number, operator, push_numbered, push_reply, request, step};
 use sessions::{Gate, Session};
-use shared_admin::{CloseFault, SessionLogs, SharedAdmin};
+use shared_admin::{SessionLogs, SharedAdmin};
 use std::alloc::{AllocError, Global};
+use std::str;
 use std::sync::Wait;
 use std::sync::atomic::{AtomicU64, Ordering};
 use std::test::Fail;
 use unit_name::ample;
 
-/// An empty tree, which the operators of these letters share.
-pub(crate) fn shared(alloc: Global, letters: &[u8]) -> Result<Box<SharedAdmin<Step>>, AllocError> {
-    match SharedAdmin::new(alloc, Tree::empty(alloc)?, operators(alloc, letters)?) {
+/// What a desk says to words. What closing says of alice's session, which put a file at the slot of
+/// a and took that back, if this is what she had asked for. What her last entry says if bob meddles
+/// with each plan of hers; or if she was told of so many rows before she put a file at the slot of
+/// a and took that back.
+const ROWS: &[u8] = b"\
+    # answers to no job, to one of another operator's, and for the second time aren't taken\n\
+    desk\tissue:bob issue:alice open answer:0:bob answer:3:bob answer:1:alice answer:1:bob open \
+        answer:1:bob answer:1:alice shut issue:bob answer:2:alice open\t\t\
+        job:1 job:2 open:2 unknown unknown unknown taken open:1 \
+        double unknown shut closed taken open:0\n\
+    \n\
+    asked\talice:put:a alice:undo:1\t\tclosed\n\
+    # another request at the first place, and at the second\n\
+    asked\talice:remove:a alice:undo:1\t\tmismatch:alice:1\n\
+    asked\talice:put:a alice:undo:2\t\tmismatch:alice:2\n\
+    # a request that has no entry, and entries without a request\n\
+    asked\talice:put:a alice:undo:1 alice:put:b\t\tmismatch:alice:3\n\
+    asked\talice:put:a\t\tmismatch:alice:2\n\
+    asked\t\t\tmismatch:alice:1\n\
+    # all was served, but the desk has no answer; a log that isn't of what was asked for\n\
+    # comes first\n\
+    asked\talice:put:a alice:undo:1\tand a job is left\tmismatch:alice:0\n\
+    asked\talice:put:a alice:undo:2\tand a job is left\tmismatch:alice:2\n\
+    \n\
+    # four plans are stale, and then she calls while the lock is held\n\
+    meddled\tput:a\t\trow:5:seen:0:ok attempts:1234\n\
+    # a row comes after all that she was told of\n\
+    told\t0\t\trow:2:seen:1:undid:1 closed\n\
+    told\t9\t\trow:2:seen:1:undid:1 mismatch:alice:1\n\
+    ";
+
+/// An empty tree, which the operators of these names share.
+pub(crate) fn shared(alloc: Global, names: &[u8]) -> Result<Box<SharedAdmin<Step>>, AllocError> {
+    match SharedAdmin::new(alloc, Tree::empty(alloc)?, operators(alloc, names)?) {
         Ok(admin) => Ok(Box::new(alloc, admin)?),
         Err(_) => Err(AllocError),
     }
 }
 
-/// Makes each plan of alice's stale: by a call of bob's a file is put at the slot where it looked, and the next time it is taken away.
+/// Makes each plan of alice's stale: bob puts a file at the slot at which it looked, and the next
+/// time he removes it.
 #[derive(Drop)]
 struct Meddler<'a, R: Wait> {
     rt: &'a R,
@@ -32,12 +68,14 @@ struct Meddler<'a, R: Wait> {
 
 impl<'a, R: Wait> Meddler<'a, R> {
     fn meddle(&self, attempt: u8) -> Result<(), AllocError> {
-        let how = if attempt % 2 == 1 { b'+' } else { b'-' };
-        let step = step(self.alloc, how, b'a')?;
-        match self
-            .admin
-            .call(self.rt, self.alloc, operator(b"bob")?, step)
-        {
+        let word = if attempt % 2 == 1 {
+            b"put:a".as_slice()
+        } else {
+            b"remove:a".as_slice()
+        };
+        let bob = operator(b"bob")?;
+        let step = step(self.alloc, word)?;
+        match self.admin.call(self.rt, self.alloc, bob, step) {
             Ok(_) => Ok(()),
             Err(_) => Err(AllocError),
         }
@@ -70,12 +108,15 @@ fn call<R: Wait, G: Gate>(
     }
 }
 
-/// The row and the reply of the last call, and how many rows had been seen before.
-fn last_of(session: &Session<Step>) -> (u32, u32, [u8; 2]) {
-    match session.entries() {
-        [.., last] => (last.row, last.seen, reply_text(&last.reply)),
-        [] => (0, 0, *b"--"),
-    }
+/// Adds the row of the last call, how many rows had been seen before, and the reply.
+fn push_last(out: &mut Vec<u8>, session: &Session<Step>) -> Result<(), AllocError> {
+    let Some(last) = session.entries().last() else {
+        return out.extend_from_slice(b"no-entry");
+    };
+    push_numbered(out, b"row", last.row)?;
+    push_numbered(out, b":seen", last.seen)?;
+    out.extend_from_slice(b":")?;
+    push_reply(out, &last.reply)
 }
 
 /// The session of an operator.
@@ -83,9 +124,14 @@ fn opened(alloc: Global, name: &[u8]) -> Result<Box<Session<Step>>, AllocError> 
     Ok(Box::new(alloc, Session::open(alloc, operator(name)?))?)
 }
 
-/// The attempts at alice's call, and what is told of it.
-fn meddled(rt: &impl Wait, alloc: Global) -> Result<(u64, (u32, u32, [u8; 2])), AllocError> {
-    let admin = shared(alloc, b"AB")?;
+/// Adds the attempts at alice's call, and what her entry says.
+fn push_meddled(
+    rt: &impl Wait,
+    alloc: Global,
+    word: &[u8],
+    out: &mut Vec<u8>,
+) -> Result<(), AllocError> {
+    let admin = shared(alloc, b"alice bob")?;
     let seen = AtomicU64::new(0);
     let gate = Meddler {
         rt,
@@ -93,20 +139,27 @@ fn meddled(rt: &impl Wait, alloc: Global) -> Result<(u64, (u32, u32, [u8; 2])), 
         admin: &admin,
         seen: &seen,
     };
+    push_served(rt, alloc, &admin, &gate, word, out)?;
+    out.extend_from_slice(b" attempts:")?;
+    push_decimal(out, seen.load(Ordering::SeqCst) as usize)
+}
+
+/// Adds what the entry of alice's call says.
+fn push_served<R: Wait, G: Gate>(
+    rt: &R,
+    alloc: Global,
+    admin: &SharedAdmin<Step>,
+    gate: &G,
+    word: &[u8],
+    out: &mut Vec<u8>,
+) -> Result<(), AllocError> {
     let mut session = opened(alloc, b"alice")?;
-    call(rt, alloc, &mut session, &admin, &gate, b"+a")?;
-    Ok((seen.load(Ordering::SeqCst), last_of(&session)))
+    call(rt, alloc, &mut session, admin, gate, word)?;
+    push_last(out, &session)
 }
 
-#[test]
-fn four_stale_then_locked(rt: HostRuntime) -> Result<(), Fail> {
-    let (attempts, last) = ample!(meddled(&rt, rt.alloc()), AllocError)?;
-    assert_eq!(rt; attempts, 1234);
-    assert_eq!(rt; last, (5, 0, *b"k-"));
-    Ok(())
-}
-
-/// A session that was told of so many rows, and made two calls, of which the second is an undo of the first.
+/// A session that was told of so many rows, and made two calls, of which the second is an undo of
+/// the first.
 pub(crate) fn session_told(
     rt: &impl Wait,
     alloc: Global,
@@ -116,51 +169,68 @@ pub(crate) fn session_told(
     let mut session = opened(alloc, b"alice")?;
     session.tell(front);
     session.tell(0);
-    call(rt, alloc, &mut session, admin, &Open, b"+a")?;
-    call(rt, alloc, &mut session, admin, &Open, b"u1")?;
+    call(rt, alloc, &mut session, admin, &Open, b"put:a")?;
+    call(rt, alloc, &mut session, admin, &Open, b"undo:1")?;
     Ok(session)
 }
 
-/// The place that a fault tells.
-pub(crate) fn place_in(fault: &CloseFault) -> u32 {
-    match fault {
-        CloseFault::Mismatch(_, place) => *place,
-        _ => 99,
-    }
-}
-
-/// How closing goes with the log of one session: the place of the first entry that doesn't tell its row, if there is one.
+/// How closing goes with the log of one session.
 fn closed(
     alloc: Global,
     admin: Box<SharedAdmin<Step>>,
     session: Box<Session<Step>>,
-) -> Result<Option<u32>, AllocError> {
+) -> Result<Box<Closed>, AllocError> {
     let mut logs = SessionLogs::none(alloc);
     logs.push(Box::into_inner(session).into_log())?;
-    let closed = Box::new(alloc, Box::into_inner(admin).close(logs))?;
-    match &*closed {
-        Ok(_) => Ok(None),
-        Err(left) => Ok(Some(place_in(&left.fault))),
-    }
+    Ok(Box::new(alloc, Box::into_inner(admin).close(logs))?)
 }
 
-/// What is told of the second call of a session that was told of so many rows, and how closing goes.
-fn told(
+/// Adds what the second entry says of a session that was told of so many rows, and how closing
+/// goes.
+fn push_told(
     rt: &impl Wait,
     alloc: Global,
     front: u32,
-) -> Result<((u32, u32, [u8; 2]), Option<u32>), AllocError> {
-    let admin = shared(alloc, b"A")?;
+    out: &mut Vec<u8>,
+) -> Result<(), AllocError> {
+    let admin = shared(alloc, b"alice")?;
     let session = session_told(rt, alloc, &admin, front)?;
-    let last = last_of(&session);
-    Ok((last, closed(alloc, admin, session)?))
+    push_last(out, &session)?;
+    let closed = closed(alloc, admin, session)?;
+    out.extend_from_slice(b" ")?;
+    push_closed(out, &closed)
+}
+
+fn push_answer(
+    rt: &impl Wait,
+    alloc: Global,
+    row: &Row,
+    out: &mut Vec<u8>,
+) -> Result<(), AllocError> {
+    if is(&row.kind, b"desk") {
+        return desk::push_said(alloc, &row.one, out);
+    }
+    if is(&row.kind, b"asked") {
+        return checking::push_said(rt, alloc, &row.one, !row.two.is_empty(), out);
+    }
+    if is(&row.kind, b"meddled") {
+        return push_meddled(rt, alloc, &row.one, out);
+    }
+    if is(&row.kind, b"told") {
+        return push_told(rt, alloc, number(&row.one), out);
+    }
+    out.extend_from_slice(b"unknown kind")
+}
+
+fn answer(rt: &impl Wait, alloc: Global, row: &Row) -> Result<Vec<u8>, AllocError> {
+    let mut out = Vec::new(alloc);
+    push_answer(rt, alloc, row, &mut out)?;
+    Ok(out)
 }
 
 #[test]
-fn a_row_comes_after_all_that_was_told(rt: HostRuntime) -> Result<(), Fail> {
-    let nothing_told = ample!(told(&rt, rt.alloc(), 0), AllocError)?;
-    assert_eq!(rt; nothing_told, ((2, 1, [b'U', b'1']), None));
-    let nine_told = ample!(told(&rt, rt.alloc(), 9), AllocError)?;
-    assert_eq!(rt; nine_told, ((2, 1, [b'U', b'1']), Some(1)));
+fn requests_are_served_once_and_in_order(rt: HostRuntime) -> Result<(), Fail> {
+    let found = unlike(rt.alloc(), ROWS, |alloc, row| answer(&rt, alloc, row))?;
+    assert!(rt; found.is_empty(), "{:?}", str::from_utf8(&found));
     Ok(())
 }

@@ -2,6 +2,7 @@
 use Rattle.std.proofs.Common.{◌≡◌, ℕ, zero, suc, ◌+◌, ◌-◌, ◌<◌, ◌≤◌, true, false, ◌||◌, List, [], ◌∷◌, ◌++◌, All, Some, length, take, drop, get_or, refl, sym, ap, subst, ◌∙◌, cond, inl, inr, arith, append_assoc, append-nil, length-append}
 use Rattle.std.specs.Prelude.{◌≢◌, slice_get}
 use Rattle.std.specs.Str.{bytes_eq}
+use Rattle.std.proofs.Math.Seq.{take-suc}
 use Rattle.std.proofs.lemmas.Bool.{cases_Bool, true≢false}
 use Rattle.std.proofs.lemmas.List.{drop_more, take_all}
 use Rattle.std.proofs.lemmas.List.Elements.{All-head, All-tail, All-nil, All-cons}
@@ -92,6 +93,15 @@ module _ {O : Type 0} where
   left_of operators items ask rest step all =
       All-tail (λ (ask : Ask O). is_among operators ask.operator ≡ true) ask rest (subst (λ (asks : List (Ask O)). AreOf operators asks) step all)
 
+  -- the next of those that are left
+  pub next_is_of : (operators : List (List ℕ)) (items : List (Ask O)) (ask : Ask O) (rest : List (Ask O)) → items ≡ ask ∷ rest → AreOf operators items → is_among operators ask.operator ≡ true
+  next_is_of operators items ask rest step all =
+      All-head (λ (ask : Ask O). is_among operators ask.operator ≡ true) ask rest (subst (λ (asks : List (Ask O)). AreOf operators asks) step all)
+
+  -- none is left
+  pub all_issued : (desk : Jobs) (all items : List (Ask O)) → items ≡ [] → desk.issued ++ jobs_of items ≡ jobs_of all → desk.issued ≡ jobs_of all
+  all_issued desk all items none before = sym (append-nil desk.issued) ∙ sym (ap (λ (asks : List (Ask O)). desk.issued ++ jobs_of asks) none) ∙ before
+
   -- a job for the next
   pub issued_one : (desk new : Jobs) (all items : List (Ask O)) (ask : Ask O) (rest : List (Ask O))
       → new ≡ record { issued = desk.issued ++ record { operator = ask.operator; is_answered = false } ∷ []; is_shut = false } → items ≡ ask ∷ rest → desk.issued ++ jobs_of items ≡ jobs_of all → new.issued ++ jobs_of rest ≡ jobs_of all
@@ -100,6 +110,33 @@ module _ {O : Type 0} where
       ∙ append_assoc desk.issued (record { operator = ask.operator; is_answered = false } ∷ []) (jobs_of rest)
       ∙ sym (ap (λ (asks : List (Ask O)). desk.issued ++ jobs_of asks) step)
       ∙ before
+
+  -- one more request is served
+  pub served_one : (old new : Opened O) (request : Request O) (items rest all : List (Request O)) → IsServed old request new → items ≡ request ∷ rest → requests_of old.entries ++ items ≡ all → requests_of new.entries ++ rest ≡ all
+  served_one old new request items rest all served step before =
+      ap (λ (session : Opened O). requests_of session.entries ++ rest) served.added
+      ∙ ap (λ (requests : List (Request O)). requests ++ rest) (told-append old.entries (entry_of request old.front served.row))
+      ∙ append_assoc (requests_of old.entries) (request ∷ []) rest
+      ∙ sym (ap (λ (requests : List (Request O)). requests_of old.entries ++ requests) step)
+      ∙ before
+    where
+      told-append : (entries : List (LogEntry O)) (entry : LogEntry O) → requests_of (entries ++ entry ∷ []) ≡ requests_of entries ++ entry.request ∷ []
+      told-append [] entry = refl
+      told-append (e ∷ es) entry = ap (λ (requests : List (Request O)). e.request ∷ requests) (told-append es entry)
+
+  -- none is left
+  pub all_served : (session : Opened O) (items all : List (Request O)) → items ≡ [] → requests_of session.entries ++ items ≡ all → requests_of session.entries ≡ all
+  all_served session items all none before = sym (append-nil (requests_of session.entries)) ∙ sym (ap (λ (requests : List (Request O)). requests_of session.entries ++ requests) none) ∙ before
+
+  -- one more is copied
+  pub one_copied : (items : List (Ask O)) (index : ℕ) (item copied : Ask O) (so_far more : List (Ask O)) → item ≡ get_or items index item → index < length items → copied ≡ item → more ≡ so_far ++ copied ∷ [] → so_far ≡ take index items → more ≡ take (index + 1) items
+  one_copied items index item copied so_far more is within same added before =
+      let next : index + 1 ≡ suc index = omega arith in
+      added
+      ∙ ap (λ (ask : Ask O). so_far ++ ask ∷ []) (same ∙ is)
+      ∙ ap (λ (asks : List (Ask O)). asks ++ get_or items index item ∷ []) before
+      ∙ sym (take-suc items index item within)
+      ∙ sym (ap (λ n. take n items) next)
 
   -- the reply of the last entry is that of the row
   pub reply_is : (old new : Opened O) (request : Request O) (served : IsServed old request new) (entries : List (LogEntry O)) (entry : LogEntry O) (reply : RowReply)

@@ -54,3 +54,7 @@ module _ {H L : Type 0} where
   -- an error that is made of the workers' fault
   pub told_of_worker : {A : Type 0} → (operators : List (List ℕ)) (P : Unclosed H L → Type 0) (r : Result A (RunError H L)) (fault : WorkFault) → MayShare operators → r ≡ Err (of_worker fault) → IfErr r (λ why. IsRunError operators why) × IfErr r (λ why. IfUnclosed why P)
   told_of_worker operators P r fault may is = subst (λ r. IfErr r (λ why. IsRunError operators why) × IfErr r (λ why. IfUnclosed why P)) (sym is) (unserved operators P fault may)
+
+  -- an error that is made of the reason for which a history isn't shared
+  pub told_of_open : {A : Type 0} → (operators : List (List ℕ)) (P : Unclosed H L → Type 0) (r : Result A (RunError H L)) (why : OpenError) → IsUnshared operators why → r ≡ Err (of_open why) → IfErr r (λ why. IsRunError operators why) × IfErr r (λ why. IfUnclosed why P)
+  told_of_open operators P r why said is = subst (λ r. IfErr r (λ why. IsRunError operators why) × IfErr r (λ why. IfUnclosed why P)) (sym is) (unopened operators P why said)

@@ -6,7 +6,7 @@ ghost use Rattle.sessions.specs.Sessions.{KeepsOperation};
 use crate::gate::Gate;
 use crate::session::Unserved;
 use footprint::Operation;
-use history::{CallError, Operator, Request};
+use history::{CallError, Operator, Plan, Request};
 use shared_admin::{NewRow, Settled, SharedAdmin, plan};
 use std::alloc::Global;
 use std::sync::Wait;
@@ -81,6 +81,25 @@ pub(crate) enum Attempt<O> {
     Stale(O),
 }
 
+/// Takes a snapshot, and plans an operation on it.
+fn planned<O: Operation, R: Wait>(
+    rt: &R,
+    alloc: Global,
+    admin: &SharedAdmin<O>,
+    operation: O,
+) -> Result<Plan<O>, Unserved<O>>
+    ensures ok { IfOk result (λ plan. plan.operation ≡ operation) }
+    ensures handed_back { IfErr result (λ left. left.request ≡ Do operation) }
+{
+    let Ok(snapshot) = admin.snapshot(rt) else {
+        return Err(unserved(operation, CallError::OutOfMemory));
+    };
+    match plan(alloc, &snapshot, operation) {
+        Ok(plan) => Ok(plan),
+        Err(unrun) => Err(unserved(unrun.operation, unrun.why)),
+    }
+}
+
 /// Takes a snapshot, plans on it, and commits the plan.
 fn try_once<O: Operation, R: Wait, G: Gate>(
     rt: &R,
@@ -96,13 +115,7 @@ fn try_once<O: Operation, R: Wait, G: Gate>(
     ensures ok { IfOk result (λ attempt. KeepsOperation operation attempt) }
     ensures handed_back { IfErr result (λ left. left.request ≡ Do operation) }
 {
-    let Ok(snapshot) = admin.snapshot(rt) else {
-        return Err(unserved(operation, CallError::OutOfMemory));
-    };
-    let plan = match plan(alloc, &snapshot, operation) {
-        Ok(plan) => plan,
-        Err(unrun) => return Err(unserved(unrun.operation, unrun.why)),
-    };
+    let plan = planned(rt, alloc, admin, operation)?;
     gate.between(turn.operator, turn.call, number);
     match admin.commit(rt, turn.operator, plan) {
         Ok(Settled::Committed(row)) => Ok(Attempt::Served(row)),

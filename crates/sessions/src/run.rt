@@ -1,6 +1,7 @@
 //! Sessions that run side by side, each in a thread of its own.
 ghost use Rattle.std.specs.Prelude.{◌≡◌, ◌≤◌, [], IfOk, IfErr, length};
 ghost use Rattle.history.specs.Rows.{run, calls_of};
+ghost use Rattle.shared_admin.specs.Sharing.{MayShare};
 ghost use Rattle.sessions.specs.Runs.{IsWorkOf, AreWorkOf, operators_of, HasRun};
 ghost use Rattle.sessions.specs.Faults.{IsRunError, IfUnclosed, IsUnclosed};
 
@@ -45,6 +46,28 @@ where
     }
     let operators = operators_of(alloc, works.as_slice());
     let admin = SharedAdmin::new(alloc, tree, operators)?;
+    serve_and_close(rt, alloc, admin, works, gate)
+}
+
+/// Serves the works of those that share a history, and closes it.
+fn serve_and_close<O, R, G>(
+    rt: &R,
+    alloc: Global,
+    admin: SharedAdmin<O>,
+    works: Works<O>,
+    gate: &G,
+) -> Result<(History<O>, SessionLogs<O>), RunError<History<O>, SessionLogs<O>>>
+where
+    O: Operation + Send + Sync,
+    R: Threads + Wait + Sync,
+    G: Gate + Sync,
+    requires operators { admin.operators ≡ operators_of works }
+    requires share { MayShare admin.operators }
+    ensures ran { IfOk result (λ r. HasRun admin.first works r.0 r.1) }
+    ensures legal { IfOk result (λ r. r.0.rows ≡ run O.asks O.meaning r.0.first [] (calls_of r.0.rows)) }
+    ensures why { IfErr result (λ why. IsRunError admin.operators why) }
+    ensures unclosed { IfErr result (λ why. IfUnclosed why (IsUnclosed O.asks O.meaning admin.first admin.operators)) }
+{
     let logs = serve_in_threads(rt, alloc, &admin, works, gate)?;
     match admin.close(logs) {
         Ok(run) => Ok(run),
@@ -98,6 +121,7 @@ struct Serves<O> {
 
 impl<O> Promise<Result<SessionLog<O>, CallError>> for Serves<O> {
     ghost use Rattle.std.specs.Prelude.{IfOk};
+    ghost use Rattle.shared_admin.specs.Sharing.{MayShare};
     ghost use Rattle.sessions.specs.Runs.{IsWorkOf};
 
     ghost kept_by = { λ promise r. IfOk r (λ log. IsWorkOf promise.operator promise.requests.value log) };

@@ -1,11 +1,8 @@
 //! reenable and preset, and what they look at.
-use super::commands::{Row, enable_then_disable};
-use crate::outcomes::{assert_told, assert_told_and_reads};
-use crate::readings::{assert_reads, units};
-use install_commands::{Preset, Reenable};
-use link_tree::Scope;
+use super::commands::answer_in;
+use crate::questions::assert_rows;
+use sample_rows::Row;
 use std::alloc::{AllocError, Global};
-use std::process::Abort;
 use std::test::Fail;
 
 /// `a` had another alias and names `b`, which is enabled; the file of `app` lies outside the directories of units.
@@ -19,50 +16,6 @@ const LINKED: &[u8] = b"unitadm-inventory 1\n\
     F\t28\t/usr/lib/systemd/system/b.service\n[Install]\nWantedBy=m.target\n\n\
     end\n";
 
-fn reenable(alloc: Global, names: &[u8]) -> Result<Reenable, AllocError> {
-    let units = units(alloc, names)?;
-    let scope = Scope::Etc;
-    Ok(Reenable { scope, units })
-}
-
-fn assert_reenabled(rt: &impl Abort, alloc: Global, rows: &[Row]) -> Result<(), Fail> {
-    for (names, text) in rows {
-        let reenable = reenable(alloc, names)?;
-        assert_told(rt, alloc, reenable, LINKED, text)?;
-    }
-    Ok(())
-}
-
-#[test]
-fn links_are_again_those_that_units_ask_for(rt: HostRuntime) -> Result<(), Fail> {
-    assert_reenabled(
-        &rt,
-        rt.alloc(),
-        &[
-            (b"b.service", b"done\n"),
-            (b"app.service b.service app.service", b"done\n"),
-            (
-                b"a.service",
-                b"done\n\
-                - /etc/systemd/system/old.service -> /usr/lib/systemd/system/a.service\n\
-                + /etc/systemd/system/x.service -> /usr/lib/systemd/system/a.service\n",
-            ),
-            (b"b.service old.service", b"alias of a.service\n"),
-            (b"b.service c.service", b"not found: c.service\n"),
-        ],
-    )
-}
-
-#[test]
-fn reenable_looks_at_what_its_parts_look_at(rt: HostRuntime) -> Result<(), Fail> {
-    let reenable = reenable(rt.alloc(), b"app.service")?;
-    let text = b"/etc/systemd/system/app.service\n\
-        /etc/systemd/system/m.target.wants/app.service\n\
-        /opt/app.service\n\
-        etc app.service\n";
-    assert_reads(&rt, rt.alloc(), reenable, LINKED, text)
-}
-
 /// `a` and instances of `t` are to be enabled, and all others disabled; `x` is another name of `a`, and `s` asks for nothing.
 const PRESET: &[u8] = b"unitadm-inventory 1\n\
     L\t/etc/systemd/system/m.target.wants/b.service\t/usr/lib/systemd/system/b.service\n\
@@ -74,67 +27,66 @@ const PRESET: &[u8] = b"unitadm-inventory 1\n\
     F\t28\t/usr/lib/systemd/system/t@.service\n[Install]\nWantedBy=m.target\n\n\
     end\n";
 
-fn preset(alloc: Global, scope: Scope, names: &[u8]) -> Result<Preset, AllocError> {
-    let units = units(alloc, names)?;
-    Ok(Preset { scope, units })
-}
+const REENABLE_ROWS: &[u8] = b"\
+    # The links are again those that the units ask for\n\
+    run\treenable b.service\t\tdone\n\
+    run\treenable app.service b.service app.service\t\tdone\n\
+    run\treenable a.service\t\tdone\\n\
+    - /etc/systemd/system/old.service -> /usr/lib/systemd/system/a.service\\n\
+    + /etc/systemd/system/x.service -> /usr/lib/systemd/system/a.service\n\
+    run\treenable b.service old.service\t\talias of a.service\n\
+    run\treenable b.service c.service\t\tnot found: c.service\n\
+    # It looks at what its parts look at\n\
+    reads\treenable app.service\t\t\
+    /etc/systemd/system/app.service\\n\
+    /etc/systemd/system/m.target.wants/app.service\\n\
+    /opt/app.service\\n\
+    etc app.service\n\
+    # A unit that is enabled is enabled and then disabled: each key of the two is reported once, and the change is that\n\
+    # from the first tree\n\
+    run\tenable b.service, disable b.service\t\tdone\\n\
+    - /etc/systemd/system/m.target.wants/b.service -> /usr/lib/systemd/system/b.service\n\
+    reads\tenable b.service, disable b.service\t\t\
+    /etc/systemd/system/b.service\\n\
+    /etc/systemd/system/m.target.wants/b.service\\n\
+    /run/systemd/system/b.service\\n\
+    /usr/lib/systemd/system/b.service\\n\
+    /usr/local/lib/systemd/system/b.service\\n\
+    etc b.service\n";
 
-fn assert_preset(rt: &impl Abort, alloc: Global, rows: &[Row]) -> Result<(), Fail> {
-    for (names, text) in rows {
-        let preset = preset(alloc, Scope::Etc, names)?;
-        assert_told(rt, alloc, preset, PRESET, text)?;
-    }
-    Ok(())
+const PRESET_ROWS: &[u8] = b"\
+    # Preset files say which units are enabled\n\
+    run\tpreset a.service b.service s.service x.service\t\tdone\\n\
+    + /etc/systemd/system/m.target.wants/a.service -> /usr/lib/systemd/system/a.service\\n\
+    - /etc/systemd/system/m.target.wants/b.service -> /usr/lib/systemd/system/b.service\n\
+    run\tpreset t@.service\t\tdone\\n  ! t@.service: Preset two/: bad name\\n\
+    + /etc/systemd/system/m.target.wants/t@one.service -> /usr/lib/systemd/system/t@.service\\n\
+    + /etc/systemd/system/m.target.wants/t@two.service -> /usr/lib/systemd/system/t@.service\n\
+    run\tpreset x.service s.service\t\tdone\n\
+    run\tpreset b.service c.service\t\tnot found: c.service\n\
+    # It looks at what its parts look at\n\
+    reads\tpreset --runtime b.service\t\t\
+    /etc/systemd/system/b.service\\n\
+    /run/systemd/system/b.service\\n\
+    /usr/lib/systemd/system/b.service\\n\
+    /usr/local/lib/systemd/system/b.service\\n\
+    run b.service\\n\
+    presets\n";
+
+fn answer_when_linked(alloc: Global, row: &Row) -> Result<Vec<u8>, AllocError> {
+    answer_in(alloc, row, LINKED)
 }
 
 #[test]
-fn preset_files_tell_which_are_enabled(rt: HostRuntime) -> Result<(), Fail> {
-    assert_preset(
-        &rt,
-        rt.alloc(),
-        &[
-            (
-                b"a.service b.service s.service x.service",
-                b"done\n\
-                + /etc/systemd/system/m.target.wants/a.service -> /usr/lib/systemd/system/a.service\n\
-                - /etc/systemd/system/m.target.wants/b.service -> /usr/lib/systemd/system/b.service\n",
-            ),
-            (
-                b"t@.service",
-                b"done\n  ! t@.service: Preset two/: bad name\n\
-                + /etc/systemd/system/m.target.wants/t@one.service -> /usr/lib/systemd/system/t@.service\n\
-                + /etc/systemd/system/m.target.wants/t@two.service -> /usr/lib/systemd/system/t@.service\n",
-            ),
-            (b"x.service s.service", b"done\n"),
-            (b"b.service c.service", b"not found: c.service\n"),
-        ],
-    )
+fn links_are_again_those_that_units_ask_for(rt: HostRuntime) -> Result<(), Fail> {
+    assert_rows(&rt, rt.alloc(), REENABLE_ROWS, answer_when_linked)
+}
+
+fn answer_with_presets(alloc: Global, row: &Row) -> Result<Vec<u8>, AllocError> {
+    answer_in(alloc, row, PRESET)
 }
 
 #[test]
-fn preset_looks_at_what_its_parts_look_at(rt: HostRuntime) -> Result<(), Fail> {
-    let preset = preset(rt.alloc(), Scope::Run, b"b.service")?;
-    let text = b"/etc/systemd/system/b.service\n\
-        /run/systemd/system/b.service\n\
-        /usr/lib/systemd/system/b.service\n\
-        /usr/local/lib/systemd/system/b.service\n\
-        run b.service\n\
-        presets\n";
-    assert_reads(&rt, rt.alloc(), preset, PRESET, text)
-}
-
-/// An enable of what is enabled, and then a disable: each key of two commands is told once, and the change is that from the
-/// first tree.
-#[test]
-fn two_commands_look_at_the_keys_of_both(rt: HostRuntime) -> Result<(), Fail> {
-    let both = enable_then_disable(rt.alloc(), b"b.service")?;
-    let text = b"done\n\
-        - /etc/systemd/system/m.target.wants/b.service -> /usr/lib/systemd/system/b.service\n";
-    let keys = b"/etc/systemd/system/b.service\n\
-        /etc/systemd/system/m.target.wants/b.service\n\
-        /run/systemd/system/b.service\n\
-        /usr/lib/systemd/system/b.service\n\
-        /usr/local/lib/systemd/system/b.service\n\
-        etc b.service\n";
-    assert_told_and_reads(&rt, rt.alloc(), both, LINKED, (text, keys))
+fn preset_files_say_which_units_are_enabled(rt: HostRuntime) -> Result<(), Fail> {
+    assert_rows(&rt, rt.alloc(), PRESET_ROWS, answer_with_presets)
 }

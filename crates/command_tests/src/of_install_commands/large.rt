@@ -1,11 +1,11 @@
 //! As many units as there may be, and one more.
-use crate::outcomes::assert_told;
-use footprint::Units;
+use crate::questions::{assert_rows, checked_result};
+use footprint::{Operation, Units};
 use install_commands::{Disable, Enable};
 use link_tree::Scope;
-use sample_values::name;
+use sample_rows::Row;
+use sample_values::{name, tree};
 use std::alloc::{AllocError, Global};
-use std::process::Abort;
 use std::test::Fail;
 
 fn digit(n: usize) -> u8 {
@@ -39,31 +39,40 @@ const TREE: &[u8] = b"unitadm-inventory 1\n\
     F\t1\t/usr/lib/systemd/system/u@.service\n#\n\
     end\n";
 
-fn assert_enabled(rt: &impl Abort, alloc: Global, count: usize, text: &[u8]) -> Result<(), Fail> {
-    let units = numbered(alloc, b'u', count)?;
-    let scope = Scope::Etc;
-    assert_told(rt, alloc, Enable { scope, units }, TREE, text)
+/// The command, the prefix of the units' names, how many units there are, and what the command results in.
+const ROWS: &[u8] = b"\
+    enable\tu\t1024\tdone\n\
+    enable\tu\t1025\ttoo many\n\
+    disable\tu\t1024\tdone\n\
+    disable\tu\t1025\ttoo many\n\
+    # Names that no unit has do not count\n\
+    disable\tv\t1025\tdone\n";
+
+fn row_units(alloc: Global, row: &Row) -> Result<Units, AllocError> {
+    let prefix = row.one.first().copied().unwrap_or(b' ');
+    match row.two.as_slice() {
+        b"1024" => numbered(alloc, prefix, 1024),
+        b"1025" => numbered(alloc, prefix, 1025),
+        _ => Err(AllocError),
+    }
 }
 
-fn assert_disabled(
-    rt: &impl Abort,
-    alloc: Global,
-    prefix: u8,
-    count: usize,
-    text: &[u8],
-) -> Result<(), Fail> {
-    let units = numbered(alloc, prefix, count)?;
+fn result_of<O: Operation>(alloc: Global, command: &O) -> Result<Vec<u8>, AllocError> {
+    let tree = tree(alloc, TREE)?;
+    checked_result(alloc, command, &tree, false)
+}
+
+fn answer(alloc: Global, row: &Row) -> Result<Vec<u8>, AllocError> {
+    let units = row_units(alloc, row)?;
     let scope = Scope::Etc;
-    assert_told(rt, alloc, Disable { scope, units }, TREE, text)
+    if row.kind.as_slice() == b"enable".as_slice() {
+        result_of(alloc, &Enable { scope, units })
+    } else {
+        result_of(alloc, &Disable { scope, units })
+    }
 }
 
 #[test]
-fn so_many_units_go_together_and_no_more(rt: HostRuntime) -> Result<(), Fail> {
-    let alloc = rt.alloc();
-    assert_enabled(&rt, alloc, 1024, b"done\n")?;
-    assert_enabled(&rt, alloc, 1025, b"too many\n")?;
-    assert_disabled(&rt, alloc, b'u', 1024, b"done\n")?;
-    assert_disabled(&rt, alloc, b'u', 1025, b"too many\n")?;
-    // (names that no unit has count for nothing)
-    assert_disabled(&rt, alloc, b'v', 1025, b"done\n")
+fn so_many_units_are_taken_together_and_no_more(rt: HostRuntime) -> Result<(), Fail> {
+    assert_rows(&rt, rt.alloc(), ROWS, answer)
 }

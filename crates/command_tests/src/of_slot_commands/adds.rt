@@ -1,11 +1,11 @@
 //! add-wants and add-requires.
-use crate::outcomes::assert_told;
-use crate::readings::{assert_other, assert_reads, units};
-use link_tree::{Dependency, Scope};
+use crate::lines::{arguments, first_word, has_verb, scope_of, units};
+use crate::questions::{OfLine, asked, assert_rows};
+use link_tree::Dependency;
+use sample_rows::Row;
 use sample_values::name;
 use slot_commands::AddTo;
 use std::alloc::{AllocError, Global};
-use std::process::Abort;
 use std::test::Fail;
 
 /// `getty@` has a default instance, `bare@` has none, and `bad@` one that makes no name; `c` is listed elsewhere.
@@ -32,215 +32,87 @@ const DEFAULT: &[u8] = b"unitadm-inventory 1\n\
     F\t1\t/usr/lib/systemd/system/ssh.service\ns\n\
     end\n";
 
-fn add(
-    alloc: Global,
-    (scope, dependency): (Scope, Dependency),
-    target: &[u8],
-    list: &[u8],
-) -> Result<AddTo, AllocError> {
-    let target = name(alloc, target)?;
-    let units = units(alloc, list)?;
-    Ok(AddTo {
-        scope,
-        dependency,
-        target,
-        units,
-    })
-}
+const ROWS: &[u8] = b"\
+    # The target wants or requires each unit, by the name that it has itself\n\
+    run\tadd-wants default.target sshd.service getty@.service ssh.service\t\tdone\\n\
+    + /etc/systemd/system/graphical.target.wants/getty@tty1.service -> /usr/lib/systemd/system/getty@.service\\n\
+    + /etc/systemd/system/graphical.target.wants/ssh.service -> /usr/lib/systemd/system/ssh.service\n\
+    run\tadd-requires --runtime default.target ssh.service getty@.service\t\tdone\\n\
+    + /run/systemd/system/graphical.target.requires/getty@tty1.service -> /usr/lib/systemd/system/getty@.service\\n\
+    + /run/systemd/system/graphical.target.requires/ssh.service -> /usr/lib/systemd/system/ssh.service\n\
+    # A template lists templates by their own names\n\
+    run\tadd-wants t@.target getty@.service bare@.service getty@a.service\t\tdone\\n\
+    + /etc/systemd/system/t@.target.wants/bare@.service -> /usr/lib/systemd/system/bare@.service\\n\
+    + /etc/systemd/system/t@.target.wants/getty@.service -> /usr/lib/systemd/system/getty@.service\\n\
+    + /etc/systemd/system/t@.target.wants/getty@a.service -> /usr/lib/systemd/system/getty@.service\n\
+    # It is refused by its target\n\
+    run\tadd-wants none.target none.service\t\tnot found: none.target\n\
+    run\tadd-wants m.target ssh.service\t\tmasked: m.target\n\
+    run\tadd-wants d.target ssh.service\t\tdangling: /etc/systemd/system/d.target\n\
+    # It is refused by a unit\n\
+    run\tadd-wants default.target ssh.service none.service\t\tnot found: none.service\n\
+    run\tadd-wants default.target ssh.service m.target\t\tmasked: m.target\n\
+    run\tadd-wants default.target ssh.service d.target\t\tdangling: /etc/systemd/system/d.target\n\
+    run\tadd-wants c.target getty@.service ssh.service\t\texists: /etc/systemd/system/c.target.wants/ssh.service\n\
+    # A template must have a default instance, if it is listed under no template\n\
+    run\tadd-wants default.target ssh.service bare@.service\t\tneeds instance: bare@.service\n\
+    run\tadd-wants default.target ssh.service bad@.service\t\tneeds instance: bad@.service\n\
+    run\tadd-wants t@a.target bare@.service\t\tneeds instance: bare@.service\n\
+    # It looks at all that it finds and at its link, or at what it finds up to the refusal\n\
+    reads\tadd-wants default.target ssh.service\tdefault\t\
+    /etc/systemd/system/default.target\\n\
+    /etc/systemd/system/graphical.target.wants/ssh.service\\n\
+    /etc/systemd/system/ssh.service\\n\
+    /run/systemd/system/default.target\\n\
+    /run/systemd/system/ssh.service\\n\
+    /usr/lib/systemd/system/default.target\\n\
+    /usr/lib/systemd/system/graphical.target\\n\
+    /usr/lib/systemd/system/ssh.service\\n\
+    /usr/local/lib/systemd/system/default.target\\n\
+    /usr/local/lib/systemd/system/ssh.service\n\
+    reads\tadd-wants d.target ssh.service\t\t/etc/systemd/system/d.target\\n/etc/systemd/system/none\n\
+    # Each of its parts makes it another command\n\
+    same\tadd-wants a.target a.service\tadd-wants b.target a.service\tno\n\
+    same\tadd-wants a.target a.service\tadd-requires a.target a.service\tno\n\
+    same\tadd-wants a.target a.service\tadd-wants --runtime a.target a.service\tno\n\
+    same\tadd-wants a.target a.service\tadd-wants a.target b.service\tno\n";
 
-pub(super) fn wants(alloc: Global, target: &[u8], list: &[u8]) -> Result<AddTo, AllocError> {
-    add(alloc, (Scope::Etc, Dependency::Wants), target, list)
-}
-
-/// What `add-wants` comes to without `--runtime`.
-fn assert_added(
-    rt: &impl Abort,
-    alloc: Global,
-    target: &[u8],
-    list: &[u8],
-    text: &[u8],
-) -> Result<(), Fail> {
-    let add = wants(alloc, target, list)?;
-    assert_told(rt, alloc, add, TREE, text)
-}
-
-/// The target, the units, and what `add-wants` comes to with them.
-type Row = (&'static [u8], &'static [u8], &'static [u8]);
-
-fn assert_rows(rt: &impl Abort, alloc: Global, rows: &[Row]) -> Result<(), Fail> {
-    for (target, list, text) in rows {
-        assert_added(rt, alloc, target, list, text)?;
+fn dependency_of(line: &[u8]) -> Dependency {
+    if has_verb(line, b"add-requires") {
+        Dependency::Requires
+    } else {
+        Dependency::Wants
     }
-    Ok(())
 }
 
-#[test]
-fn units_are_wanted_by_the_target(rt: HostRuntime) -> Result<(), Fail> {
-    assert_added(
-        &rt,
-        rt.alloc(),
-        b"default.target",
-        b"sshd.service getty@.service ssh.service",
-        b"done\n\
-        + /etc/systemd/system/graphical.target.wants/getty@tty1.service -> /usr/lib/systemd/system/getty@.service\n\
-        + /etc/systemd/system/graphical.target.wants/ssh.service -> /usr/lib/systemd/system/ssh.service\n",
-    )
-}
-
-#[test]
-fn units_are_required_by_the_target(rt: HostRuntime) -> Result<(), Fail> {
-    let add = add(
-        rt.alloc(),
-        (Scope::Run, Dependency::Requires),
-        b"default.target",
-        b"ssh.service getty@.service",
-    )?;
-    let text = b"done\n\
-        + /run/systemd/system/graphical.target.requires/getty@tty1.service -> /usr/lib/systemd/system/getty@.service\n\
-        + /run/systemd/system/graphical.target.requires/ssh.service -> /usr/lib/systemd/system/ssh.service\n";
-    assert_told(&rt, rt.alloc(), add, TREE, text)
-}
-
-#[test]
-fn templates_are_listed_by_their_own_names(rt: HostRuntime) -> Result<(), Fail> {
-    assert_added(
-        &rt,
-        rt.alloc(),
-        b"t@.target",
-        b"getty@.service bare@.service getty@a.service",
-        b"done\n\
-        + /etc/systemd/system/t@.target.wants/bare@.service -> /usr/lib/systemd/system/bare@.service\n\
-        + /etc/systemd/system/t@.target.wants/getty@.service -> /usr/lib/systemd/system/getty@.service\n\
-        + /etc/systemd/system/t@.target.wants/getty@a.service -> /usr/lib/systemd/system/getty@.service\n",
-    )
-}
-
-#[test]
-fn add_is_refused_by_its_target(rt: HostRuntime) -> Result<(), Fail> {
-    assert_rows(
-        &rt,
-        rt.alloc(),
-        &[
-            (b"none.target", b"none.service", b"not found: none.target\n"),
-            (b"m.target", b"ssh.service", b"masked: m.target\n"),
-            (
-                b"d.target",
-                b"ssh.service",
-                b"dangling: /etc/systemd/system/d.target\n",
-            ),
-        ],
-    )
-}
-
-#[test]
-fn add_is_refused_by_a_unit(rt: HostRuntime) -> Result<(), Fail> {
-    assert_rows(
-        &rt,
-        rt.alloc(),
-        &[
-            (
-                b"default.target",
-                b"ssh.service none.service",
-                b"not found: none.service\n",
-            ),
-            (
-                b"default.target",
-                b"ssh.service m.target",
-                b"masked: m.target\n",
-            ),
-            (
-                b"default.target",
-                b"ssh.service d.target",
-                b"dangling: /etc/systemd/system/d.target\n",
-            ),
-            (
-                b"c.target",
-                b"getty@.service ssh.service",
-                b"exists: /etc/systemd/system/c.target.wants/ssh.service\n",
-            ),
-        ],
-    )
-}
-
-#[test]
-fn add_wants_an_instance(rt: HostRuntime) -> Result<(), Fail> {
-    assert_rows(
-        &rt,
-        rt.alloc(),
-        &[
-            (
-                b"default.target",
-                b"ssh.service bare@.service",
-                b"needs instance: bare@.service\n",
-            ),
-            (
-                b"default.target",
-                b"ssh.service bad@.service",
-                b"needs instance: bad@.service\n",
-            ),
-            (
-                b"t@a.target",
-                b"bare@.service",
-                b"needs instance: bare@.service\n",
-            ),
-        ],
-    )
-}
-
-#[test]
-fn add_reads_what_is_found_and_its_link(rt: HostRuntime) -> Result<(), Fail> {
-    let add = wants(rt.alloc(), b"default.target", b"ssh.service")?;
-    let text = b"/etc/systemd/system/default.target\n\
-        /etc/systemd/system/graphical.target.wants/ssh.service\n\
-        /etc/systemd/system/ssh.service\n\
-        /run/systemd/system/default.target\n\
-        /run/systemd/system/ssh.service\n\
-        /usr/lib/systemd/system/default.target\n\
-        /usr/lib/systemd/system/graphical.target\n\
-        /usr/lib/systemd/system/ssh.service\n\
-        /usr/local/lib/systemd/system/default.target\n\
-        /usr/local/lib/systemd/system/ssh.service\n";
-    assert_reads(&rt, rt.alloc(), add, DEFAULT, text)
-}
-
-#[test]
-fn a_refused_add_has_read_up_to_the_refusal(rt: HostRuntime) -> Result<(), Fail> {
-    let add = wants(rt.alloc(), b"d.target", b"ssh.service")?;
-    let text = b"/etc/systemd/system/d.target\n/etc/systemd/system/none\n";
-    assert_reads(&rt, rt.alloc(), add, TREE, text)
-}
-
-/// An addition of this scope, dependency, target and units.
-type Addition = (Scope, Dependency, &'static [u8], &'static [u8]);
-
-/// Each has one thing in which it is other than `add-wants a.target a.service`.
-const OTHERS: [Addition; 4] = [
-    (Scope::Etc, Dependency::Wants, b"b.target", b"a.service"),
-    (Scope::Etc, Dependency::Requires, b"a.target", b"a.service"),
-    (Scope::Run, Dependency::Wants, b"a.target", b"a.service"),
-    (Scope::Etc, Dependency::Wants, b"a.target", b"b.service"),
-];
-
-/// An addition is told apart from `add-wants a.target a.service`.
-fn assert_apart(
-    rt: &impl Abort,
-    alloc: Global,
-    (scope, dependency, target, list): Addition,
-) -> Result<(), Fail> {
-    let one = wants(alloc, b"a.target", b"a.service")?;
-    let other = add(alloc, (scope, dependency), target, list)?;
-    assert_other(rt, one, other);
-    Ok(())
-}
-
-fn assert_all_apart(rt: &impl Abort, alloc: Global, others: &[Addition]) -> Result<(), Fail> {
-    for other in others {
-        assert_apart(rt, alloc, *other)?;
+impl OfLine for AddTo {
+    fn of_line(alloc: Global, line: &[u8]) -> Result<AddTo, AllocError> {
+        let (scope, words) = scope_of(arguments(line));
+        let (target, names) = first_word(words);
+        let target = name(alloc, target)?;
+        let units = units(alloc, names)?;
+        Ok(AddTo {
+            scope,
+            dependency: dependency_of(line),
+            target,
+            units,
+        })
     }
-    Ok(())
+}
+
+fn inventory(tree: &[u8]) -> &'static [u8] {
+    if tree == b"default".as_slice() {
+        DEFAULT
+    } else {
+        TREE
+    }
+}
+
+fn answer(alloc: Global, row: &Row) -> Result<Vec<u8>, AllocError> {
+    asked::<AddTo>(alloc, row, inventory(&row.two))
 }
 
 #[test]
-fn adds_are_told_apart(rt: HostRuntime) -> Result<(), Fail> {
-    assert_all_apart(&rt, rt.alloc(), &OTHERS)
+fn units_are_listed_under_their_target(rt: HostRuntime) -> Result<(), Fail> {
+    assert_rows(&rt, rt.alloc(), ROWS, answer)
 }

@@ -1,13 +1,11 @@
 //! link.
-use crate::outcomes::assert_told;
-use crate::readings::{assert_other, assert_reads};
-use link_tree::{Scope, TreePath};
+use crate::lines::{arguments, scope_of};
+use crate::questions::{OfLine, asked, assert_rows};
+use sample_rows::Row;
 use sample_values::path;
 use slot_commands::{LinkUnits, Paths};
 use std::alloc::{AllocError, Global};
-use std::process::Abort;
 use std::test::Fail;
-use unit_name::ample;
 
 /// `l` leads to `app`, `b` is linked in another spelling, and a file is in the way of `x`.
 const TREE: &[u8] = b"unitadm-inventory 1\n\
@@ -27,155 +25,63 @@ const TREE: &[u8] = b"unitadm-inventory 1\n\
     F\t1\t/usr/lib/systemd/system/ssh.service\ns\n\
     end\n";
 
-fn push_copy(paths: &mut Paths, path: &TreePath) -> Result<(), AllocError> {
-    paths.push(path.copy()?)
-}
+const ROWS: &[u8] = b"\
+    # Files are linked under their names, if they are not yet found by them\n\
+    run\tlink /opt/l.service /opt/app.service /opt/b.service /usr/lib/systemd/system/ssh.service\t\tdone\\n\
+    + /etc/systemd/system/app.service -> /opt/app.service\\n\
+    + /etc/systemd/system/l.service -> /opt/l.service\n\
+    run\tlink --runtime /opt/b.service /opt/app.service\t\tdone\\n\
+    + /run/systemd/system/app.service -> /opt/app.service\\n\
+    + /run/systemd/system/b.service -> /opt/b.service\n\
+    # Each path is linked on the tree of the earlier ones\n\
+    run\tlink /opt/app.service /opt/app.service\t\tdone\\n\
+    + /etc/systemd/system/app.service -> /opt/app.service\n\
+    run\tlink /opt/app.service /etc/systemd/system/app.service\t\tdone\\n\
+    + /etc/systemd/system/app.service -> /opt/app.service\n\
+    run\tlink /opt/app.service /srv/app.service\t\texists: /etc/systemd/system/app.service\n\
+    # It is refused by where a path leads\n\
+    run\tlink /opt/app.service /opt/none.service\t\tnot found: /opt/none.service\n\
+    run\tlink /opt/app.service /opt/null.service\t\tmasked: /opt/null.service\n\
+    run\tlink /opt/app.service /opt/empty.service\t\tmasked: /opt/empty.service\n\
+    run\tlink /opt/app.service /opt/d.service\t\tdangling: /opt/e.service\n\
+    # It is refused by the name and by the slot\n\
+    run\tlink /opt/app.service /opt/readme\t\tbad type: /opt/readme\n\
+    run\tlink /opt/app.service /opt/nulled\t\tmasked: /opt/nulled\n\
+    run\tlink /opt/app.service /opt/x.service\t\texists: /etc/systemd/system/x.service\n\
+    # It looks at what it finds up to the refused path\n\
+    reads\tlink /usr/lib/systemd/system/ssh.service /opt/l.service /opt/d.service /opt/b.service\t\t\
+    /etc/systemd/system/l.service\\n\
+    /opt/app.service\\n\
+    /opt/d.service\\n\
+    /opt/e.service\\n\
+    /opt/l.service\\n\
+    /opt/none\\n\
+    /usr/lib/systemd/system/ssh.service\n\
+    # Each of its parts makes it another command\n\
+    same\tlink /opt/a.service\tlink /opt/b.service\tno\n\
+    same\tlink /opt/a.service\tlink --runtime /opt/a.service\tno\n";
 
-/// Paths that have spaces between them.
 fn paths(alloc: Global, texts: &[u8]) -> Result<Paths, AllocError> {
     let mut paths = Paths::none(alloc);
     for text in texts.split(|b| *b == b' ') {
-        let path = path(alloc, text)?;
-        ample!(push_copy(&mut paths, &path), AllocError)?;
+        paths.push(path(alloc, text)?)?;
     }
     Ok(paths)
 }
 
-pub(super) fn link(alloc: Global, scope: Scope, texts: &[u8]) -> Result<LinkUnits, AllocError> {
-    let paths = paths(alloc, texts)?;
-    Ok(LinkUnits { scope, paths })
-}
-
-fn assert_linked_in(
-    rt: &impl Abort,
-    alloc: Global,
-    scope: Scope,
-    texts: &[u8],
-    text: &[u8],
-) -> Result<(), Fail> {
-    let link = link(alloc, scope, texts)?;
-    assert_told(rt, alloc, link, TREE, text)
-}
-
-/// The paths, and what `link` comes to with them, without `--runtime`.
-type Row = (&'static [u8], &'static [u8]);
-
-fn assert_rows(rt: &impl Abort, alloc: Global, rows: &[Row]) -> Result<(), Fail> {
-    for (texts, text) in rows {
-        assert_linked_in(rt, alloc, Scope::Etc, texts, text)?;
+impl OfLine for LinkUnits {
+    fn of_line(alloc: Global, line: &[u8]) -> Result<LinkUnits, AllocError> {
+        let (scope, texts) = scope_of(arguments(line));
+        let paths = paths(alloc, texts)?;
+        Ok(LinkUnits { scope, paths })
     }
-    Ok(())
+}
+
+fn answer(alloc: Global, row: &Row) -> Result<Vec<u8>, AllocError> {
+    asked::<LinkUnits>(alloc, row, TREE)
 }
 
 #[test]
 fn files_are_linked_under_their_names(rt: HostRuntime) -> Result<(), Fail> {
-    let alloc = rt.alloc();
-    assert_linked_in(
-        &rt,
-        alloc,
-        Scope::Etc,
-        b"/opt/l.service /opt/app.service /opt/b.service /usr/lib/systemd/system/ssh.service",
-        b"done\n\
-        + /etc/systemd/system/app.service -> /opt/app.service\n\
-        + /etc/systemd/system/l.service -> /opt/l.service\n",
-    )?;
-    assert_linked_in(
-        &rt,
-        alloc,
-        Scope::Run,
-        b"/opt/b.service /opt/app.service",
-        b"done\n\
-        + /run/systemd/system/app.service -> /opt/app.service\n\
-        + /run/systemd/system/b.service -> /opt/b.service\n",
-    )
-}
-
-#[test]
-fn each_path_is_linked_on_the_tree_of_the_earlier_ones(rt: HostRuntime) -> Result<(), Fail> {
-    let once = b"done\n+ /etc/systemd/system/app.service -> /opt/app.service\n";
-    assert_rows(
-        &rt,
-        rt.alloc(),
-        &[
-            (b"/opt/app.service /opt/app.service", once),
-            (b"/opt/app.service /etc/systemd/system/app.service", once),
-            (
-                b"/opt/app.service /srv/app.service",
-                b"exists: /etc/systemd/system/app.service\n",
-            ),
-        ],
-    )
-}
-
-#[test]
-fn link_is_refused_by_where_the_path_leads(rt: HostRuntime) -> Result<(), Fail> {
-    assert_rows(
-        &rt,
-        rt.alloc(),
-        &[
-            (
-                b"/opt/app.service /opt/none.service",
-                b"not found: /opt/none.service\n",
-            ),
-            (
-                b"/opt/app.service /opt/null.service",
-                b"masked: /opt/null.service\n",
-            ),
-            (
-                b"/opt/app.service /opt/empty.service",
-                b"masked: /opt/empty.service\n",
-            ),
-            (
-                b"/opt/app.service /opt/d.service",
-                b"dangling: /opt/e.service\n",
-            ),
-        ],
-    )
-}
-
-#[test]
-fn link_is_refused_by_its_name_and_slot(rt: HostRuntime) -> Result<(), Fail> {
-    assert_rows(
-        &rt,
-        rt.alloc(),
-        &[
-            (b"/opt/app.service /opt/readme", b"bad type: /opt/readme\n"),
-            (b"/opt/app.service /opt/nulled", b"masked: /opt/nulled\n"),
-            (
-                b"/opt/app.service /opt/x.service",
-                b"exists: /etc/systemd/system/x.service\n",
-            ),
-        ],
-    )
-}
-
-#[test]
-fn link_reads_up_to_the_refused_path(rt: HostRuntime) -> Result<(), Fail> {
-    let refused = link(
-        rt.alloc(),
-        Scope::Etc,
-        b"/usr/lib/systemd/system/ssh.service /opt/l.service /opt/d.service /opt/b.service",
-    )?;
-    let text = b"/etc/systemd/system/l.service\n\
-        /opt/app.service\n\
-        /opt/d.service\n\
-        /opt/e.service\n\
-        /opt/l.service\n\
-        /opt/none\n\
-        /usr/lib/systemd/system/ssh.service\n";
-    assert_reads(&rt, rt.alloc(), refused, TREE, text)
-}
-
-/// A link is told apart from that of `/opt/a.service` without `--runtime`.
-fn assert_apart(rt: &impl Abort, alloc: Global, scope: Scope, texts: &[u8]) -> Result<(), Fail> {
-    let one = link(alloc, Scope::Etc, b"/opt/a.service")?;
-    let other = link(alloc, scope, texts)?;
-    assert_other(rt, one, other);
-    Ok(())
-}
-
-#[test]
-fn links_are_told_apart(rt: HostRuntime) -> Result<(), Fail> {
-    assert_apart(&rt, rt.alloc(), Scope::Etc, b"/opt/b.service")?;
-    assert_apart(&rt, rt.alloc(), Scope::Run, b"/opt/a.service")
+    assert_rows(&rt, rt.alloc(), ROWS, answer)
 }

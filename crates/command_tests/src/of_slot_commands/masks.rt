@@ -1,14 +1,14 @@
 //! mask and unmask.
-use crate::outcomes::assert_told;
-use crate::readings::{assert_other, assert_reads, outcome, push_key, units};
+use crate::lines::{arguments, has_verb, scope_and_units, without_last_end};
+use crate::questions::{OfLine, asked, assert_rows, outcome};
+use crate::readings::push_key;
 use footprint::{Key, Outcome, agrees, touches};
 use link_tree::{Change, Scope, Tree};
+use sample_rows::Row;
 use sample_values::{name, path, tree};
 use slot_commands::{Mask, Unmask};
 use std::alloc::{AllocError, Global};
-use std::process::Abort;
 use std::test::Fail;
-use unit_name::ample;
 
 /// `a` and `d` are masked, the second in another spelling, `e` is an empty file, `f` is a file, `x` a link, and `r` is
 /// masked until the next start.
@@ -21,187 +21,148 @@ const TREE: &[u8] = b"unitadm-inventory 1\n\
     L\t/run/systemd/system/r.service\t/dev/null\n\
     end\n";
 
-pub(super) fn mask(alloc: Global, scope: Scope, names: &[u8]) -> Result<Mask, AllocError> {
-    let units = units(alloc, names)?;
-    Ok(Mask { scope, units })
-}
+const EMPTY: &[u8] = b"unitadm-inventory 1\nend\n";
 
-pub(super) fn unmask(alloc: Global, scope: Scope, names: &[u8]) -> Result<Unmask, AllocError> {
-    let units = units(alloc, names)?;
-    Ok(Unmask { scope, units })
-}
+/// `x` is masked.
+const MASKED: &[u8] = b"unitadm-inventory 1\n\
+    L\t/etc/systemd/system/x.service\t/dev/null\n\
+    end\n";
 
-/// What `mask` comes to without `--runtime`.
-fn assert_masked(rt: &impl Abort, alloc: Global, names: &[u8], text: &[u8]) -> Result<(), Fail> {
-    let mask = mask(alloc, Scope::Etc, names)?;
-    assert_told(rt, alloc, mask, TREE, text)
-}
+/// Two more kinds: `agrees` answers whether TREE agrees with what a mask of the empty tree has looked at, or at which key
+/// it does not, and `touches` whether the one change of that mask touches the key that is there instead of TREE.
+const ROWS: &[u8] = b"\
+    # Empty slots are filled\n\
+    run\tmask z.service a.service b@.socket z.service d.service\t\tdone\\n\
+    + /etc/systemd/system/b@.socket -> /dev/null\\n\
+    + /etc/systemd/system/z.service -> /dev/null\n\
+    run\tmask --runtime x.service\t\tdone\\n+ /run/systemd/system/x.service -> /dev/null\n\
+    # Other entries are in the way\n\
+    run\tmask z.service x.service\t\texists: /etc/systemd/system/x.service\n\
+    run\tmask z.service e.service\t\texists: /etc/systemd/system/e.service\n\
+    run\tmask z.service f.service\t\texists: /etc/systemd/system/f.service\n\
+    # Masks are removed, and no other entries\n\
+    run\tunmask x.service d.service a.service e.service r.service f.service d.service\t\tdone\\n\
+    - /etc/systemd/system/a.service -> /dev/null\\n\
+    - /etc/systemd/system/d.service -> ../../../dev/./null\\n\
+    - /etc/systemd/system/e.service file \n\
+    # Each slot is looked at once, up to the one that refuses the command\n\
+    reads\tmask z.service x.service b.service\t\t/etc/systemd/system/x.service\\n/etc/systemd/system/z.service\n\
+    reads\tunmask --runtime r.service b.service r.service\t\t\
+    /run/systemd/system/b.service\\n/run/systemd/system/r.service\n\
+    # Each of its parts makes it another command\n\
+    same\tmask x.service\tmask y.service\tno\n\
+    same\tmask x.service\tmask --runtime x.service\tno\n\
+    same\tunmask x.service\tunmask x.service y.service\tno\n\
+    same\tunmask x.service\tunmask --runtime x.service\tno\n\
+    # The slot is what a mask looks at and what it changes\n\
+    agrees\tmask x.service\tempty\tyes\n\
+    agrees\tmask x.service\tmasked\t/etc/systemd/system/x.service\n\
+    touches\tmask x.service\t/etc/systemd/system/x.service\tyes\n\
+    touches\tmask x.service\tetc x.service\tno\n\
+    touches\tmask x.service\tpresets\tno\n\
+    touches\tmask x.service\tlinks\tno\n";
 
-#[test]
-fn mask_fills_empty_slots(rt: HostRuntime) -> Result<(), Fail> {
-    let names = b"z.service a.service b@.socket z.service d.service";
-    let text = b"done\n\
-        + /etc/systemd/system/b@.socket -> /dev/null\n\
-        + /etc/systemd/system/z.service -> /dev/null\n";
-    assert_masked(&rt, rt.alloc(), names, text)
-}
-
-#[test]
-fn mask_fills_a_slot_until_the_next_start(rt: HostRuntime) -> Result<(), Fail> {
-    let mask = mask(rt.alloc(), Scope::Run, b"x.service")?;
-    let text = b"done\n+ /run/systemd/system/x.service -> /dev/null\n";
-    assert_told(&rt, rt.alloc(), mask, TREE, text)
-}
-
-#[test]
-fn other_entries_are_in_the_way_of_mask(rt: HostRuntime) -> Result<(), Fail> {
-    let alloc = rt.alloc();
-    let text = b"exists: /etc/systemd/system/x.service\n";
-    assert_masked(&rt, alloc, b"z.service x.service", text)?;
-    let text = b"exists: /etc/systemd/system/e.service\n";
-    assert_masked(&rt, alloc, b"z.service e.service", text)?;
-    let text = b"exists: /etc/systemd/system/f.service\n";
-    assert_masked(&rt, alloc, b"z.service f.service", text)
-}
-
-#[test]
-fn unmask_takes_masks_away(rt: HostRuntime) -> Result<(), Fail> {
-    let names = b"x.service d.service a.service e.service r.service f.service d.service";
-    let unmask = unmask(rt.alloc(), Scope::Etc, names)?;
-    let text = b"done\n\
-        - /etc/systemd/system/a.service -> /dev/null\n\
-        - /etc/systemd/system/d.service -> ../../../dev/./null\n\
-        - /etc/systemd/system/e.service file \n";
-    assert_told(&rt, rt.alloc(), unmask, TREE, text)
-}
-
-#[test]
-fn mask_reads_up_to_the_refused_slot(rt: HostRuntime) -> Result<(), Fail> {
-    let mask = mask(rt.alloc(), Scope::Etc, b"z.service x.service b.service")?;
-    let text = b"/etc/systemd/system/x.service\n/etc/systemd/system/z.service\n";
-    assert_reads(&rt, rt.alloc(), mask, TREE, text)
-}
-
-#[test]
-fn unmask_reads_each_slot_once(rt: HostRuntime) -> Result<(), Fail> {
-    let unmask = unmask(rt.alloc(), Scope::Run, b"r.service b.service r.service")?;
-    let text = b"/run/systemd/system/b.service\n/run/systemd/system/r.service\n";
-    assert_reads(&rt, rt.alloc(), unmask, TREE, text)
-}
-
-/// A mask is told apart from that of `x` without `--runtime`.
-fn assert_masks_apart(
-    rt: &impl Abort,
-    alloc: Global,
-    scope: Scope,
-    names: &[u8],
-) -> Result<(), Fail> {
-    let one = mask(alloc, Scope::Etc, b"x.service")?;
-    let other = mask(alloc, scope, names)?;
-    assert_other(rt, one, other);
-    Ok(())
-}
-
-#[test]
-fn masks_are_told_apart(rt: HostRuntime) -> Result<(), Fail> {
-    assert_masks_apart(&rt, rt.alloc(), Scope::Etc, b"y.service")?;
-    assert_masks_apart(&rt, rt.alloc(), Scope::Run, b"x.service")
-}
-
-/// An unmask is told apart from that of `x` without `--runtime`.
-fn assert_unmasks_apart(
-    rt: &impl Abort,
-    alloc: Global,
-    scope: Scope,
-    names: &[u8],
-) -> Result<(), Fail> {
-    let one = unmask(alloc, Scope::Etc, b"x.service")?;
-    let other = unmask(alloc, scope, names)?;
-    assert_other(rt, one, other);
-    Ok(())
-}
-
-#[test]
-fn unmasks_are_told_apart(rt: HostRuntime) -> Result<(), Fail> {
-    let names = b"x.service y.service";
-    assert_unmasks_apart(&rt, rt.alloc(), Scope::Etc, names)?;
-    assert_unmasks_apart(&rt, rt.alloc(), Scope::Run, b"x.service")
-}
-
-fn run_on_empty(alloc: Global, mask: &Mask) -> Result<Box<Outcome>, AllocError> {
-    let tree = Box::new(alloc, Tree::empty(alloc)?)?;
-    outcome(alloc, mask, &tree)
-}
-
-/// The key that a tree doesn't agree on, with a line end, or no text.
-fn text_of_other(alloc: Global, agreed: Result<(), &Key>) -> Result<Vec<u8>, AllocError> {
-    let mut text = Vec::new(alloc);
-    if let Err(key) = agreed {
-        push_key(&mut text, key)?;
+impl OfLine for Mask {
+    fn of_line(alloc: Global, line: &[u8]) -> Result<Mask, AllocError> {
+        let (scope, units) = scope_and_units(alloc, line)?;
+        Ok(Mask { scope, units })
     }
-    Ok(text)
 }
 
-/// The key that a mask on the empty tree has read as other than it is in this one, with a line end, or no text.
-fn other_key(alloc: Global, mask: &Mask, tree: &Tree) -> Result<Vec<u8>, AllocError> {
-    let outcome = run_on_empty(alloc, mask)?;
-    text_of_other(alloc, agrees(tree, &outcome.reading))
+impl OfLine for Unmask {
+    fn of_line(alloc: Global, line: &[u8]) -> Result<Unmask, AllocError> {
+        let (scope, units) = scope_and_units(alloc, line)?;
+        Ok(Unmask { scope, units })
+    }
 }
 
-/// What the mask of `x` on the empty tree has read is other in the tree of an inventory at this key.
-fn assert_other_in(
-    rt: &impl Abort,
-    alloc: Global,
-    inventory: &[u8],
-    text: &[u8],
-) -> Result<(), Fail> {
-    let tree = tree(alloc, inventory)?;
-    let mask = mask(alloc, Scope::Etc, b"x.service")?;
-    let other = ample!(other_key(alloc, &mask, &tree), AllocError)?;
-    assert_eq!(rt; other.as_slice(), text);
-    Ok(())
+fn inventory(tree: &[u8]) -> &'static [u8] {
+    if tree == b"empty".as_slice() {
+        EMPTY
+    } else if tree == b"masked".as_slice() {
+        MASKED
+    } else {
+        TREE
+    }
+}
+
+fn masked_in(alloc: Global, line: &[u8], tree: &Tree) -> Result<Box<Outcome>, AllocError> {
+    let mask = Mask::of_line(alloc, line)?;
+    outcome(alloc, &mask, tree)
+}
+
+/// What the mask of a line results in, in the empty tree.
+fn masked(alloc: Global, line: &[u8]) -> Result<Box<Outcome>, AllocError> {
+    let tree = Box::new(alloc, Tree::empty(alloc)?)?;
+    masked_in(alloc, line, &tree)
+}
+
+/// `yes`, or the key that a tree does not agree on.
+fn agreement_text(alloc: Global, agreed: Result<(), &Key>) -> Result<Vec<u8>, AllocError> {
+    let mut text = Vec::new(alloc);
+    match agreed {
+        Ok(()) => text.extend_from_slice(b"yes\n")?,
+        Err(key) => push_key(&mut text, key)?,
+    }
+    without_last_end(text)
+}
+
+/// Whether a tree agrees with what the mask of a line has looked at in the empty tree.
+fn agreement(alloc: Global, line: &[u8], tree: &Tree) -> Result<Vec<u8>, AllocError> {
+    let outcome = masked(alloc, line)?;
+    agreement_text(alloc, agrees(tree, &outcome.reading))
+}
+
+/// The key that `push_key` writes so: a path, a unit in `/etc`, the preset files or the links.
+fn key_of(alloc: Global, text: &[u8]) -> Result<Key, AllocError> {
+    if text == b"presets".as_slice() {
+        Ok(Key::Presets)
+    } else if text == b"links".as_slice() {
+        Ok(Key::Links)
+    } else if text.starts_with(b"etc ") {
+        Ok(Key::Marked(Scope::Etc, name(alloc, arguments(text))?))
+    } else {
+        Ok(Key::Cell(path(alloc, text)?))
+    }
+}
+
+fn touched_text(changes: &[Change], key: &Key) -> &'static [u8] {
+    match changes {
+        [change] if touches(change, key) => b"yes",
+        [_change] => b"no",
+        _ => b"not one change",
+    }
+}
+
+/// Whether the one change of a mask of the empty tree touches a key.
+fn touched(alloc: Global, line: &[u8], key: &Key) -> Result<Vec<u8>, AllocError> {
+    let outcome = masked(alloc, line)?;
+    Vec::from_slice(alloc, touched_text(outcome.changes.as_slice(), key))
+}
+
+fn agrees_in(alloc: Global, row: &Row) -> Result<Vec<u8>, AllocError> {
+    let tree = tree(alloc, inventory(&row.two))?;
+    agreement(alloc, &row.one, &tree)
+}
+
+fn touches_at(alloc: Global, row: &Row) -> Result<Vec<u8>, AllocError> {
+    let key = key_of(alloc, &row.two)?;
+    touched(alloc, &row.one, &key)
+}
+
+fn answer(alloc: Global, row: &Row) -> Result<Vec<u8>, AllocError> {
+    if row.kind.as_slice() == b"agrees".as_slice() {
+        agrees_in(alloc, row)
+    } else if row.kind.as_slice() == b"touches".as_slice() {
+        touches_at(alloc, row)
+    } else if has_verb(&row.one, b"mask") {
+        asked::<Mask>(alloc, row, inventory(&row.two))
+    } else {
+        asked::<Unmask>(alloc, row, inventory(&row.two))
+    }
 }
 
 #[test]
-fn a_mask_reads_its_slot_which_is_other_then(rt: HostRuntime) -> Result<(), Fail> {
-    let alloc = rt.alloc();
-    assert_other_in(&rt, alloc, b"unitadm-inventory 1\nend\n", b"")?;
-    let after = b"unitadm-inventory 1\nL\t/etc/systemd/system/x.service\t/dev/null\nend\n";
-    assert_other_in(&rt, alloc, after, b"/etc/systemd/system/x.service\n")
-}
-
-/// Whether there is one change, of the first key, and of none of the others.
-fn touches_alone(changes: &[Change], cell: &Key, marked: &Key) -> bool {
-    let [change] = changes else {
-        return false;
-    };
-    touches(change, cell)
-        && !touches(change, marked)
-        && !touches(change, &Key::Presets)
-        && !touches(change, &Key::Links)
-}
-
-/// Whether a mask on the empty tree makes one change, of the first key, and of none of the others.
-fn mask_touches_alone(
-    alloc: Global,
-    mask: &Mask,
-    cell: &Key,
-    marked: &Key,
-) -> Result<bool, AllocError> {
-    let outcome = run_on_empty(alloc, mask)?;
-    Ok(touches_alone(outcome.changes.as_slice(), cell, marked))
-}
-
-fn assert_touched(rt: &impl Abort, alloc: Global, mask: &Mask) -> Result<(), Fail> {
-    let cell = Key::Cell(path(alloc, b"/etc/systemd/system/x.service")?);
-    let marked = Key::Marked(Scope::Etc, name(alloc, b"x.service")?);
-    let alone = ample!(mask_touches_alone(alloc, mask, &cell, &marked), AllocError)?;
-    assert!(rt; alone);
-    Ok(())
-}
-
-#[test]
-fn a_mask_touches_its_slot_alone(rt: HostRuntime) -> Result<(), Fail> {
-    let mask = mask(rt.alloc(), Scope::Etc, b"x.service")?;
-    assert_touched(&rt, rt.alloc(), &mask)
+fn masks_fill_empty_slots_and_are_removed(rt: HostRuntime) -> Result<(), Fail> {
+    assert_rows(&rt, rt.alloc(), ROWS, answer)
 }

@@ -1,14 +1,11 @@
-//! What is answered, and what is looked at.
-use crate::outcomes::{assert_answered, assert_question_copied};
-use crate::readings::{assert_reads, outcome};
-use footprint::{Answer, Operation, StateWord};
-use link_tree::Tree;
-use sample_values::{name, tree};
+//! is-enabled and get-default.
+use crate::lines::{arguments, has_verb};
+use crate::questions::{OfLine, asked, assert_rows};
+use sample_rows::Row;
+use sample_values::name;
 use states::{GetDefault, IsEnabled};
 use std::alloc::{AllocError, Global};
-use std::process::Abort;
 use std::test::Fail;
-use unit_name::ample;
 
 /// A unit for each word, and one that has a link of its own name.
 const STATES: &[u8] = b"unitadm-inventory 1\n\
@@ -30,93 +27,6 @@ const STATES: &[u8] = b"unitadm-inventory 1\n\
     F\t28\t/usr/lib/systemd/system/l.service\n[Install]\nWantedBy=m.target\n\n\
     end\n";
 
-fn is_enabled(alloc: Global, text: &[u8]) -> Result<IsEnabled, AllocError> {
-    let unit = name(alloc, text)?;
-    Ok(IsEnabled { unit })
-}
-
-/// The word that is answered.
-fn word_of(answer: &Answer) -> Option<StateWord> {
-    match answer {
-        Answer::State(word) => Some(*word),
-        _ => None,
-    }
-}
-
-fn word(alloc: Global, question: &IsEnabled, tree: &Tree) -> Result<Option<StateWord>, AllocError> {
-    let outcome = outcome(alloc, question, tree)?;
-    Ok(word_of(&outcome.answer))
-}
-
-/// A name, and the word that holds first.
-type Row = (&'static [u8], StateWord);
-
-const WORDS: [Row; 13] = [
-    (b"a.service", StateWord::Enabled),
-    (b"al.service", StateWord::Alias),
-    (b"b.service", StateWord::Disabled),
-    (b"c.service", StateWord::Indirect),
-    (b"d.service", StateWord::Static),
-    (b"e.service", StateWord::Masked),
-    (b"f.service", StateWord::MaskedRuntime),
-    (b"g.service", StateWord::EnabledRuntime),
-    (b"h.service", StateWord::Linked),
-    (b"i.service", StateWord::LinkedRuntime),
-    (b"j.service", StateWord::NotFound),
-    (b"k.service", StateWord::NotFound),
-    (b"l.service", StateWord::Disabled),
-];
-
-fn assert_row(
-    rt: &impl Abort,
-    alloc: Global,
-    tree: &Tree,
-    (name, expected): Row,
-) -> Result<(), Fail> {
-    let question = is_enabled(alloc, name)?;
-    let found = ample!(word(alloc, &question, tree), AllocError)?;
-    assert_eq!(rt; found, Some(expected));
-    Ok(())
-}
-
-fn assert_rows(rt: &impl Abort, alloc: Global, tree: &Tree, rows: &[Row]) -> Result<(), Fail> {
-    for row in rows {
-        assert_row(rt, alloc, tree, *row)?;
-    }
-    Ok(())
-}
-
-#[test]
-fn the_first_word_that_holds_is_told(rt: HostRuntime) -> Result<(), Fail> {
-    let tree = tree(rt.alloc(), STATES)?;
-    assert_rows(&rt, rt.alloc(), &tree, &WORDS)
-}
-
-fn assert_looks(rt: &impl Abort, alloc: Global, name: &[u8], text: &[u8]) -> Result<(), Fail> {
-    let question = is_enabled(alloc, name)?;
-    assert_reads(rt, alloc, question, STATES, text)
-}
-
-#[test]
-fn links_are_looked_at_of_units_alone(rt: HostRuntime) -> Result<(), Fail> {
-    let text = b"/etc/systemd/system/e.service\n";
-    assert_looks(&rt, rt.alloc(), b"e.service", text)?;
-    let text = b"/etc/systemd/system/al.service\n/usr/lib/systemd/system/a.service\n";
-    assert_looks(&rt, rt.alloc(), b"al.service", text)?;
-    let text = b"/etc/systemd/system/h.service\n/opt/h.service\netc h.service\nrun h.service\n";
-    assert_looks(&rt, rt.alloc(), b"h.service", text)
-}
-
-#[test]
-fn questions_are_copied(rt: HostRuntime) -> Result<(), Fail> {
-    let one = is_enabled(rt.alloc(), b"a.service")?;
-    let other = is_enabled(rt.alloc(), b"b.service")?;
-    assert_question_copied(&rt, one, other)?;
-    let default = ample!(GetDefault {}.copy(), AllocError)?;
-    assert!(rt; default.same(&GetDefault {}) && default.asks_only());
-    Ok(())
-}
-
 /// `default.target` is another name of a target.
 const DEFAULT: &[u8] = b"unitadm-inventory 1\n\
     L\t/etc/systemd/system/default.target\t/usr/lib/systemd/system/m.target\n\
@@ -127,18 +37,66 @@ const MASKED: &[u8] = b"unitadm-inventory 1\n\
     L\t/etc/systemd/system/default.target\t/dev/null\n\
     end\n";
 
-fn assert_default(
-    rt: &impl Abort,
-    alloc: Global,
-    inventory: &[u8],
-    text: &[u8],
-) -> Result<(), Fail> {
-    assert_answered(rt, alloc, GetDefault {}, inventory, text)
+const ROWS: &[u8] = b"\
+    # The first word that holds is answered\n\
+    ask\tis-enabled a.service\t\tenabled\n\
+    ask\tis-enabled al.service\t\talias\n\
+    ask\tis-enabled b.service\t\tdisabled\n\
+    ask\tis-enabled c.service\t\tindirect\n\
+    ask\tis-enabled d.service\t\tstatic\n\
+    ask\tis-enabled e.service\t\tmasked\n\
+    ask\tis-enabled f.service\t\tmasked-runtime\n\
+    ask\tis-enabled g.service\t\tenabled-runtime\n\
+    ask\tis-enabled h.service\t\tlinked\n\
+    ask\tis-enabled i.service\t\tlinked-runtime\n\
+    ask\tis-enabled j.service\t\tnot-found\n\
+    ask\tis-enabled k.service\t\tnot-found\n\
+    ask\tis-enabled l.service\t\tdisabled\n\
+    # Links are looked for only if the name is neither masked nor an alias\n\
+    reads\tis-enabled e.service\t\t/etc/systemd/system/e.service\n\
+    reads\tis-enabled al.service\t\t/etc/systemd/system/al.service\\n/usr/lib/systemd/system/a.service\n\
+    reads\tis-enabled h.service\t\t\
+    /etc/systemd/system/h.service\\n/opt/h.service\\netc h.service\\nrun h.service\n\
+    # The default target is answered by the own name of the unit\n\
+    ask\tget-default\tdefault\tis m.target\n\
+    ask\tget-default\tmasked\tmasked: default.target\n\
+    ask\tget-default\t\tnot found: default.target\n\
+    # Another unit makes it another question\n\
+    same\tis-enabled a.service\tis-enabled b.service\tno\n\
+    same\tget-default\tget-default\tyes\n";
+
+impl OfLine for IsEnabled {
+    fn of_line(alloc: Global, line: &[u8]) -> Result<IsEnabled, AllocError> {
+        let unit = name(alloc, arguments(line))?;
+        Ok(IsEnabled { unit })
+    }
+}
+
+impl OfLine for GetDefault {
+    fn of_line(_alloc: Global, _line: &[u8]) -> Result<GetDefault, AllocError> {
+        Ok(GetDefault {})
+    }
+}
+
+fn inventory(tree: &[u8]) -> &'static [u8] {
+    if tree == b"default".as_slice() {
+        DEFAULT
+    } else if tree == b"masked".as_slice() {
+        MASKED
+    } else {
+        STATES
+    }
+}
+
+fn answer(alloc: Global, row: &Row) -> Result<Vec<u8>, AllocError> {
+    if has_verb(&row.one, b"is-enabled") {
+        asked::<IsEnabled>(alloc, row, inventory(&row.two))
+    } else {
+        asked::<GetDefault>(alloc, row, inventory(&row.two))
+    }
 }
 
 #[test]
-fn the_default_target_has_a_name_of_its_own(rt: HostRuntime) -> Result<(), Fail> {
-    assert_default(&rt, rt.alloc(), DEFAULT, b"is m.target\n")?;
-    assert_default(&rt, rt.alloc(), MASKED, b"masked: default.target\n")?;
-    assert_default(&rt, rt.alloc(), STATES, b"not found: default.target\n")
+fn the_first_word_that_holds_is_answered(rt: HostRuntime) -> Result<(), Fail> {
+    assert_rows(&rt, rt.alloc(), ROWS, answer)
 }

@@ -1,5 +1,5 @@
 use Rattle.std.proofs.Common.{◌+◌, true, false, sym, subst}
-use Rattle.sessions.proofs.Feeds.{HasAsked, passed, asked_one, asked_off, all_asked, more_told}
+use Rattle.sessions.proofs.Feeds.{HasAsked, passed, asked_one, asked_off, more_told}
 use Rattle.sessions.proofs.Places.{by_text}
 use Rattle.sessions.proofs.checking.unasked_at.Goals.{then-has_text+else-not-asks_at, else-has_text}
 use Rattle.sessions.proofs.checking.unasked_at.Goals as goal

@@ -1,0 +1,168 @@
+//! What rows ask of operations.
+//!
+//! A row is KIND, LINE, TREE and ANSWER. LINE is an operation as users write it, or two with a comma between them, which are
+//! run one after the other (`Then`). TREE names one of the inventories beside the rows; it is empty for the first of them.
+//!
+//! - `run`: what a command results in, with `- ` before an entry that is removed and `+ ` before one that is placed
+//! - `ask`: what a question answers
+//! - `reads`: the keys that the operation looks at, each on a line
+//! - `same`: whether LINE is the same operation as another line, which is there instead of TREE
+//!
+//! An answer has no line end behind its last line.
+use crate::lines::two_lines;
+use crate::outcomes::outcome_text;
+use crate::readings::keys_text;
+use footprint::{Operation, Outcome, Then};
+use link_tree::Tree;
+use sample_rows::{Row, unlike};
+use sample_values::tree;
+use std::alloc::{AllocError, Global};
+use std::process::Abort;
+use std::str::from_utf8;
+use std::test::Fail;
+
+/// An operation that has a line.
+pub(crate) trait OfLine: Operation {
+    fn of_line(alloc: Global, line: &[u8]) -> Result<Self, AllocError>;
+}
+
+impl<A: OfLine, B: OfLine> OfLine for Then<A, B> {
+    fn of_line(alloc: Global, line: &[u8]) -> Result<Then<A, B>, AllocError> {
+        let (first, second) = two_lines(line);
+        let first = A::of_line(alloc, first)?;
+        let second = B::of_line(alloc, second)?;
+        Ok(Then { first, second })
+    }
+}
+
+/// What an operation results in, in a tree.
+pub(crate) fn outcome<O: Operation>(
+    alloc: Global,
+    operation: &O,
+    tree: &Tree,
+) -> Result<Box<Outcome>, AllocError> {
+    Ok(Box::new(alloc, operation.run(alloc, tree)?)?)
+}
+
+fn result_text<O: Operation>(
+    alloc: Global,
+    operation: &O,
+    tree: &Tree,
+) -> Result<Vec<u8>, AllocError> {
+    let outcome = outcome(alloc, operation, tree)?;
+    outcome_text(alloc, &outcome)
+}
+
+fn keys_read<O: Operation>(
+    alloc: Global,
+    operation: &O,
+    tree: &Tree,
+) -> Result<Vec<u8>, AllocError> {
+    let outcome = outcome(alloc, operation, tree)?;
+    keys_text(alloc, &outcome)
+}
+
+/// Whether a copy of an operation is the same, and as much a question as is said.
+fn is_copied<O: Operation>(operation: &O, asks_only: bool) -> Result<bool, AllocError> {
+    let copy = operation.copy()?;
+    Ok(copy.same(operation) && copy.asks_only() == asks_only)
+}
+
+/// What an operation results in, if it is copied and is a question or not as is said.
+pub(crate) fn checked_result<O: Operation>(
+    alloc: Global,
+    operation: &O,
+    tree: &Tree,
+    asks_only: bool,
+) -> Result<Vec<u8>, AllocError> {
+    if is_copied(operation, asks_only)? {
+        result_text(alloc, operation, tree)
+    } else {
+        Vec::from_slice(alloc, b"another copy")
+    }
+}
+
+fn answered<O: Operation>(
+    alloc: Global,
+    kind: &[u8],
+    operation: &O,
+    tree: &Tree,
+) -> Result<Vec<u8>, AllocError> {
+    if kind == b"run".as_slice() {
+        checked_result(alloc, operation, tree, false)
+    } else if kind == b"ask".as_slice() {
+        checked_result(alloc, operation, tree, true)
+    } else if kind == b"reads".as_slice() {
+        keys_read(alloc, operation, tree)
+    } else {
+        Vec::from_slice(alloc, b"no such kind of row")
+    }
+}
+
+/// Whether two operations are the same, either way, and so is the copy of the first.
+fn same_text<O: Operation>(one: &O, other: &O, copy: &O) -> &'static [u8] {
+    let same = one.same(other);
+    if !copy.same(one) {
+        b"another copy"
+    } else if other.same(one) != same || copy.same(other) != same {
+        b"one way"
+    } else if same {
+        b"yes"
+    } else {
+        b"no"
+    }
+}
+
+fn compared<O: Operation>(alloc: Global, one: &O, other: &O) -> Result<Vec<u8>, AllocError> {
+    let copy = one.copy()?;
+    Vec::from_slice(alloc, same_text(one, other, &copy))
+}
+
+fn compared_lines<O: OfLine>(
+    alloc: Global,
+    line: &[u8],
+    other: &[u8],
+) -> Result<Vec<u8>, AllocError> {
+    let one = O::of_line(alloc, line)?;
+    let other = O::of_line(alloc, other)?;
+    compared(alloc, &one, &other)
+}
+
+fn asked_in<O: OfLine>(alloc: Global, row: &Row, tree: &Tree) -> Result<Vec<u8>, AllocError> {
+    let operation = O::of_line(alloc, &row.one)?;
+    answered(alloc, &row.kind, &operation, tree)
+}
+
+/// The answer to a row about an operation and the tree of an inventory.
+pub(crate) fn asked<O: OfLine>(
+    alloc: Global,
+    row: &Row,
+    inventory: &[u8],
+) -> Result<Vec<u8>, AllocError> {
+    if row.kind.as_slice() == b"same".as_slice() {
+        return compared_lines::<O>(alloc, &row.one, &row.two);
+    }
+    let tree = tree(alloc, inventory)?;
+    asked_in::<O>(alloc, row, &tree)
+}
+
+/// The answer to a row whose line has no verb of the subject's.
+pub(crate) fn no_such_verb(alloc: Global) -> Result<Vec<u8>, AllocError> {
+    Vec::from_slice(alloc, b"no such verb here")
+}
+
+/// Each row is answered as it says.
+pub(crate) fn assert_rows<F>(
+    rt: &impl Abort,
+    alloc: Global,
+    rows: &[u8],
+    answer: F,
+) -> Result<(), Fail>
+where
+    F: Fn(Global, &Row) -> Result<Vec<u8>, AllocError>,
+    requires { F.IsAlwaysCallable answer }
+{
+    let found = unlike(alloc, rows, answer)?;
+    assert_eq!(rt; from_utf8(&found).unwrap_or("no text"), "");
+    Ok(())
+}
