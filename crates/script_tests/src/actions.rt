@@ -2,138 +2,85 @@
 
 use crate::lines;
 use footprint::{Answer, Operation, Outcome};
-use link_tree::Tree;
+use link_tree::{Tree, push_decimal};
+use sample_rows::{Row, unlike};
 use std::alloc::{AllocError, Global};
-use std::process::Abort;
+use std::str;
 use std::test::Fail;
-use unit_name::ample;
 use unit_script::Action;
 
-/// How many changes there are, or `REFUSED` of what isn't done.
-fn count(outcome: &Outcome) -> usize {
+/// The line of an action and that of another one; what the copy of the first is, and how many
+/// changes it makes on the empty tree. There is no such unit, so what looks one up is refused.
+const ROWS: &[u8] = b"\
+    copy\ta enable x.service\ta disable x.service\ta command, not done\n\
+    copy\ta disable x.service\ta disable y.service\ta command, changes: 0\n\
+    copy\ta reenable x.service\ta enable x.service\ta command, not done\n\
+    copy\ta preset x.service\ta preset --runtime x.service\ta command, not done\n\
+    copy\ta mask x.service\ta unmask x.service\ta command, changes: 1\n\
+    copy\ta unmask x.service\ta unmask --runtime x.service\ta command, changes: 0\n\
+    copy\ta link /x.service\ta link /y.service\ta command, not done\n\
+    copy\ta add-wants x.target y.service\ta add-requires x.target y.service\ta command, not done\n\
+    copy\ta set-default x.target\ta set-default y.target\ta command, not done\n\
+    copy\ta place /etc/systemd/system/x.service file a\t\
+        a place /etc/systemd/system/x.service file b\ta command, changes: 1\n\
+    copy\ta remove /etc/systemd/system/x.service\t\
+        a remove /etc/systemd/system/y.service\ta command, not done\n\
+    copy\ta is-enabled x.service\ta is-enabled y.service\ta question, not done\n\
+    copy\ta get-default\ta is-enabled default.target\ta question, not done\n\
+    copy\ta dependencies x.service\ta dependencies --reverse x.service\ta question, not done\n\
+    ";
+
+/// Adds how many changes there are, or that it isn't done.
+fn push_outcome(out: &mut Vec<u8>, outcome: &Outcome) -> Result<(), AllocError> {
     match outcome.answer {
-        Answer::Done(_) => outcome.changes.as_slice().len(),
-        _ => REFUSED,
+        Answer::Done(_) => {
+            out.extend_from_slice(b"changes: ")?;
+            push_decimal(out, outcome.changes.as_slice().len())
+        }
+        _ => out.extend_from_slice(b"not done"),
     }
 }
 
-const REFUSED: usize = 99;
-
-/// How many changes an action makes on the empty tree.
-fn changes_of(alloc: Global, action: &Action) -> Result<usize, AllocError> {
+/// Adds what an action comes to on the empty tree.
+fn push_run(alloc: Global, action: &Action, out: &mut Vec<u8>) -> Result<(), AllocError> {
     let tree = Box::new(alloc, Tree::empty(alloc)?)?;
-    let outcome = Box::new(alloc, action.run(alloc, &tree)?)?;
-    Ok(count(&outcome))
+    push_outcome(out, &*Box::new(alloc, action.run(alloc, &tree)?)?)
 }
 
-/// Whether the copy of a line's action is the same as that and not as another line's, whether it asks only, and how many changes it makes on the
-/// empty tree.
-fn told(alloc: Global, line: &[u8], other: &[u8]) -> Result<(bool, bool, usize), AllocError> {
-    let action = lines::action(alloc, line)?;
-    let other = lines::action(alloc, other)?;
-    let copy = Box::new(alloc, action.copy()?)?;
-    let is_told_apart = copy.same(&action) && !copy.same(&other);
-    Ok((is_told_apart, copy.asks_only(), changes_of(alloc, &copy)?))
-}
-
-/// The lines of two actions, whether they ask only, and how many changes the first makes on the empty tree.
-type Row = (&'static [u8], &'static [u8], bool, usize);
-
-fn assert_told(rt: &impl Abort, alloc: Global, row: &Row) -> Result<(), Fail> {
-    let told = ample!(told(alloc, row.0, row.1), AllocError)?;
-    assert_eq!(rt; told, (true, row.2, row.3));
-    Ok(())
-}
-
-fn assert_all_told(rt: &impl Abort, alloc: Global, rows: &[Row]) -> Result<(), Fail> {
-    for row in rows {
-        assert_told(rt, alloc, row)?;
+/// Says whether a copy is the same as its action and not as another one, and whether it only asks.
+fn kind_of(copy: &Action, action: &Action, other: &Action) -> &'static [u8] {
+    if !copy.same(action) || copy.same(other) {
+        return b"another action, ";
     }
-    Ok(())
+    if copy.asks_only() {
+        b"a question, "
+    } else {
+        b"a command, "
+    }
 }
 
-const COMMANDS: [Row; 11] = [
-    // there is no such unit, which refuses what looks one up
-    (
-        b"a enable x.service",
-        b"a disable x.service",
-        false,
-        REFUSED,
-    ),
-    (b"a disable x.service", b"a disable y.service", false, 0),
-    (
-        b"a reenable x.service",
-        b"a enable x.service",
-        false,
-        REFUSED,
-    ),
-    (
-        b"a preset x.service",
-        b"a preset --runtime x.service",
-        false,
-        REFUSED,
-    ),
-    (b"a mask x.service", b"a unmask x.service", false, 1),
-    (
-        b"a unmask x.service",
-        b"a unmask --runtime x.service",
-        false,
-        0,
-    ),
-    (b"a link /x.service", b"a link /y.service", false, REFUSED),
-    (
-        b"a add-wants x.target y.service",
-        b"a add-requires x.target y.service",
-        false,
-        REFUSED,
-    ),
-    (
-        b"a set-default x.target",
-        b"a set-default y.target",
-        false,
-        REFUSED,
-    ),
-    (
-        b"a place /etc/systemd/system/x.service file a",
-        b"a place /etc/systemd/system/x.service file b",
-        false,
-        1,
-    ),
-    (
-        b"a remove /etc/systemd/system/x.service",
-        b"a remove /etc/systemd/system/y.service",
-        false,
-        REFUSED,
-    ),
-];
+fn push_copy(
+    alloc: Global,
+    action: &Action,
+    other: &Action,
+    out: &mut Vec<u8>,
+) -> Result<(), AllocError> {
+    let copy = Box::new(alloc, action.copy()?)?;
+    out.extend_from_slice(kind_of(&copy, action, other))?;
+    push_run(alloc, &copy, out)
+}
+
+fn answer(alloc: Global, row: &Row) -> Result<Vec<u8>, AllocError> {
+    let mut out = Vec::new(alloc);
+    let action = lines::action(alloc, &row.one)?;
+    let other = lines::action(alloc, &row.two)?;
+    push_copy(alloc, &action, &other, &mut out)?;
+    Ok(out)
+}
 
 #[test]
 fn a_copy_does_the_same(rt: HostRuntime) -> Result<(), Fail> {
-    assert_all_told(&rt, rt.alloc(), &COMMANDS)
-}
-
-const QUESTIONS: [Row; 3] = [
-    (
-        b"a is-enabled x.service",
-        b"a is-enabled y.service",
-        true,
-        REFUSED,
-    ),
-    (
-        b"a get-default",
-        b"a is-enabled default.target",
-        true,
-        REFUSED,
-    ),
-    (
-        b"a dependencies x.service",
-        b"a dependencies --reverse x.service",
-        true,
-        REFUSED,
-    ),
-];
-
-#[test]
-fn a_copy_asks_the_same(rt: HostRuntime) -> Result<(), Fail> {
-    assert_all_told(&rt, rt.alloc(), &QUESTIONS)
+    let found = unlike(rt.alloc(), ROWS, answer)?;
+    assert!(rt; found.is_empty(), "{:?}", str::from_utf8(&found));
+    Ok(())
 }

@@ -61,12 +61,6 @@ fn assert_run(
 }
 
 #[test]
-fn a_run_answers_each_call(rt: HostRuntime) {
-    let mut sink = Narrow::new(ALL, 7, true);
-    assert_run(&rt, rt.alloc(), (ALL, 0), &mut sink, (Ok(()), OUTPUT));
-}
-
-#[test]
 fn a_source_may_fail_anywhere(rt: HostRuntime) {
     for k in 0..=INPUT.len() {
         let fault = match k {
@@ -77,22 +71,6 @@ fn a_source_may_fail_anywhere(rt: HostRuntime) {
         let mut sink = Narrow::new(ALL, ALL, true);
         assert_run(&rt, rt.alloc(), (k, 0), &mut sink, (Err(fault), b""));
     }
-}
-
-#[test]
-fn a_source_may_be_interrupted(rt: HostRuntime) {
-    let most = u64::from(MAX_INTERRUPTIONS);
-    let mut sink = Narrow::new(ALL, ALL, true);
-    assert_run(
-        &rt,
-        rt.alloc(),
-        (ALL, most - 1),
-        &mut sink,
-        (Ok(()), OUTPUT),
-    );
-    let fault = RunFault::InventoryRead(0);
-    let mut unused = Narrow::new(ALL, ALL, true);
-    assert_run(&rt, rt.alloc(), (ALL, most), &mut unused, (Err(fault), b""));
 }
 
 /// A run into the sink fails when it has taken so many bytes.
@@ -110,8 +88,21 @@ fn a_sink_may_fail_anywhere(rt: HostRuntime) {
     }
 }
 
+/// A source that is interrupted as often as it may be, and once more.
+fn assert_interrupted(rt: &impl Abort, alloc: Global) {
+    let most = u64::from(MAX_INTERRUPTIONS);
+    let mut sink = Narrow::new(ALL, ALL, true);
+    assert_run(rt, alloc, (ALL, most - 1), &mut sink, (Ok(()), OUTPUT));
+    let fault = RunFault::InventoryRead(0);
+    let mut unused = Narrow::new(ALL, ALL, true);
+    assert_run(rt, alloc, (ALL, most), &mut unused, (Err(fault), b""));
+}
+
 #[test]
-fn a_sink_may_take_nothing_or_not_flush(rt: HostRuntime) {
+fn a_run_answers_each_call_and_may_be_held_back(rt: HostRuntime) {
+    let mut slow = Narrow::new(ALL, 7, true);
+    assert_run(&rt, rt.alloc(), (ALL, 0), &mut slow, (Ok(()), OUTPUT));
+    assert_interrupted(&rt, rt.alloc());
     let mut idle = Narrow::new(ALL, 0, true);
     assert_cut(&rt, rt.alloc(), &mut idle, 0);
     let mut unflushed = Narrow::new(ALL, ALL, false);

@@ -1,9 +1,11 @@
-//! Tests of `unit_script`, from outside it: with tests of its own it would be proved twice. Those of failing streams
-//! are of `link_tree`'s reader and writer too.
+//! Tests of `unit_script`, from outside it: with tests of its own it would be proved twice. Those of
+//! failing streams are of `link_tree`'s reader and writer too.
 #![tactic(auto)]
 
 #[cfg(test)]
 mod actions;
+#[cfg(test)]
+mod bad_lines;
 #[cfg(test)]
 mod faults;
 #[cfg(test)]

@@ -9,6 +9,11 @@ use unit_script::{Action, Call, ScriptFault, read_script};
 /// More bytes than any of these texts has.
 pub(crate) const ALL: usize = 2000;
 
+/// Whether a word is this one. (A `match` on words is dear: it looks at them byte by byte.)
+pub(crate) fn is(word: &[u8], wanted: &[u8]) -> bool {
+    word == wanted
+}
+
 /// The script of one line.
 fn script_of(alloc: Global, line: &[u8]) -> Result<Vec<u8>, AllocError> {
     let mut script = Vec::new(alloc);

@@ -1,14 +1,80 @@
-//! The lines of changes and rows.
+//! The lines of changes and rows, and the texts of refusals.
 
-use crate::lines::whole_call;
+use crate::lines::{is, whole_call};
+use crate::refusals;
 use history::{History, MAX_ROWS, Operator, Request};
 use link_tree::Change;
+use sample_rows::{Row, unlike};
 use sample_values::{file, link, path, tree};
 use std::alloc::{AllocError, Global};
-use std::process::Abort;
+use std::str;
 use std::test::Fail;
-use unit_name::ample;
 use unit_script::{Action, Call, push_changes, push_rows};
+
+/// The calls of lines on an inventory, and the lines of their rows; a file that is masked, and the
+/// lines of that change; and refusals, and what is said of them.
+const ROWS: &[u8] = b"\
+    # an empty file is removed, and put back\n\
+    calls on e.service\talice unmask e.service\\nalice undo 1\t\t\
+        1 alice ok\\n  \
+        - /etc/systemd/system/e.service file 0\\n\
+        2 alice undid 1\\n  \
+        + /etc/systemd/system/e.service file 0\\n\n\
+    # skipped words follow the changes: the words of Also= by both, the others by enable alone\n\
+    calls on u.service\ta enable u.service\\na disable u.service\\na enable n.service\t\t\
+        1 a ok\\n  \
+        + /etc/systemd/system/m.target.wants/u.service -> /usr/lib/systemd/system/u.service\\n  \
+        ! u.service: Alias u.socket: bad alias\\n  \
+        ! u.service: Also %z: bad specifier\\n  \
+        ! u.service: Also al.service: is an alias\\n  \
+        ! u.service: Also d.service: dangling\\n  \
+        ! u.service: Also n.service: masked\\n  \
+        ! u.service: Also none.service: not found\\n  \
+        ! u.service: Also x: bad name\\n  \
+        ! u.service: RequiredBy y: bad name\\n\
+        2 a ok\\n  \
+        - /etc/systemd/system/al.service -> /usr/lib/systemd/system/u.service\\n  \
+        - /etc/systemd/system/m.target.wants/u.service -> /usr/lib/systemd/system/u.service\\n  \
+        ! u.service: Also %z: bad specifier\\n  \
+        ! u.service: Also al.service: is an alias\\n  \
+        ! u.service: Also d.service: dangling\\n  \
+        ! u.service: Also n.service: masked\\n  \
+        ! u.service: Also none.service: not found\\n  \
+        ! u.service: Also x: bad name\\n\
+        3 a refused: n.service is masked\\n\n\
+    # a file is shown by its length\n\
+    masked file\t[Unit]\\nA=b\\n\t\t  \
+        - /etc/systemd/system/x.service file 11\\n  \
+        + /etc/systemd/system/x.service -> /dev/null\\n\n\
+    \n\
+    # each refusal names its subject\n\
+    not found\tx@.service\t\tx@.service not found\n\
+    not found\t/a/b\t\t/a/b not found\n\
+    masked\tx@.service\t\tx@.service is masked\n\
+    masked\t/a/b\t\t/a/b is masked\n\
+    dangling\t/a/b\t\t/a/b leads nowhere\n\
+    bad type\tx@.service\t\tx@.service has the wrong type\n\
+    bad type\t/a/b\t\t/a/b has the wrong type\n\
+    needs instance\tx@.service\t\tx@.service needs an instance\n\
+    not a slot\t/a/b\t\t/a/b is not a slot\n\
+    absent\t/a/b\t\t/a/b is absent\n\
+    exists\t/a/b\t\t/a/b exists\n\
+    is alias\tx@.service\ty@.service\tx@.service is an alias of y@.service\n\
+    too many\t\t\ttoo many units\n\
+    clash\t/a/b\t\t/a/b is wanted twice\n\
+    ";
+
+const EMPTY_FILE: &[u8] = b"unitadm-inventory 1\nF\t0\t/etc/systemd/system/e.service\n\nend\n";
+
+/// A unit with words that ask for nothing, for each reason that a word can have.
+const UNIT: &[u8] = b"unitadm-inventory 1\n\
+    L\t/etc/systemd/system/al.service\t/usr/lib/systemd/system/u.service\n\
+    L\t/etc/systemd/system/d.service\tgone\n\
+    L\t/etc/systemd/system/n.service\t/dev/null\n\
+    F\t110\t/usr/lib/systemd/system/u.service\n\
+    [Install]\nAlso=%z x none.service n.service d.service al.service\n\
+    Alias=u.socket\nWantedBy=m.target\nRequiredBy=y\n\n\
+    end\n";
 
 /// A change of a file into a link to `/dev/null`.
 fn mask_of_file(alloc: Global, bytes: &[u8]) -> Result<Box<[Change; 1]>, AllocError> {
@@ -27,19 +93,7 @@ fn text_of_mask(alloc: Global, bytes: &[u8]) -> Result<Vec<u8>, AllocError> {
     Ok(out)
 }
 
-#[test]
-fn a_file_is_told_by_its_length(rt: HostRuntime) -> Result<(), Fail> {
-    let text = ample!(text_of_mask(rt.alloc(), b"[Unit]\nA=b\n"), AllocError)?;
-    assert_eq!(rt;
-        text.as_slice(),
-        b"  - /etc/systemd/system/x.service file 11\n  \
-          + /etc/systemd/system/x.service -> /dev/null\n"
-            .as_slice()
-    );
-    Ok(())
-}
-
-/// Runs an action. Where memory runs out, the one that came back is run.
+/// Runs an action. If memory runs out, the one that came back is run.
 fn run(
     alloc: Global,
     history: &mut History<Action>,
@@ -77,7 +131,7 @@ fn make(alloc: Global, history: &mut History<Action>, line: &[u8]) -> Result<u32
     }
 }
 
-/// Makes the calls of lines, and tells all rows.
+/// Makes the calls of lines, and adds the lines of all rows.
 fn push_made(
     alloc: Global,
     history: &mut History<Action>,
@@ -107,66 +161,22 @@ fn rows(alloc: Global, inventory: &[u8], script: &[u8]) -> Result<Vec<u8>, Alloc
     Ok(out)
 }
 
-fn assert_rows(
-    rt: &impl Abort,
-    alloc: Global,
-    inventory: &[u8],
-    script: &[u8],
-    told: &[u8],
-) -> Result<(), Fail> {
-    let rows = ample!(rows(alloc, inventory, script), AllocError)?;
-    assert_eq!(rt; rows.as_slice(), told);
+fn answer(alloc: Global, row: &Row) -> Result<Vec<u8>, AllocError> {
+    if is(&row.kind, b"calls on e.service") {
+        return rows(alloc, EMPTY_FILE, &row.one);
+    }
+    if is(&row.kind, b"calls on u.service") {
+        return rows(alloc, UNIT, &row.one);
+    }
+    if is(&row.kind, b"masked file") {
+        return text_of_mask(alloc, &row.one);
+    }
+    refusals::said(alloc, row)
+}
+
+#[test]
+fn rows_changes_and_refusals_have_their_lines(rt: HostRuntime) -> Result<(), Fail> {
+    let found = unlike(rt.alloc(), ROWS, answer)?;
+    assert!(rt; found.is_empty(), "{:?}", str::from_utf8(&found));
     Ok(())
-}
-
-const EMPTY_FILE: &[u8] = b"unitadm-inventory 1\nF\t0\t/etc/systemd/system/e.service\n\nend\n";
-
-/// The rows of an unmask and its undo.
-const UNDONE: &[u8] = b"1 alice ok\n  \
-      - /etc/systemd/system/e.service file 0\n\
-    2 alice undid 1\n  \
-      + /etc/systemd/system/e.service file 0\n";
-
-#[test]
-fn an_empty_file_is_taken_away_and_put_back(rt: HostRuntime) -> Result<(), Fail> {
-    let script = b"alice unmask e.service\nalice undo 1";
-    assert_rows(&rt, rt.alloc(), EMPTY_FILE, script, UNDONE)
-}
-
-/// A unit with words that ask for nothing, for each reason that a word can have.
-const UNIT: &[u8] = b"unitadm-inventory 1\n\
-    L\t/etc/systemd/system/al.service\t/usr/lib/systemd/system/u.service\n\
-    L\t/etc/systemd/system/d.service\tgone\n\
-    L\t/etc/systemd/system/n.service\t/dev/null\n\
-    F\t110\t/usr/lib/systemd/system/u.service\n\
-    [Install]\nAlso=%z x none.service n.service d.service al.service\n\
-    Alias=u.socket\nWantedBy=m.target\nRequiredBy=y\n\n\
-    end\n";
-
-/// An enable, a disable and a refused enable: the words of `Also=` are told by both, the others by enable alone.
-const SKIPPED: &[u8] = b"1 a ok\n  \
-      + /etc/systemd/system/m.target.wants/u.service -> /usr/lib/systemd/system/u.service\n  \
-      ! u.service: Alias u.socket: bad alias\n  \
-      ! u.service: Also %z: bad specifier\n  \
-      ! u.service: Also al.service: is an alias\n  \
-      ! u.service: Also d.service: dangling\n  \
-      ! u.service: Also n.service: masked\n  \
-      ! u.service: Also none.service: not found\n  \
-      ! u.service: Also x: bad name\n  \
-      ! u.service: RequiredBy y: bad name\n\
-    2 a ok\n  \
-      - /etc/systemd/system/al.service -> /usr/lib/systemd/system/u.service\n  \
-      - /etc/systemd/system/m.target.wants/u.service -> /usr/lib/systemd/system/u.service\n  \
-      ! u.service: Also %z: bad specifier\n  \
-      ! u.service: Also al.service: is an alias\n  \
-      ! u.service: Also d.service: dangling\n  \
-      ! u.service: Also n.service: masked\n  \
-      ! u.service: Also none.service: not found\n  \
-      ! u.service: Also x: bad name\n\
-    3 a refused: n.service is masked\n";
-
-#[test]
-fn skipped_words_are_told_behind_the_changes(rt: HostRuntime) -> Result<(), Fail> {
-    let script = b"a enable u.service\na disable u.service\na enable n.service";
-    assert_rows(&rt, rt.alloc(), UNIT, script, SKIPPED)
 }
