@@ -3,5 +3,4 @@ mod entries;
 mod large;
 pub(crate) mod names;
 mod reading;
-mod sharing;
 mod writing;

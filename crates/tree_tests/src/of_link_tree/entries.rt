@@ -1,8 +1,39 @@
+//! Files, links and changes of them.
+use crate::rows::{assert_rows, is, number_of, yes_or_no};
 use link_tree::{Change, Entry, FileError, is_null_link};
+use sample_rows::Row;
 use sample_values::{file, link, path};
 use std::alloc::{AllocError, Global};
 use std::test::Fail;
-use unit_name::ample;
+
+const ROWS: &[u8] = b"\
+    # A file has at most a mebibyte.\n\
+    size\t0\t\ta file\n\
+    size\t1\t\ta file\n\
+    size\t4096\t\ta file\n\
+    size\t1048576\t\ta file\n\
+    size\t1048577\t\tfile too large\n\
+    \n\
+    # A link to /dev/null masks.\n\
+    mask\t/dev/null\t\tyes\n\
+    mask\t../../../dev/null\t\tyes\n\
+    mask\t//dev/./null\t\tyes\n\
+    mask\t/../dev/x/../null/\t\tyes\n\
+    mask\tdev/null\t\tno\n\
+    mask\t/dev/null/x\t\tno\n\
+    mask\t/dev\t\tno\n\
+    mask\t/lib/systemd/null\t\tno\n\
+    mask\t/dev/nul\t\tno\n\
+    \n\
+    # Which of five entries an entry is the same as: it is so by its kind and its bytes.\n\
+    same as\tfile of \t\tfile of ;\n\
+    same as\tfile of a\t\tfile of a;\n\
+    same as\tfile of ab\t\tfile of ab;\n\
+    same as\tlink to a\t\tlink to a;\n\
+    same as\tlink to ab\t\tlink to ab;\n\
+    \n\
+    # A change of a link, taken back.\n\
+    taken back\tb.service\t/dev/null\t/etc/systemd/system/a.service from /dev/null to b.service\n";
 
 /// Whether the entry and its copy are files with these bytes.
 fn are_files(entry: &Entry, bytes: &[u8]) -> Result<bool, AllocError> {
@@ -17,112 +48,103 @@ fn make_file(alloc: Global, size: usize) -> Result<bool, FileError> {
     Ok(are_files(&entry, &bytes)?)
 }
 
-#[test]
-fn files_have_at_most_a_mebibyte(rt: HostRuntime) -> Result<(), Fail> {
-    for size in [0, 1, 4096, 1048576] {
-        let made = ample!(make_file(rt.alloc(), size), FileError::OutOfMemory)?;
-        assert!(rt; made);
+fn file_of_size(alloc: Global, size: usize) -> Result<Vec<u8>, AllocError> {
+    match make_file(alloc, size) {
+        Ok(true) => Vec::from_slice(alloc, b"a file"),
+        Ok(false) => Vec::from_slice(alloc, b"another file"),
+        Err(FileError::TooLarge) => Vec::from_slice(alloc, b"file too large"),
+        Err(FileError::OutOfMemory) => Err(AllocError),
     }
-    let refused = ample!(make_file(rt.alloc(), 1048577), FileError::OutOfMemory);
-    assert!(rt; matches!(refused, Err(FileError::TooLarge)));
-    Ok(())
 }
 
 /// Whether a link with this target masks a unit.
-fn masks(alloc: Global, target: &[u8]) -> Result<bool, AllocError> {
+fn is_mask(alloc: Global, target: &[u8]) -> Result<Vec<u8>, AllocError> {
     let from = path(alloc, b"/etc/systemd/system/x.service")?;
     let link = link(alloc, target)?;
-    Ok(is_null_link(&from, &link))
+    yes_or_no(alloc, is_null_link(&from, &link))
 }
 
-#[test]
-fn links_to_dev_null_mask(rt: HostRuntime) -> Result<(), Fail> {
-    for target in [
-        b"/dev/null".as_slice(),
-        b"../../../dev/null",
-        b"//dev/./null",
-        b"/../dev/x/../null/",
-    ] {
-        let masks = masks(rt.alloc(), target)?;
-        assert!(rt; masks);
-    }
-    for target in [
-        b"dev/null".as_slice(),
-        b"/dev/null/x",
-        b"/dev",
-        b"/lib/systemd/null",
-        b"/dev/nul",
-    ] {
-        let masks = masks(rt.alloc(), target)?;
-        assert!(rt; !masks);
-    }
-    Ok(())
-}
+const ENTRIES: [&[u8]; 5] = [
+    b"file of ",
+    b"file of a",
+    b"file of ab",
+    b"link to a",
+    b"link to ab",
+];
 
-/// A link with this target, or a file of these bytes.
-fn entry(alloc: Global, is_link: bool, bytes: &[u8]) -> Result<Entry, AllocError> {
-    if is_link {
-        link(alloc, bytes)
-    } else {
-        file(alloc, bytes)
+/// A file of these bytes, or a link to this target.
+fn entry_of(alloc: Global, words: &[u8]) -> Result<Entry, AllocError> {
+    match (
+        words.strip_prefix(b"file of "),
+        words.strip_prefix(b"link to "),
+    ) {
+        (Some(bytes), _) => file(alloc, bytes),
+        (_, Some(target)) => link(alloc, target),
+        _ => Err(AllocError),
     }
 }
 
-/// Whether an entry is the same as a copy of another, each a link or not, of these bytes.
-fn are_same(alloc: Global, one: (bool, &[u8]), other: (bool, &[u8])) -> Result<bool, AllocError> {
-    let one = entry(alloc, one.0, one.1)?;
-    let other = entry(alloc, other.0, other.1)?;
-    let copy = other.copy()?;
+/// Whether an entry is the same as a copy of another.
+fn are_same(alloc: Global, one: &[u8], other: &[u8]) -> Result<bool, AllocError> {
+    let one = entry_of(alloc, one)?;
+    let copy = entry_of(alloc, other)?.copy()?;
     Ok(one.same(&copy))
 }
 
-#[test]
-fn entries_are_the_same_by_kind_and_bytes(rt: HostRuntime) -> Result<(), Fail> {
-    let entries: [(bool, &[u8]); 5] = [
-        (false, b""),
-        (false, b"a"),
-        (false, b"ab"),
-        (true, b"a"),
-        (true, b"ab"),
-    ];
-    for (i, one) in entries.into_iter().enumerate() {
-        for (j, other) in entries.into_iter().enumerate() {
-            let are_same = ample!(are_same(rt.alloc(), one, other), AllocError)?;
-            assert_eq!(rt; are_same, i == j);
+/// Those of some entries that an entry is the same as.
+fn all_same(alloc: Global, one: &[u8], entries: &[&[u8]]) -> Result<Vec<u8>, AllocError> {
+    let mut same = Vec::new(alloc);
+    for other in entries {
+        if are_same(alloc, one, other)? {
+            same.extend_from_slice(other)?;
+            same.extend_from_slice(b";")?;
         }
     }
-    Ok(())
+    Ok(same)
 }
 
-const SLOT: &[u8] = b"/etc/systemd/system/a.service";
-
-/// Whether this is the change of one link at the slot to another.
-fn is_change(change: &Change, before: &[u8], after: &[u8]) -> bool {
+fn change_in_words(alloc: Global, change: &Change) -> Result<Vec<u8>, AllocError> {
     match (&change.before, &change.after) {
-        (Some(was), Some(is)) => {
-            change.path.text() == SLOT && was.bytes() == before && is.bytes() == after
+        (Some(before), Some(after)) => {
+            let words = [
+                change.path.text(),
+                b" from ",
+                before.bytes(),
+                b" to ",
+                after.bytes(),
+            ];
+            words.concat(alloc)
         }
-        _ => false,
+        _ => Vec::from_slice(alloc, b"from or to nothing"),
     }
 }
 
-/// Whether the change of one link at the slot to another, taken back, is that of the other to the one.
-fn is_taken_back(alloc: Global, before: &[u8], after: &[u8]) -> Result<bool, AllocError> {
+/// The change of a link at a slot to another, taken back.
+fn taken_back(alloc: Global, before: &[u8], after: &[u8]) -> Result<Vec<u8>, AllocError> {
     let change = Change {
-        path: path(alloc, SLOT)?,
+        path: path(alloc, b"/etc/systemd/system/a.service")?,
         before: Some(link(alloc, before)?),
         after: Some(link(alloc, after)?),
     };
     let back = change.taken_back()?;
-    Ok(is_change(&back, after, before))
+    change_in_words(alloc, &back)
+}
+
+fn answer(alloc: Global, row: &Row) -> Result<Vec<u8>, AllocError> {
+    if is(row, b"size") {
+        file_of_size(alloc, number_of(&row.one))
+    } else if is(row, b"mask") {
+        is_mask(alloc, &row.one)
+    } else if is(row, b"same as") {
+        all_same(alloc, &row.one, &ENTRIES)
+    } else if is(row, b"taken back") {
+        taken_back(alloc, &row.one, &row.two)
+    } else {
+        Vec::from_slice(alloc, b"unknown kind")
+    }
 }
 
 #[test]
-fn a_change_is_taken_back(rt: HostRuntime) -> Result<(), Fail> {
-    let is_taken_back = ample!(
-        is_taken_back(rt.alloc(), b"b.service", b"/dev/null"),
-        AllocError
-    )?;
-    assert!(rt; is_taken_back);
-    Ok(())
+fn entries_are_files_and_links(rt: HostRuntime) -> Result<(), Fail> {
+    assert_rows(&rt, rt.alloc(), ROWS, answer)
 }

@@ -1,16 +1,39 @@
-//! The links that belong to a name, as they are looked up. That a tree has nothing listed but its links is proved; here stand the lists
-//! themselves, and what a body that gives up for want of memory would hide.
-
+//! The links that belong to a name, as they are looked up. That a tree has nothing listed but its links
+//! is proved; here are the lists themselves, and what a body that gives up if memory runs out would
+//! hide.
 use crate::of_link_tree::changes::set_link;
-use link_tree::{Scope, Tree, TreePath, belongs};
+use crate::rows::{assert_rows, is, texts_of, yes_or_no};
+use link_tree::{Scope, Tree, belongs};
+use sample_rows::Row;
 use sample_values::{name, path, tree};
 use std::alloc::{AllocError, Global};
-use std::process::Abort;
 use std::test::Fail;
 use unit_name::{UnitName, ample};
 
-/// Three links to one unit, one of which gives it another name; an alias of a template's instance; a link to an instance; masked
-/// units; links of the other scope, and one of no scope.
+const ROWS: &[u8] = b"\
+    # The links of a scope that belong to a name.\n\
+    belonging\tEtc\tssh.service\t\
+        /etc/systemd/system/multi-user.target.wants/ssh.service\\n\
+        /etc/systemd/system/rescue.target.wants/ssh.service\\n\
+        /etc/systemd/system/sshd.service\\n\n\
+    belonging\tEtc\tsshd.service\t/etc/systemd/system/sshd.service\\n\n\
+    belonging\tRun\tssh.service\t/run/systemd/system/multi-user.target.wants/ssh.service\\n\n\
+    belonging\tRun\tsshd.service\t\n\
+    belonging\tEtc\tgetty@tty1.service\t\
+        /etc/systemd/system/getty.target.wants/getty@tty1.service\\n\n\
+    belonging\tEtc\tgetty@.service\t\
+        /etc/systemd/system/getty.target.wants/getty@tty1.service\\n\n\
+    belonging\tEtc\tgetty@tty9.service\t\n\
+    belonging\tEtc\tautovt@.service\t/etc/systemd/system/autovt@.service\\n\n\
+    belonging\tEtc\tmasked.service\t\n\
+    belonging\tEtc\town.service\t/etc/systemd/system/own.service\\n\n\
+    belonging\tEtc\tfile.service\t\n\
+    \n\
+    # After a change they are right, also if memory ran out in it at first: all is as before then.\n\
+    change\t\t\tyes\n";
+
+/// Three links to one unit, one of which gives it another name; an alias of a template's instance; a
+/// link to an instance; masked units; links of the other scope, and one of no scope.
 const LINKS: &[u8] = b"unitadm-inventory 1\n\
 L\t/etc/systemd/system/sshd.service\t/lib/systemd/system/ssh.service\n\
 L\t/etc/systemd/system/rescue.target.wants/ssh.service\t/lib/systemd/system/ssh.service\n\
@@ -24,95 +47,18 @@ L\t/run/systemd/system/multi-user.target.wants/ssh.service\t/lib/systemd/system/
 L\t/lib/systemd/system/opensshd.service\tssh.service\n\
 end\n";
 
-/// Whether the paths have these texts.
-pub(crate) fn have_texts(paths: &[TreePath], texts: &[&[u8]]) -> bool {
-    let mut at = 0;
-    for path in paths {
-        match texts.get(at) {
-            Some(text) if path.text() == *text => at = at.saturating_add(1),
-            _ => return false,
-        }
-    }
-    at == texts.len()
-}
-
-/// A scope, a name, and the links of the scope that belong to the name.
-type Row = (Scope, &'static [u8], &'static [&'static [u8]]);
-
-/// Whether these are the links that belong to the name.
-fn belong(alloc: Global, tree: &Tree, row: &Row) -> Result<bool, AllocError> {
-    let (scope, unit, paths) = row;
-    let unit = name(alloc, unit)?;
-    Ok(have_texts(tree.belonging(*scope, &unit), paths))
-}
-
-/// How many rows there are before the first whose links are others in the tree of `LINKS`.
-fn count_belonging(alloc: Global, rows: &[Row]) -> Result<usize, AllocError> {
+/// The links that belong to a name in the tree of `LINKS`.
+fn belonging(alloc: Global, scope: &[u8], unit: &[u8]) -> Result<Vec<u8>, AllocError> {
     let tree = tree(alloc, LINKS)?;
-    let mut count = 0usize;
-    for row in rows {
-        if !belong(alloc, &tree, row)? {
-            break;
-        }
-        count = count.saturating_add(1);
+    let unit = name(alloc, unit)?;
+    if scope == b"Etc".as_slice() {
+        texts_of(alloc, tree.belonging(Scope::Etc, &unit))
+    } else {
+        texts_of(alloc, tree.belonging(Scope::Run, &unit))
     }
-    Ok(count)
 }
 
-const BELONGING: [Row; 11] = [
-    (
-        Scope::Etc,
-        b"ssh.service",
-        &[
-            b"/etc/systemd/system/multi-user.target.wants/ssh.service",
-            b"/etc/systemd/system/rescue.target.wants/ssh.service",
-            b"/etc/systemd/system/sshd.service",
-        ],
-    ),
-    (
-        Scope::Etc,
-        b"sshd.service",
-        &[b"/etc/systemd/system/sshd.service"],
-    ),
-    (
-        Scope::Run,
-        b"ssh.service",
-        &[b"/run/systemd/system/multi-user.target.wants/ssh.service"],
-    ),
-    (Scope::Run, b"sshd.service", &[]),
-    (
-        Scope::Etc,
-        b"getty@tty1.service",
-        &[b"/etc/systemd/system/getty.target.wants/getty@tty1.service"],
-    ),
-    (
-        Scope::Etc,
-        b"getty@.service",
-        &[b"/etc/systemd/system/getty.target.wants/getty@tty1.service"],
-    ),
-    (Scope::Etc, b"getty@tty9.service", &[]),
-    (
-        Scope::Etc,
-        b"autovt@.service",
-        &[b"/etc/systemd/system/autovt@.service"],
-    ),
-    (Scope::Etc, b"masked.service", &[]),
-    (
-        Scope::Etc,
-        b"own.service",
-        &[b"/etc/systemd/system/own.service"],
-    ),
-    (Scope::Etc, b"file.service", &[]),
-];
-
-#[test]
-fn links_are_looked_up_by_their_names(rt: HostRuntime) -> Result<(), Fail> {
-    let count = count_belonging(rt.alloc(), &BELONGING)?;
-    assert_eq!(rt; count, BELONGING.len());
-    Ok(())
-}
-
-/// Whether what is looked up is what belongs to the name of all that stands in the tree, in its order.
+/// Whether what is looked up is what belongs to the name of all entries of the tree, in its order.
 fn are_all(tree: &Tree, scope: Scope, name: &UnitName) -> bool {
     let listed = tree.belonging(scope, name);
     let mut at = 0;
@@ -178,23 +124,34 @@ pub(crate) fn relink(alloc: Global, tree: &mut Tree, number: u32) -> Result<(), 
     set_link(alloc, tree, &slot, target.as_bytes())
 }
 
-/// Makes a change that may find no memory: the tree and its lists are then as they were, and the change is made again.
-fn assert_relinked(rt: &impl Abort, alloc: Global, tree: &mut Tree) -> Result<(), AllocError> {
+/// Makes a change. If memory runs out, the tree and its lists are as they were, and it is made again.
+fn relink_or_keep(alloc: Global, tree: &mut Tree) -> Result<bool, AllocError> {
     let entries = tree.len();
     if let Err(AllocError) = relink(alloc, tree, 0) {
-        assert_eq!(rt; tree.len(), entries);
-        let are_all = ample!(are_all_of_each(alloc, tree), AllocError)?;
-        assert!(rt; are_all);
-        ample!(relink(alloc, tree, 0), AllocError)?;
+        if tree.len() != entries || !ample!(are_all_of_each(alloc, tree), AllocError)? {
+            return Ok(false);
+        }
+        relink(alloc, tree, 0)?;
     }
-    let are_all = ample!(are_all_of_each(alloc, tree), AllocError)?;
-    assert!(rt; are_all);
-    Ok(())
+    are_all_of_each(alloc, tree)
+}
+
+fn change(alloc: Global) -> Result<Vec<u8>, AllocError> {
+    let mut tree = tree(alloc, LINKS)?;
+    yes_or_no(alloc, relink_or_keep(alloc, &mut tree)?)
+}
+
+fn answer(alloc: Global, row: &Row) -> Result<Vec<u8>, AllocError> {
+    if is(row, b"belonging") {
+        belonging(alloc, &row.one, &row.two)
+    } else if is(row, b"change") {
+        change(alloc)
+    } else {
+        Vec::from_slice(alloc, b"unknown kind")
+    }
 }
 
 #[test]
-fn lists_are_as_before_where_memory_runs_out(rt: HostRuntime) -> Result<(), Fail> {
-    let mut tree = tree(rt.alloc(), LINKS)?;
-    assert_relinked(&rt, rt.alloc(), &mut tree)?;
-    Ok(())
+fn links_are_looked_up_by_their_names(rt: HostRuntime) -> Result<(), Fail> {
+    assert_rows(&rt, rt.alloc(), ROWS, answer)
 }

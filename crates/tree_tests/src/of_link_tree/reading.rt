@@ -1,322 +1,144 @@
+//! Inventories, read.
+use crate::rows::{assert_rows, is, number_of};
 use link_tree::{
     Entry, FromRead, InventoryError, InventoryFault, Line, Tree, read_inventory, read_line,
 };
+use sample_rows::Row;
 use sample_values::{path, tree};
 use std::alloc::{AllocError, Global};
-use std::process::Abort;
 use std::test::Fail;
-use unit_name::ample;
 
-/// Two links in no order, and what follows an inventory.
-const TWO_LINKS: &[u8] = b"unitadm-inventory 1\nL\t/b\t/x\nL\t/a/c\ty\nend\n== calls\n";
+/// What is read of an inventory: `entries` are those behind its first line.
+const ROWS: &[u8] = b"\
+    # The first fault is reported, and the number of its entry.\n\
+    inventory\t\t\tinventory entry 0: bad header\n\
+    inventory\tunitadm-inventory 1\t\tinventory entry 0: bad header\n\
+    inventory\tunitadm-inventory 2\\nend\\n\t\tinventory entry 0: bad header\n\
+    inventory\tunitadm-inventory 1\\r\\nend\\n\t\tinventory entry 0: bad header\n\
+    \n\
+    entries\t\t\tinventory entry 1: truncated\n\
+    entries\tend\t\tinventory entry 1: truncated\n\
+    entries\tL\\t/a\\tb\t\tinventory entry 1: truncated\n\
+    entries\tL\\t/a\\tb\\nen\t\tinventory entry 2: truncated\n\
+    entries\t\\n\t\tinventory entry 1: bad line\n\
+    entries\tend \\n\t\tinventory entry 1: bad line\n\
+    entries\tL\\t/a\\n\t\tinventory entry 1: bad line\n\
+    entries\tL /a\\tb\\n\t\tinventory entry 1: bad line\n\
+    entries\tL\\t/a\\tb\\tc\\n\t\tinventory entry 1: bad line\n\
+    entries\tL\\ta\\tb\\tc\\n\t\tinventory entry 1: bad line\n\
+    entries\tL\\t\\tb\\n\t\tinventory entry 1: bad path\n\
+    entries\tL\\ta\\tb\\n\t\tinventory entry 1: bad path\n\
+    entries\tL\\t/a\\t\\n\t\tinventory entry 1: bad path\n\
+    entries\tL\\t/a\\x00\\tb\\n\t\tinventory entry 1: bad path\n\
+    entries\tL\\t/a\\tb\\x00\\n\t\tinventory entry 1: bad path\n\
+    entries\tL\\t/etc/../a\\tb\\n\t\tinventory entry 1: bad path\n\
+    entries\tL\\t/a\\tb\\nL\\t/a\\tb\\n\t\tinventory entry 2: duplicate\n\
+    entries\tL\\t/a\\tb\\nL\\t/a/c/d\\tb\\n\t\tinventory entry 2: under another entry\n\
+    entries\tL\\t/a/c/d\\tb\\nL\\t/a\\tb\\n\t\tinventory entry 2: under another entry\n\
+    entries\tL\\t/a-b\\tb\\nL\\t/a/c\\tb\\nL\\t/a\\tb\\n\
+        \t\tinventory entry 3: under another entry\n\
+    entries\tL\\t/etc/systemd/system/a.path\\tb\\nL\\t/etc/systemd/system/a.path/c\\tb\\n\
+        \t\tinventory entry 2: under another entry\n\
+    entries\tL\\t/etc/systemd/system/x.target.wants\\t/y\\n\t\tinventory entry 1: bad shape\n\
+    entries\tL\\t/etc/systemd/system/a.service/b\\t/y\\n\t\tinventory entry 1: bad shape\n\
+    entries\tL\\t/usr/lib/systemd/system/a.target.wants/a.path/b\\t/y\\n\
+        \t\tinventory entry 1: bad shape\n\
+    entries\tL\\t/run/systemd/system-preset\\t/y\\n\t\tinventory entry 1: bad shape\n\
+    entries\tL\\t/usr/local/lib\\t/y\\n\t\tinventory entry 1: bad shape\n\
+    entries\tL\\t/etc\\t/y\\n\t\tinventory entry 1: bad shape\n\
+    \n\
+    # The first fault of a file.\n\
+    entries\tF\\t1\\t/a\t\tinventory entry 1: truncated\n\
+    entries\tF\\t1\\t/a\\n\t\tinventory entry 1: truncated\n\
+    entries\tF\\t1\\t/a\\nx\t\tinventory entry 1: truncated\n\
+    entries\tF\\t1\\t/a\\nx\\n\t\tinventory entry 2: truncated\n\
+    entries\tF\\t1\\t/a\\nxy\\nend\\n\t\tinventory entry 1: bad line\n\
+    entries\tF\\t2\\t/a\\nx\\nend\\n\t\tinventory entry 1: bad line\n\
+    entries\tF\\t1\\n\t\tinventory entry 1: bad line\n\
+    entries\tF\\t1\\t/a\\tb\\nx\\n\t\tinventory entry 1: bad line\n\
+    entries\tF\\t\\t/a\\nx\\n\t\tinventory entry 1: bad line\n\
+    entries\tF\\t01\\t/a\\nx\\n\t\tinventory entry 1: bad line\n\
+    entries\tF\\t00\\t/a\\n\\n\t\tinventory entry 1: bad line\n\
+    entries\tF\\t+1\\t/a\\nx\\n\t\tinventory entry 1: bad line\n\
+    entries\tF\\t-1\\t/a\\nx\\n\t\tinventory entry 1: bad line\n\
+    entries\tF\\t1 \\t/a\\nx\\n\t\tinventory entry 1: bad line\n\
+    entries\tF\\t0x1\\t/a\\nx\\n\t\tinventory entry 1: bad line\n\
+    entries\tf\\t1\\t/a\\nx\\n\t\tinventory entry 1: bad line\n\
+    entries\tF\\t1\\ta\\nx\\n\t\tinventory entry 1: bad path\n\
+    entries\tF\\t1\\t\\nx\\n\t\tinventory entry 1: bad path\n\
+    entries\tF\\t1048577\\ta\\n\t\tinventory entry 1: bad path\n\
+    entries\tF\\t1048577\\t/a\\n\t\tinventory entry 1: file too large\n\
+    entries\tF\\t36893488147419103232\\t/a\\n\t\tinventory entry 1: file too large\n\
+    entries\tF\\t1048576\\t/a\\n\t\tinventory entry 1: truncated\n\
+    entries\tL\\t/a\\tb\\nF\\t1\\t/a\\nxy\\n\t\tinventory entry 2: bad line\n\
+    entries\tL\\t/a\\tb\\nF\\t1\\t/a\\nx\\n\t\tinventory entry 2: duplicate\n\
+    entries\tF\\t0\\t/a\\n\\nF\\t1\\t/a/b\\nx\\n\t\tinventory entry 2: under another entry\n\
+    entries\tF\\t1\\t/etc\\nx\\n\t\tinventory entry 1: bad shape\n\
+    \n\
+    # A line has at most 16,384 bytes.\n\
+    line of\t16384\t\tinventory entry 1: truncated\n\
+    line of\t16385\t\tinventory entry 1: bad line\n\
+    \n\
+    # Behind 24 links. They come into the tree sixteen at a time: when what follows is read, 7.path is\n\
+    # in it, and 25.path is pending.\n\
+    behind many\t\t\tinventory entry 25: truncated\n\
+    behind many\tL\\n\t\tinventory entry 25: bad line\n\
+    behind many\tL\\t/etc/systemd/system/7.path\\t/x\\nend\\n\t\tinventory entry 25: duplicate\n\
+    behind many\tL\\t/etc/systemd/system/25.path\\t/x\\nL\\n\t\tinventory entry 25: duplicate\n\
+    behind many\tL\\t/etc/systemd/system/7.path\\t/x\\nL\\t/etc/systemd/system/25.path\\t/x\\n\
+        L\\t/etc/systemd/system/0.path\\t/x\\nL\\n\t\tinventory entry 25: duplicate\n\
+    behind many\tL\\t/etc/systemd/system/z.path\\t/x\\nL\\t/etc/systemd/system/z.path\\t/x\\n\
+        L\\t/etc/systemd/system/25.path\\t/x\\n\t\tinventory entry 26: duplicate\n\
+    behind many\tL\\t/etc/systemd/system/25.path\\t/x\\nL\\t/etc\\t/x\\nend\\n\
+        \t\tinventory entry 25: duplicate\n\
+    behind many\tL\\t/etc/systemd/system/z.path\\t/x\\nL\\t/etc\\t/x\\nend\\n\
+        \t\tinventory entry 26: under another entry\n\
+    behind many\tL\\t/etc/systemd/system/25.path/a\\t/x\\nend\\n\
+        \t\tinventory entry 25: under another entry\n\
+    behind many\tL\\t/a\\t/x\\nL\\t/a\\t/x\\nL\\t/etc/systemd/system/25.path\\t/x\\nend\\n\
+        \t\tinventory entry 26: duplicate\n\
+    behind many\tL\\t/a\\t/x\\nL\\t/etc/systemd/system/z.path\\t/x\\nend\\n\t\t26 entries\n\
+    \n\
+    # What follows an inventory is left: here the first line of it.\n\
+    followed by\tL\\t/b\\t/x\\nL\\t/a/c\\ty\\nend\\n== calls\\n\t\t2 entries, then == calls\n\
+    \n\
+    # A file's bytes may look like anything.\n\
+    file\tF\\t10\\t/b\\nend\\n\\n\\x00\\tL\\t/\\nF\\t0\\t/a\\n\\nend\\n\t/b\t\
+        end\\n\\n\\x00\\tL\\t/\n\
+    file\tF\\t10\\t/b\\nend\\n\\n\\x00\\tL\\t/\\nF\\t0\\t/a\\n\\nend\\n\t/a\t\n";
+
+/// An inventory of these entries.
+fn inventory(alloc: Global, entries: &[u8]) -> Result<Vec<u8>, AllocError> {
+    [b"unitadm-inventory 1\n".as_slice(), entries].concat(alloc)
+}
 
 /// How many entries an inventory has.
 fn count(alloc: Global, input: &[u8]) -> Result<usize, InventoryError> {
     Ok(read_inventory(alloc, &mut FromRead::new(input))?.len())
 }
 
-fn is_whole(line: &Line, text: &[u8]) -> bool {
-    match line {
-        Line::Whole(whole) => whole.as_slice() == text,
-        _ => false,
+/// How many entries an inventory has, or its first fault.
+fn read(alloc: Global, input: &[u8]) -> Result<Vec<u8>, AllocError> {
+    match count(alloc, input) {
+        Ok(count) => Ok(format!(in alloc; "{count} entries")?.into_bytes()),
+        Err(InventoryError::OutOfMemory) => Err(AllocError),
+        Err(fault) => Ok(format!(in alloc; "{fault}")?.into_bytes()),
     }
 }
 
-/// How many entries an inventory has, and whether this line follows it.
-fn read_before(alloc: Global, input: &[u8], text: &[u8]) -> Result<(usize, bool), InventoryError> {
-    let mut source = FromRead::new(input);
-    let count = read_inventory(alloc, &mut source)?.len();
-    match read_line(alloc, &mut source, 80, InventoryFault::BadLine) {
-        Ok(line) => Ok((count, is_whole(&line, text))),
-        Err(_) => Err(InventoryError::OutOfMemory),
-    }
+fn read_entries(alloc: Global, entries: &[u8]) -> Result<Vec<u8>, AllocError> {
+    let text = inventory(alloc, entries)?;
+    read(alloc, &text)
 }
 
-#[test]
-fn what_follows_an_inventory_is_left(rt: HostRuntime) -> Result<(), Fail> {
-    let read = ample!(
-        read_before(rt.alloc(), TWO_LINKS, b"== calls"),
-        InventoryError::OutOfMemory
-    )?;
-    assert_eq!(rt; read, (2, true));
-    Ok(())
+fn read_long_line(alloc: Global, len: usize) -> Result<Vec<u8>, AllocError> {
+    let line = Vec::from_elem(alloc, b'x', len)?;
+    read_entries(alloc, &line)
 }
 
-fn assert_faults(rt: &impl Abort, alloc: Global, rows: &[(&[u8], InventoryFault, u32)]) {
-    for (input, fault, number) in rows {
-        let count = ample!(count(alloc, input), InventoryError::OutOfMemory);
-        assert_eq!(rt;
-            count,
-            Err(InventoryError::Fault(*fault, *number)),
-            "{input:?}"
-        );
-    }
-}
-
-const FAULTS: [(&[u8], InventoryFault, u32); 31] = [
-    (b"", InventoryFault::BadHeader, 0),
-    (b"unitadm-inventory 1", InventoryFault::BadHeader, 0),
-    (b"unitadm-inventory 2\nend\n", InventoryFault::BadHeader, 0),
-    (
-        b"unitadm-inventory 1\r\nend\n",
-        InventoryFault::BadHeader,
-        0,
-    ),
-    (b"unitadm-inventory 1\n", InventoryFault::Truncated, 1),
-    (b"unitadm-inventory 1\nend", InventoryFault::Truncated, 1),
-    (
-        b"unitadm-inventory 1\nL\t/a\tb",
-        InventoryFault::Truncated,
-        1,
-    ),
-    (
-        b"unitadm-inventory 1\nL\t/a\tb\nen",
-        InventoryFault::Truncated,
-        2,
-    ),
-    (b"unitadm-inventory 1\n\n", InventoryFault::BadLine, 1),
-    (b"unitadm-inventory 1\nend \n", InventoryFault::BadLine, 1),
-    (b"unitadm-inventory 1\nL\t/a\n", InventoryFault::BadLine, 1),
-    (
-        b"unitadm-inventory 1\nL /a\tb\n",
-        InventoryFault::BadLine,
-        1,
-    ),
-    (
-        b"unitadm-inventory 1\nL\t/a\tb\tc\n",
-        InventoryFault::BadLine,
-        1,
-    ),
-    (
-        b"unitadm-inventory 1\nL\ta\tb\tc\n",
-        InventoryFault::BadLine,
-        1,
-    ),
-    (b"unitadm-inventory 1\nL\t\tb\n", InventoryFault::BadPath, 1),
-    (
-        b"unitadm-inventory 1\nL\ta\tb\n",
-        InventoryFault::BadPath,
-        1,
-    ),
-    (
-        b"unitadm-inventory 1\nL\t/a\t\n",
-        InventoryFault::BadPath,
-        1,
-    ),
-    (
-        b"unitadm-inventory 1\nL\t/a\0\tb\n",
-        InventoryFault::BadPath,
-        1,
-    ),
-    (
-        b"unitadm-inventory 1\nL\t/a\tb\0\n",
-        InventoryFault::BadPath,
-        1,
-    ),
-    (
-        b"unitadm-inventory 1\nL\t/etc/../a\tb\n",
-        InventoryFault::BadPath,
-        1,
-    ),
-    (
-        b"unitadm-inventory 1\nL\t/a\tb\nL\t/a\tb\n",
-        InventoryFault::Duplicate,
-        2,
-    ),
-    (
-        b"unitadm-inventory 1\nL\t/a\tb\nL\t/a/c/d\tb\n",
-        InventoryFault::UnderEntry,
-        2,
-    ),
-    (
-        b"unitadm-inventory 1\nL\t/a/c/d\tb\nL\t/a\tb\n",
-        InventoryFault::UnderEntry,
-        2,
-    ),
-    (
-        b"unitadm-inventory 1\nL\t/a-b\tb\nL\t/a/c\tb\nL\t/a\tb\n",
-        InventoryFault::UnderEntry,
-        3,
-    ),
-    (
-        b"unitadm-inventory 1\nL\t/etc/systemd/system/a.path\tb\nL\t/etc/systemd/system/a.path/c\tb\n",
-        InventoryFault::UnderEntry,
-        2,
-    ),
-    (
-        b"unitadm-inventory 1\nL\t/etc/systemd/system/x.target.wants\t/y\n",
-        InventoryFault::BadShape,
-        1,
-    ),
-    (
-        b"unitadm-inventory 1\nL\t/etc/systemd/system/a.service/b\t/y\n",
-        InventoryFault::BadShape,
-        1,
-    ),
-    (
-        b"unitadm-inventory 1\nL\t/usr/lib/systemd/system/a.target.wants/a.path/b\t/y\n",
-        InventoryFault::BadShape,
-        1,
-    ),
-    (
-        b"unitadm-inventory 1\nL\t/run/systemd/system-preset\t/y\n",
-        InventoryFault::BadShape,
-        1,
-    ),
-    (
-        b"unitadm-inventory 1\nL\t/usr/local/lib\t/y\n",
-        InventoryFault::BadShape,
-        1,
-    ),
-    (
-        b"unitadm-inventory 1\nL\t/etc\t/y\n",
-        InventoryFault::BadShape,
-        1,
-    ),
-];
-
-#[test]
-fn the_first_fault_is_named(rt: HostRuntime) {
-    assert_faults(&rt, rt.alloc(), &FAULTS);
-}
-
-const FAULTS_OF_FILES: [(&[u8], InventoryFault, u32); 26] = [
-    (
-        b"unitadm-inventory 1\nF\t1\t/a",
-        InventoryFault::Truncated,
-        1,
-    ),
-    (
-        b"unitadm-inventory 1\nF\t1\t/a\n",
-        InventoryFault::Truncated,
-        1,
-    ),
-    (
-        b"unitadm-inventory 1\nF\t1\t/a\nx",
-        InventoryFault::Truncated,
-        1,
-    ),
-    (
-        b"unitadm-inventory 1\nF\t1\t/a\nx\n",
-        InventoryFault::Truncated,
-        2,
-    ),
-    (
-        b"unitadm-inventory 1\nF\t1\t/a\nxy\nend\n",
-        InventoryFault::BadLine,
-        1,
-    ),
-    (
-        b"unitadm-inventory 1\nF\t2\t/a\nx\nend\n",
-        InventoryFault::BadLine,
-        1,
-    ),
-    (b"unitadm-inventory 1\nF\t1\n", InventoryFault::BadLine, 1),
-    (
-        b"unitadm-inventory 1\nF\t1\t/a\tb\nx\n",
-        InventoryFault::BadLine,
-        1,
-    ),
-    (
-        b"unitadm-inventory 1\nF\t\t/a\nx\n",
-        InventoryFault::BadLine,
-        1,
-    ),
-    (
-        b"unitadm-inventory 1\nF\t01\t/a\nx\n",
-        InventoryFault::BadLine,
-        1,
-    ),
-    (
-        b"unitadm-inventory 1\nF\t00\t/a\n\n",
-        InventoryFault::BadLine,
-        1,
-    ),
-    (
-        b"unitadm-inventory 1\nF\t+1\t/a\nx\n",
-        InventoryFault::BadLine,
-        1,
-    ),
-    (
-        b"unitadm-inventory 1\nF\t-1\t/a\nx\n",
-        InventoryFault::BadLine,
-        1,
-    ),
-    (
-        b"unitadm-inventory 1\nF\t1 \t/a\nx\n",
-        InventoryFault::BadLine,
-        1,
-    ),
-    (
-        b"unitadm-inventory 1\nF\t0x1\t/a\nx\n",
-        InventoryFault::BadLine,
-        1,
-    ),
-    (
-        b"unitadm-inventory 1\nf\t1\t/a\nx\n",
-        InventoryFault::BadLine,
-        1,
-    ),
-    (
-        b"unitadm-inventory 1\nF\t1\ta\nx\n",
-        InventoryFault::BadPath,
-        1,
-    ),
-    (
-        b"unitadm-inventory 1\nF\t1\t\nx\n",
-        InventoryFault::BadPath,
-        1,
-    ),
-    (
-        b"unitadm-inventory 1\nF\t1048577\ta\n",
-        InventoryFault::BadPath,
-        1,
-    ),
-    (
-        b"unitadm-inventory 1\nF\t1048577\t/a\n",
-        InventoryFault::TooLarge,
-        1,
-    ),
-    (
-        b"unitadm-inventory 1\nF\t36893488147419103232\t/a\n",
-        InventoryFault::TooLarge,
-        1,
-    ),
-    (
-        b"unitadm-inventory 1\nF\t1048576\t/a\n",
-        InventoryFault::Truncated,
-        1,
-    ),
-    (
-        b"unitadm-inventory 1\nL\t/a\tb\nF\t1\t/a\nxy\n",
-        InventoryFault::BadLine,
-        2,
-    ),
-    (
-        b"unitadm-inventory 1\nL\t/a\tb\nF\t1\t/a\nx\n",
-        InventoryFault::Duplicate,
-        2,
-    ),
-    (
-        b"unitadm-inventory 1\nF\t0\t/a\n\nF\t1\t/a/b\nx\n",
-        InventoryFault::UnderEntry,
-        2,
-    ),
-    (
-        b"unitadm-inventory 1\nF\t1\t/etc\nx\n",
-        InventoryFault::BadShape,
-        1,
-    ),
-];
-
-#[test]
-fn the_first_fault_of_a_file_is_named(rt: HostRuntime) {
-    assert_faults(&rt, rt.alloc(), &FAULTS_OF_FILES);
-}
-
-/// An inventory of 24 links at slots, in no order, and what follows them.
+/// 24 links at slots, in no order, and what follows them.
 fn many(alloc: Global, rest: &[u8]) -> Result<Vec<u8>, AllocError> {
-    let mut text = Vec::from_slice(alloc, b"unitadm-inventory 1\n".as_slice())?;
+    let mut text = Vec::new(alloc);
     for i in 0..24u32 {
         let line = format!(in alloc; "L\t/etc/systemd/system/{}.path\t/x\n", i * 7 % 29)?;
         text.extend_from_slice(line.as_bytes())?;
@@ -325,123 +147,72 @@ fn many(alloc: Global, rest: &[u8]) -> Result<Vec<u8>, AllocError> {
     Ok(text)
 }
 
-/// How many entries it has.
-fn count_many(alloc: Global, rest: &[u8]) -> Result<usize, InventoryError> {
-    let text = many(alloc, rest)?;
-    count(alloc, &text)
+fn read_many(alloc: Global, rest: &[u8]) -> Result<Vec<u8>, AllocError> {
+    let entries = many(alloc, rest)?;
+    read_entries(alloc, &entries)
 }
 
-fn assert_faults_behind_many(
-    rt: &impl Abort,
-    alloc: Global,
-    rows: &[(&[u8], InventoryFault, u32)],
-) {
-    for (rest, fault, number) in rows {
-        let count = ample!(count_many(alloc, rest), InventoryError::OutOfMemory);
-        assert_eq!(rt;
-            count,
-            Err(InventoryError::Fault(*fault, *number)),
-            "{rest:?}"
-        );
+/// The line that follows, if it is a whole one.
+fn line_behind(alloc: Global, source: &mut FromRead<&[u8]>) -> Result<Vec<u8>, AllocError> {
+    match read_line(alloc, source, 80, InventoryFault::BadLine) {
+        Ok(Line::Whole(line)) => Ok(line),
+        Ok(Line::Last(_)) => Vec::from_slice(alloc, b"a line without end"),
+        Err(_) => Err(AllocError),
     }
 }
 
-/// Links come into the tree sixteen at a time: `7.path` stands there when what follows is read, and `25.path` is pending.
-const BEHIND_MANY: [(&[u8], InventoryFault, u32); 10] = [
-    (b"", InventoryFault::Truncated, 25),
-    (b"L\n", InventoryFault::BadLine, 25),
-    (
-        b"L\t/etc/systemd/system/7.path\t/x\nend\n",
-        InventoryFault::Duplicate,
-        25,
-    ),
-    (
-        b"L\t/etc/systemd/system/25.path\t/x\nL\n",
-        InventoryFault::Duplicate,
-        25,
-    ),
-    (
-        b"L\t/etc/systemd/system/7.path\t/x\nL\t/etc/systemd/system/25.path\t/x\nL\t/etc/systemd/system/0.path\t/x\nL\n",
-        InventoryFault::Duplicate,
-        25,
-    ),
-    (
-        b"L\t/etc/systemd/system/z.path\t/x\nL\t/etc/systemd/system/z.path\t/x\nL\t/etc/systemd/system/25.path\t/x\n",
-        InventoryFault::Duplicate,
-        26,
-    ),
-    (
-        b"L\t/etc/systemd/system/25.path\t/x\nL\t/etc\t/x\nend\n",
-        InventoryFault::Duplicate,
-        25,
-    ),
-    (
-        b"L\t/etc/systemd/system/z.path\t/x\nL\t/etc\t/x\nend\n",
-        InventoryFault::UnderEntry,
-        26,
-    ),
-    (
-        b"L\t/etc/systemd/system/25.path/a\t/x\nend\n",
-        InventoryFault::UnderEntry,
-        25,
-    ),
-    (
-        b"L\t/a\t/x\nL\t/a\t/x\nL\t/etc/systemd/system/25.path\t/x\nend\n",
-        InventoryFault::Duplicate,
-        26,
-    ),
-];
-
-#[test]
-fn the_first_fault_behind_many_links_is_named(rt: HostRuntime) {
-    assert_faults_behind_many(&rt, rt.alloc(), &BEHIND_MANY);
+/// How many entries an inventory has, and the line that follows it.
+fn read_with_line(alloc: Global, input: &[u8]) -> Result<Vec<u8>, AllocError> {
+    let mut source = FromRead::new(input);
+    let count = match read_inventory(alloc, &mut source) {
+        Ok(tree) => tree.len(),
+        Err(_) => return Err(AllocError),
+    };
+    let line = line_behind(alloc, &mut source)?;
+    let mut words = format!(in alloc; "{count} entries, then ")?.into_bytes();
+    words.extend_from_slice(&line)?;
+    Ok(words)
 }
 
-#[test]
-fn all_of_many_links_come_into_the_tree(rt: HostRuntime) -> Result<(), Fail> {
-    let rest = b"L\t/a\t/x\nL\t/etc/systemd/system/z.path\t/x\nend\n";
-    let count = ample!(count_many(rt.alloc(), rest), InventoryError::OutOfMemory)?;
-    assert_eq!(rt; count, 26);
-    Ok(())
+fn followed_by(alloc: Global, entries: &[u8]) -> Result<Vec<u8>, AllocError> {
+    let text = inventory(alloc, entries)?;
+    read_with_line(alloc, &text)
 }
 
-const ANY_BYTES: &[u8] = b"unitadm-inventory 1\nF\t10\t/b\nend\n\n\0\tL\t/\nF\t0\t/a\n\nend\n";
-
-/// Whether a file with these bytes stands at a path of the tree.
-fn holds(alloc: Global, tree: &Tree, at: &[u8], bytes: &[u8]) -> Result<bool, AllocError> {
+/// The bytes of a file at a path of the tree.
+fn file_at(alloc: Global, tree: &Tree, at: &[u8]) -> Result<Vec<u8>, AllocError> {
     let path = path(alloc, at)?;
     match tree.get(&path) {
-        Some(Entry::File(contents)) => Ok(contents.bytes() == bytes),
-        _ => Ok(false),
+        Some(Entry::File(contents)) => Vec::from_slice(alloc, contents.bytes()),
+        _ => Vec::from_slice(alloc, b"no file"),
     }
 }
 
-/// Whether both files stand in the tree of their inventory.
-fn are_held(alloc: Global) -> Result<bool, AllocError> {
-    let tree = tree(alloc, ANY_BYTES)?;
-    Ok(holds(alloc, &tree, b"/b", b"end\n\n\0\tL\t/")? && holds(alloc, &tree, b"/a", b"")?)
+fn file_of(alloc: Global, entries: &[u8], at: &[u8]) -> Result<Vec<u8>, AllocError> {
+    let text = inventory(alloc, entries)?;
+    let tree = tree(alloc, &text)?;
+    file_at(alloc, &tree, at)
 }
 
-/// What a file holds may look like anything.
-#[test]
-fn files_hold_any_bytes(rt: HostRuntime) -> Result<(), Fail> {
-    let are_held = are_held(rt.alloc())?;
-    assert!(rt; are_held);
-    Ok(())
-}
-
-#[test]
-fn a_line_has_at_most_16384_bytes(rt: HostRuntime) {
-    let mut input = [b'x'; 20 + 16385];
-    input[..20].copy_from_slice(b"unitadm-inventory 1\n");
-    for (len, fault) in [
-        (20 + 16384, InventoryFault::Truncated),
-        (20 + 16385, InventoryFault::BadLine),
-    ] {
-        let count = ample!(
-            count(rt.alloc(), &input[..len]),
-            InventoryError::OutOfMemory
-        );
-        assert_eq!(rt; count, Err(InventoryError::Fault(fault, 1)));
+fn answer(alloc: Global, row: &Row) -> Result<Vec<u8>, AllocError> {
+    if is(row, b"inventory") {
+        read(alloc, &row.one)
+    } else if is(row, b"entries") {
+        read_entries(alloc, &row.one)
+    } else if is(row, b"line of") {
+        read_long_line(alloc, number_of(&row.one))
+    } else if is(row, b"behind many") {
+        read_many(alloc, &row.one)
+    } else if is(row, b"followed by") {
+        followed_by(alloc, &row.one)
+    } else if is(row, b"file") {
+        file_of(alloc, &row.one, &row.two)
+    } else {
+        Vec::from_slice(alloc, b"unknown kind")
     }
+}
+
+#[test]
+fn inventories_are_read_up_to_their_first_fault(rt: HostRuntime) -> Result<(), Fail> {
+    assert_rows(&rt, rt.alloc(), ROWS, answer)
 }

@@ -1,55 +1,72 @@
+//! Trees, written, changed and shared.
 use crate::of_link_tree::changes::{change, changed, empty};
-use link_tree::{Change, ToWrite, Tree, WriteError, write_before_inventory, write_inventory};
+use crate::rows::{assert_rows, is, number_of, yes_or_no};
+use link_tree::{Change, Slot, ToWrite, Tree, write_before_inventory, write_inventory};
+use sample_rows::Row;
 use sample_values::{path, tree};
 use std::alloc::{AllocError, Global};
-use std::process::Abort;
 use std::test::Fail;
-use unit_name::ample;
 
-/// Entries in no order; byte order of path isn't the order of directories.
+const ROWS: &[u8] = b"\
+    # Entries are written in order.\n\
+    written\tthree entries\t\tunitadm-inventory 1\\n\
+        F\\t4\\t/a-b/c\\na\\nb\\n\\nF\\t0\\t/a/b/c\\n\\nL\\t/a/z\\ty\\nend\\n\n\
+    written\tno entry\t\tunitadm-inventory 1\\nend\\n\n\
+    \n\
+    # A file of so many bytes, which is longer than the write buffer, is written behind a text.\n\
+    file behind\t70000\t== tree\\n\tyes\n\
+    \n\
+    # A tree of three entries, in which a slot is filled with a link.\n\
+    filled\t/etc/systemd/system/sshd.service\tssh.service\t3 entries before, 4 after, 4 copied\n\
+    \n\
+    # Changes that mask no unit, one and two result in the same in place as on a copy.\n\
+    mask\t\t\tyes\n\
+    mask\t/etc/systemd/system/a.service\t\tyes\n\
+    mask\t/etc/systemd/system/a.service\t/etc/systemd/system/b.service\tyes\n\
+    \n\
+    # To share a tree or to copy it takes no memory: it works whatever growth is refused.\n\
+    share\t\t\tyes\n\
+    copy\t\t\tyes\n\
+    \n\
+    # An entry is put from one tree into another that has none, and then into it again.\n\
+    share in\t\t\tyes\n";
+
+/// Three entries in no order; byte order of path isn't the order of directories.
 const ENTRIES: &[u8] =
     b"unitadm-inventory 1\nL\t/a/z\ty\nF\t4\t/a-b/c\na\nb\n\nF\t0\t/a/b/c\n\nend\n";
 
-const IN_ORDER: &[u8] =
-    b"unitadm-inventory 1\nF\t4\t/a-b/c\na\nb\n\nF\t0\t/a/b/c\n\nL\t/a/z\ty\nend\n";
+/// One unit file.
+const ONE: &[u8] = b"unitadm-inventory 1\n\
+F\t37\t/usr/lib/systemd/system/ssh.service\n[Install]\nWantedBy=multi-user.target\n\n\
+end\n";
 
-fn assert_written(
-    rt: &impl Abort,
-    alloc: Global,
-    tree: &Tree,
-    text: &[u8],
-) -> Result<(), WriteError> {
-    let mut taken = [0; 512];
-    let mut room = taken.as_mut_slice();
-    ample!(
-        write_inventory(alloc, tree, &mut ToWrite::new(&mut room)),
-        WriteError::OutOfMemory
-    )?;
-    let len = 512usize.saturating_sub(room.len());
-    assert_eq!(rt; len, text.len());
-    assert!(rt; taken.starts_with(text));
-    Ok(())
+fn inventory_of(alloc: Global, tree: &Tree) -> Result<Vec<u8>, AllocError> {
+    let mut out = Vec::new(alloc);
+    match write_inventory(alloc, tree, &mut ToWrite::new(&mut out)) {
+        Ok(()) => Ok(out),
+        Err(_) => Err(AllocError),
+    }
 }
 
-#[test]
-fn entries_are_written_in_order(rt: HostRuntime) -> Result<(), Fail> {
-    let alloc = rt.alloc();
-    let entries = tree(alloc, ENTRIES)?;
-    assert_written(&rt, alloc, &entries, IN_ORDER)?;
-    let empty = ample!(empty(alloc), AllocError)?;
-    assert_written(&rt, alloc, &empty, b"unitadm-inventory 1\nend\n")?;
-    Ok(())
+/// What is written of the tree of `ENTRIES`, or of one with none.
+fn written_of(alloc: Global, words: &[u8]) -> Result<Vec<u8>, AllocError> {
+    let tree = if words == b"three entries".as_slice() {
+        tree(alloc, ENTRIES)?
+    } else {
+        empty(alloc)?
+    };
+    inventory_of(alloc, &tree)
 }
 
-/// An inventory of one file, which is longer than the write buffer.
-fn long_file(alloc: Global) -> Result<Vec<u8>, AllocError> {
-    let mut text = Vec::from_slice(alloc, b"unitadm-inventory 1\nF\t70000\t/a/b\n")?;
-    text.extend_from_slice(&[b'a'; 70000])?;
+/// An inventory of one file.
+fn file_inventory(alloc: Global, size: usize) -> Result<Vec<u8>, AllocError> {
+    let mut text = format!(in alloc; "unitadm-inventory 1\nF\t{size}\t/a/b\n")?.into_bytes();
+    text.extend_from_slice(&Vec::from_elem(alloc, b'a', size)?)?;
     text.extend_from_slice(b"\nend\n")?;
     Ok(text)
 }
 
-/// What is written into a list, which takes all but for want of memory.
+/// What is written into a list, which takes all unless memory runs out.
 fn written(alloc: Global, before: &[u8], tree: &Tree) -> Result<Vec<u8>, AllocError> {
     let mut out = Vec::new(alloc);
     match write_before_inventory(alloc, before, tree, &mut ToWrite::new(&mut out)) {
@@ -65,17 +82,13 @@ fn is_written_behind(alloc: Global, before: &[u8], text: &[u8]) -> Result<bool, 
     Ok(written.strip_prefix(before) == Some(text))
 }
 
-fn long_file_is_written_behind(alloc: Global, before: &[u8]) -> Result<bool, AllocError> {
-    let text = long_file(alloc)?;
-    is_written_behind(alloc, before, &text)
-}
-
-#[test]
-fn a_long_file_is_written_behind_a_text(rt: HostRuntime) -> Result<(), Fail> {
-    let before = b"== tree\n";
-    let is_written = ample!(long_file_is_written_behind(rt.alloc(), before), AllocError)?;
-    assert!(rt; is_written);
-    Ok(())
+fn file_is_written_behind(
+    alloc: Global,
+    size: usize,
+    before: &[u8],
+) -> Result<Vec<u8>, AllocError> {
+    let text = file_inventory(alloc, size)?;
+    yes_or_no(alloc, is_written_behind(alloc, before, &text)?)
 }
 
 /// How many entries of a tree are the same in its copy.
@@ -91,8 +104,8 @@ fn count_copied(tree: &Tree) -> Result<u32, AllocError> {
     Ok(count)
 }
 
-/// How many entries there are before and after a change that fills a slot with a link, whether its entry stands after it alone, and how many
-/// entries a copy shares with the changed tree.
+/// How many entries there are before and after a change that fills a slot with a link, whether its
+/// entry is there after it alone, and how many entries a copy has of the changed tree.
 fn told_of_filling(
     alloc: Global,
     slot: &[u8],
@@ -106,18 +119,13 @@ fn told_of_filling(
     Ok((tree.len(), changed.len(), is_new, count_copied(&changed)?))
 }
 
-#[test]
-fn trees_change_at_slots(rt: HostRuntime) -> Result<(), Fail> {
-    let told = ample!(
-        told_of_filling(
-            rt.alloc(),
-            b"/etc/systemd/system/sshd.service",
-            b"ssh.service"
-        ),
-        AllocError
-    )?;
-    assert_eq!(rt; told, (3, 4, true, 4));
-    Ok(())
+fn filled(alloc: Global, slot: &[u8], target: &[u8]) -> Result<Vec<u8>, AllocError> {
+    let (before, after, is_new, copied) = told_of_filling(alloc, slot, target)?;
+    if !is_new {
+        return Vec::from_slice(alloc, b"no new entry");
+    }
+    let words = format!(in alloc; "{before} entries before, {after} after, {copied} copied")?;
+    Ok(words.into_bytes())
 }
 
 /// What is written of the tree with these changes.
@@ -131,32 +139,80 @@ fn written_changed(
     written(alloc, b"", &changed)
 }
 
-/// Whether the changes come to the same in place as on a copy.
+/// Whether the changes result in the same in place as on a copy.
 fn are_made_alike(alloc: Global, tree: &Tree, changes: &[Change]) -> Result<bool, AllocError> {
     let in_place = written_changed(alloc, tree, changes, true)?;
     Ok(in_place == written_changed(alloc, tree, changes, false)?)
 }
 
-/// Whether changes that mask these units come to the same in place as on a copy: none of them, one, and so on to all.
-fn masks_are_made_alike(alloc: Global, slots: &[&[u8]]) -> Result<bool, AllocError> {
-    let tree = tree(alloc, ENTRIES)?;
+/// The changes that mask these units, as far as they are named.
+fn masks(alloc: Global, tree: &Tree, slots: &[&[u8]]) -> Result<Vec<Change>, AllocError> {
     let mut changes = Vec::new(alloc);
     for slot in slots {
-        if !are_made_alike(alloc, &tree, &changes)? {
-            return Ok(false);
+        if !slot.is_empty() {
+            changes.push(change(alloc, tree, path(alloc, slot)?, b"/dev/null")?)?;
         }
-        changes.push(change(alloc, &tree, path(alloc, slot)?, b"/dev/null")?)?;
     }
-    are_made_alike(alloc, &tree, &changes)
+    Ok(changes)
+}
+
+/// Whether changes that mask these units result in the same in place as on a copy.
+fn masks_are_made_alike(alloc: Global, slots: &[&[u8]]) -> Result<Vec<u8>, AllocError> {
+    let tree = tree(alloc, ENTRIES)?;
+    let changes = masks(alloc, &tree, slots)?;
+    yes_or_no(alloc, are_made_alike(alloc, &tree, &changes)?)
+}
+
+/// Whether a tree is shared or copied. It isn't tried again, so that it fails if it takes memory.
+fn takes_nothing(alloc: Global, is_copy: bool) -> Result<Vec<u8>, AllocError> {
+    let tree = tree(alloc, ONE)?;
+    let done = if is_copy { tree.copy() } else { tree.share() };
+    yes_or_no(alloc, done.is_ok())
+}
+
+/// Puts the one entry of a tree into another: whether it is there then, and is the last to come.
+fn shares_in(one: &Tree, other: &mut Tree) -> Result<bool, AllocError> {
+    let mut entries = one.iter();
+    let Some(placed) = entries.next_placed() else {
+        return Ok(false);
+    };
+    if Slot::of(placed.path()).is_none() {
+        return Ok(false);
+    }
+    other.share_in(placed)?;
+    let is_there = match other.get(placed.path()) {
+        Some(entry) => entry.same(placed.entry()),
+        None => false,
+    };
+    Ok(is_there && entries.next_placed().is_none())
+}
+
+/// A tree with no entry, and then one that has the file: both take the file in.
+fn others_share_in(alloc: Global) -> Result<bool, AllocError> {
+    let one = tree(alloc, ONE)?;
+    let mut other = empty(alloc)?;
+    Ok(shares_in(&one, &mut other)? && shares_in(&one, &mut other)? && other.len() == 1)
+}
+
+fn answer(alloc: Global, row: &Row) -> Result<Vec<u8>, AllocError> {
+    if is(row, b"written") {
+        written_of(alloc, &row.one)
+    } else if is(row, b"file behind") {
+        file_is_written_behind(alloc, number_of(&row.one), &row.two)
+    } else if is(row, b"filled") {
+        filled(alloc, &row.one, &row.two)
+    } else if is(row, b"mask") {
+        masks_are_made_alike(alloc, &[row.one.as_slice(), row.two.as_slice()])
+    } else if is(row, b"share") || is(row, b"copy") {
+        takes_nothing(alloc, is(row, b"copy"))
+    } else if is(row, b"share in") {
+        yes_or_no(alloc, others_share_in(alloc)?)
+    } else {
+        Vec::from_slice(alloc, b"unknown kind")
+    }
 }
 
 #[test]
-fn changes_are_made_in_place_as_on_a_copy(rt: HostRuntime) -> Result<(), Fail> {
-    let slots: [&[u8]; 2] = [
-        b"/etc/systemd/system/a.service",
-        b"/etc/systemd/system/b.service",
-    ];
-    let alike = ample!(masks_are_made_alike(rt.alloc(), &slots), AllocError)?;
-    assert!(rt; alike);
-    Ok(())
+fn trees_are_written_changed_and_shared(rt: HostRuntime) -> Result<(), Fail> {
+    assert_rows(&rt, rt.alloc(), ROWS, answer)
 }

@@ -1,152 +1,104 @@
 //! Chains of links.
-use super::trees::{
-    Leads, Row, UNIT, Wanted, assert_finds, assert_leads, assert_looks_at, count_leading,
-    count_looked_at, is_led,
-};
-use link_tree::Place;
-use sample_values::tree;
+use super::trees::{Named, answer_in};
+use crate::rows::assert_rows;
+use sample_rows::Row;
 use std::alloc::{AllocError, Global};
 use std::test::Fail;
-use unit_name::ample;
 
-/// Nine links, the first at `a1.service`, of which the last leads to this target, and a file at `ae.service`.
-fn nine_links(target: &'static [u8]) -> [Row<'static>; 10] {
-    [
-        Row::File(Place::Etc, b"ae.service", UNIT),
-        Row::Link(Place::Etc, b"a1.service", b"a2.service"),
-        Row::Link(Place::Etc, b"a2.service", b"a3.service"),
-        Row::Link(Place::Etc, b"a3.service", b"a4.service"),
-        Row::Link(Place::Etc, b"a4.service", b"a5.service"),
-        Row::Link(Place::Etc, b"a5.service", b"a6.service"),
-        Row::Link(Place::Etc, b"a6.service", b"a7.service"),
-        Row::Link(Place::Etc, b"a7.service", b"a8.service"),
-        Row::Link(Place::Etc, b"a8.service", b"a9.service"),
-        Row::Link(Place::Etc, b"a9.service", target),
-    ]
+/// What is found under a name or at the end of a path, and how many paths are looked at.
+const ROWS: &[u8] = b"\
+    # Eight links are followed.\n\
+    find\tnine links\ta2.service\tae.service in /etc/systemd/system/ae.service, from Etc\n\
+    count\tnine links\ta2.service\t9\n\
+    follow\tnine links\t/etc/systemd/system/a2.service\t\
+        file /etc/systemd/system/ae.service, 9 looked at\n\
+    \n\
+    # The path of an entry that is followed is not looked at.\n\
+    follow entry\tnine links\t/etc/systemd/system/a8.service\t\
+        /etc/systemd/system/a9.service\\n\
+        /etc/systemd/system/ae.service\\n\n\
+    \n\
+    # A ninth link is not followed, not even one to /dev/null.\n\
+    find\tnine links\ta1.service\tdangling at /etc/systemd/system/a8.service\n\
+    follow\tnine links\t/etc/systemd/system/a1.service\t\
+        dangling at /etc/systemd/system/a8.service, 9 looked at\n\
+    follow\tnine links to null\t/etc/systemd/system/a1.service\t\
+        dangling at /etc/systemd/system/a8.service, 9 looked at\n\
+    follow\tnine links to null\t/etc/systemd/system/a2.service\t/dev/null, 8 looked at\n\
+    \n\
+    # Links may go round.\n\
+    find\tround\ta.service\tdangling at /etc/systemd/system/b.service\n\
+    look at\tround\ta.service\t\
+        /etc/systemd/system/a.service\\n\
+        /etc/systemd/system/b.service\\n\n\
+    \n\
+    # Any path is followed.\n\
+    follow\tanywhere\t/opt/a\tfile /usr/lib/systemd/system/a.service, 2 looked at\n\
+    follow\tanywhere\t/lib/systemd/system/b.service\t\
+        file /usr/lib/systemd/system/a.service, 2 looked at\n\
+    follow\tanywhere\t/usr/lib/systemd/system/a.service\t\
+        file /usr/lib/systemd/system/a.service, 1 looked at\n\
+    follow\tanywhere\t/opt/b\tdangling at /opt/b, 1 looked at\n\
+    follow\tanywhere\t/lib/systemd/system/a.service\tmissing, 1 looked at\n";
+
+const TREES: [Named; 4] = [
+    (b"nine links", NINE_LINKS),
+    (b"nine links to null", NINE_LINKS_TO_NULL),
+    (b"round", ROUND),
+    (b"anywhere", ANYWHERE),
+];
+
+/// Nine links to a file.
+const NINE_LINKS: &[u8] = b"unitadm-inventory 1\n\
+F\t7\t/etc/systemd/system/ae.service\n\
+[Unit]\n\
+\n\
+L\t/etc/systemd/system/a1.service\ta2.service\n\
+L\t/etc/systemd/system/a2.service\ta3.service\n\
+L\t/etc/systemd/system/a3.service\ta4.service\n\
+L\t/etc/systemd/system/a4.service\ta5.service\n\
+L\t/etc/systemd/system/a5.service\ta6.service\n\
+L\t/etc/systemd/system/a6.service\ta7.service\n\
+L\t/etc/systemd/system/a7.service\ta8.service\n\
+L\t/etc/systemd/system/a8.service\ta9.service\n\
+L\t/etc/systemd/system/a9.service\tae.service\n\
+end\n";
+
+/// Nine links to /dev/null.
+const NINE_LINKS_TO_NULL: &[u8] = b"unitadm-inventory 1\n\
+F\t7\t/etc/systemd/system/ae.service\n\
+[Unit]\n\
+\n\
+L\t/etc/systemd/system/a1.service\ta2.service\n\
+L\t/etc/systemd/system/a2.service\ta3.service\n\
+L\t/etc/systemd/system/a3.service\ta4.service\n\
+L\t/etc/systemd/system/a4.service\ta5.service\n\
+L\t/etc/systemd/system/a5.service\ta6.service\n\
+L\t/etc/systemd/system/a6.service\ta7.service\n\
+L\t/etc/systemd/system/a7.service\ta8.service\n\
+L\t/etc/systemd/system/a8.service\ta9.service\n\
+L\t/etc/systemd/system/a9.service\t/dev/null\n\
+end\n";
+
+/// Two links that lead to one another.
+const ROUND: &[u8] = b"unitadm-inventory 1\n\
+L\t/etc/systemd/system/a.service\tb.service\n\
+L\t/etc/systemd/system/b.service\ta.service\n\
+end\n";
+
+/// Links at paths that are no unit's, to a unit's file.
+const ANYWHERE: &[u8] = b"unitadm-inventory 1\n\
+L\t/lib/systemd/system/b.service\ta.service\n\
+L\t/opt/a\t/lib/systemd/system/a.service\n\
+L\t/opt/b\t/\n\
+F\t7\t/usr/lib/systemd/system/a.service\n[Unit]\n\n\
+end\n";
+
+fn answer(alloc: Global, row: &Row) -> Result<Vec<u8>, AllocError> {
+    answer_in(alloc, row, &TREES)
 }
-
-const EIGHTH: &[u8] = b"/etc/systemd/system/a8.service";
-
-const FILE: &[u8] = b"/etc/systemd/system/ae.service";
-
-const FOUND_FROM_SECOND: [(&[u8], Wanted); 1] = [(
-    b"a2.service",
-    Wanted::Unit(b"ae.service", FILE, Place::Etc),
-)];
-
-const LED_FROM_SECOND: [(&[u8], Leads, usize); 1] = [(
-    b"/etc/systemd/system/a2.service",
-    Leads::File(FILE),
-    9,
-)];
 
 #[test]
 fn eight_links_are_followed(rt: HostRuntime) -> Result<(), Fail> {
-    let alloc = rt.alloc();
-    assert_finds(&rt, alloc, &nine_links(b"ae.service"), &FOUND_FROM_SECOND)?;
-    let count = ample!(
-        count_looked_at(alloc, &nine_links(b"ae.service"), b"a2.service"),
-        AllocError
-    )?;
-    assert_eq!(rt; count, 9);
-    assert_leads(&rt, alloc, &nine_links(b"ae.service"), &LED_FROM_SECOND)
-}
-
-#[test]
-fn the_path_of_an_entry_is_no_cell(rt: HostRuntime) -> Result<(), Fail> {
-    let paths: [&[u8]; 2] = [b"/etc/systemd/system/a9.service", FILE];
-    let is_led = ample!(
-        is_led(rt.alloc(), &nine_links(b"ae.service"), EIGHTH, &paths),
-        AllocError
-    )?;
-    assert!(rt; is_led);
-    Ok(())
-}
-
-const FOUND_FROM_FIRST: [(&[u8], Wanted); 1] = [(b"a1.service", Wanted::Dangling(EIGHTH))];
-
-const LED_FROM_FIRST: [(&[u8], Leads, usize); 1] = [(
-    b"/etc/systemd/system/a1.service",
-    Leads::Dangling(EIGHTH),
-    9,
-)];
-
-#[test]
-fn a_ninth_link_is_not_followed(rt: HostRuntime) -> Result<(), Fail> {
-    assert_finds(
-        &rt,
-        rt.alloc(),
-        &nine_links(b"ae.service"),
-        &FOUND_FROM_FIRST,
-    )?;
-    assert_leads(&rt, rt.alloc(), &nine_links(b"ae.service"), &LED_FROM_FIRST)
-}
-
-const LED_TO_NULL: [(&[u8], Leads, usize); 2] = [
-    (
-        b"/etc/systemd/system/a1.service",
-        Leads::Dangling(EIGHTH),
-        9,
-    ),
-    (b"/etc/systemd/system/a2.service", Leads::Null, 8),
-];
-
-#[test]
-fn a_ninth_link_to_dev_null_is_not_followed(rt: HostRuntime) -> Result<(), Fail> {
-    assert_leads(&rt, rt.alloc(), &nine_links(b"/dev/null"), &LED_TO_NULL)
-}
-
-/// Two links that lead to one another.
-const ROUND: [Row; 2] = [
-    Row::Link(Place::Etc, b"a.service", b"b.service"),
-    Row::Link(Place::Etc, b"b.service", b"a.service"),
-];
-
-const FOUND_ROUND: [(&[u8], Wanted); 1] = [(
-    b"a.service",
-    Wanted::Dangling(b"/etc/systemd/system/b.service"),
-)];
-
-const LOOKED_AT_ROUND: [&[u8]; 2] = [
-    b"/etc/systemd/system/a.service",
-    b"/etc/systemd/system/b.service",
-];
-
-#[test]
-fn links_may_go_round(rt: HostRuntime) -> Result<(), Fail> {
-    assert_finds(&rt, rt.alloc(), &ROUND, &FOUND_ROUND)?;
-    assert_looks_at(&rt, rt.alloc(), &ROUND, b"a.service", &LOOKED_AT_ROUND)
-}
-
-/// Links at paths that are no unit's, to a unit's file.
-const ANYWHERE: &[u8] = b"unitadm-inventory 1
-L\t/lib/systemd/system/b.service\ta.service
-L\t/opt/a\t/lib/systemd/system/a.service
-L\t/opt/b\t/
-F\t7\t/usr/lib/systemd/system/a.service
-[Unit]
-
-end
-";
-
-const UNIT_FILE: &[u8] = b"/usr/lib/systemd/system/a.service";
-
-const LED_FROM_ANYWHERE: [(&[u8], Leads, usize); 5] = [
-    (b"/opt/a", Leads::File(UNIT_FILE), 2),
-    (b"/lib/systemd/system/b.service", Leads::File(UNIT_FILE), 2),
-    (UNIT_FILE, Leads::File(UNIT_FILE), 1),
-    (b"/opt/b", Leads::Dangling(b"/opt/b"), 1),
-    (b"/lib/systemd/system/a.service", Leads::Missing, 1),
-];
-
-fn count_leading_from_anywhere(alloc: Global) -> Result<usize, AllocError> {
-    let tree = tree(alloc, ANYWHERE)?;
-    count_leading(alloc, &tree, &LED_FROM_ANYWHERE)
-}
-
-#[test]
-fn any_path_is_followed(rt: HostRuntime) -> Result<(), Fail> {
-    let count = ample!(count_leading_from_anywhere(rt.alloc()), AllocError)?;
-    assert_eq!(rt; count, LED_FROM_ANYWHERE.len());
-    Ok(())
+    assert_rows(&rt, rt.alloc(), ROWS, answer)
 }

@@ -1,188 +1,90 @@
 //! Aliases, and the files that are no unit's.
-use super::trees::{Row, UNIT, Wanted, assert_finds, count_looked_at};
-use link_tree::Place;
+use super::trees::{Named, answer_in, answer_of};
+use crate::rows::{assert_rows, is, number_of};
 use load_path::put_in;
-use sample_values::name;
+use sample_rows::Row;
+use sample_values::{name, tree};
 use std::alloc::{AllocError, Global};
 use std::test::Fail;
-use unit_name::{Kind, UnitName, ample};
+use unit_name::{Kind, UnitName};
 
-const ALIASES: [Row; 7] = [
-    Row::File(Place::Vendor, b"a.service", UNIT),
-    Row::File(Place::Vendor, b"t@.service", UNIT),
-    Row::File(Place::Vendor, b"t@x.service", UNIT),
-    Row::Link(Place::Etc, b"b.service", b"/lib/systemd/system/a.service"),
-    Row::Link(
-        Place::Etc,
-        b"u@.service",
-        b"/usr/lib/systemd/system/t@.service",
-    ),
-    Row::Link(
-        Place::Etc,
-        b"u@x.service",
-        b"/usr/lib/systemd/system/t@x.service",
-    ),
-    Row::Link(
-        Place::Run,
-        b"v@x.service",
-        b"/usr/lib/systemd/system/t@.service",
-    ),
-];
+/// What is found under a name.
+const ROWS: &[u8] = b"\
+    # Aliases lead to units.\n\
+    find\taliases\tb.service\ta.service in /usr/lib/systemd/system/a.service, from Etc\n\
+    find\taliases\tu@.service\tt@.service in /usr/lib/systemd/system/t@.service, from Etc\n\
+    find\taliases\tu@x.service\tt@x.service in /usr/lib/systemd/system/t@x.service, from Etc\n\
+    find\taliases\tu@y.service\tt@y.service in /usr/lib/systemd/system/t@.service, from Etc\n\
+    find\taliases\tv@x.service\tt@x.service in /usr/lib/systemd/system/t@.service, from Run\n\
+    find\taliases\tt@a@b.service\t\
+        t@a@b.service in /usr/lib/systemd/system/t@.service, from Vendor\n\
+    \n\
+    # Files of another type, or of another kind of name, are no units of a name.\n\
+    find\tother files\ta.socket\tdangling at /etc/systemd/system/a.socket\n\
+    find\tother files\tb.service\tdangling at /etc/systemd/system/b.service\n\
+    find\tother files\tc.service\tdangling at /etc/systemd/system/c.service\n\
+    find\tother files\td@.service\tdangling at /etc/systemd/system/d@.service\n\
+    find\tother files\te@.service\tdangling at /etc/systemd/system/e@.service\n\
+    find\tother files\tf@x.service\tdangling at /etc/systemd/system/f@x.service\n\
+    find\tother files\tg@y.service\tdangling at /etc/systemd/system/g@y.service\n\
+    find\tother files\td@x.service\tdangling at /etc/systemd/system/d@.service\n\
+    \n\
+    # With so many bytes of instance a name has 255: that of the template's file would be too long.\n\
+    find\tlong names\t245\tdangling at /etc/systemd/system/u@.service\n\
+    count\tlong names\t245\t6\n\
+    \n\
+    # Templates take instances.\n\
+    put in\ttty1\t\tt@tty1.service\n\
+    put in\ta@b\t\tt@a@b.service\n\
+    put in\t\t\tt@.service\n\
+    put in\ta/b\t\tnone\n\
+    put in long\t246\t\tnone\n\
+    put in nothing\t\t\tnone\n";
 
-const UNITS: [(&[u8], Wanted); 6] = [
-    (
-        b"b.service",
-        Wanted::Unit(
-            b"a.service",
-            b"/usr/lib/systemd/system/a.service",
-            Place::Etc,
-        ),
-    ),
-    (
-        b"u@.service",
-        Wanted::Unit(
-            b"t@.service",
-            b"/usr/lib/systemd/system/t@.service",
-            Place::Etc,
-        ),
-    ),
-    (
-        b"u@x.service",
-        Wanted::Unit(
-            b"t@x.service",
-            b"/usr/lib/systemd/system/t@x.service",
-            Place::Etc,
-        ),
-    ),
-    (
-        b"u@y.service",
-        Wanted::Unit(
-            b"t@y.service",
-            b"/usr/lib/systemd/system/t@.service",
-            Place::Etc,
-        ),
-    ),
-    (
-        b"v@x.service",
-        Wanted::Unit(
-            b"t@x.service",
-            b"/usr/lib/systemd/system/t@.service",
-            Place::Run,
-        ),
-    ),
-    (
-        b"t@a@b.service",
-        Wanted::Unit(
-            b"t@a@b.service",
-            b"/usr/lib/systemd/system/t@.service",
-            Place::Vendor,
-        ),
-    ),
-];
+const TREES: [Named; 2] = [(b"aliases", ALIASES), (b"other files", OTHER_FILES)];
 
-#[test]
-fn aliases_lead_to_units(rt: HostRuntime) -> Result<(), Fail> {
-    assert_finds(&rt, rt.alloc(), &ALIASES, &UNITS)
+const ALIASES: &[u8] = b"unitadm-inventory 1\n\
+F\t7\t/usr/lib/systemd/system/a.service\n[Unit]\n\n\
+F\t7\t/usr/lib/systemd/system/t@.service\n[Unit]\n\n\
+F\t7\t/usr/lib/systemd/system/t@x.service\n[Unit]\n\n\
+L\t/etc/systemd/system/b.service\t/lib/systemd/system/a.service\n\
+L\t/etc/systemd/system/u@.service\t/usr/lib/systemd/system/t@.service\n\
+L\t/etc/systemd/system/u@x.service\t/usr/lib/systemd/system/t@x.service\n\
+L\t/run/systemd/system/v@x.service\t/usr/lib/systemd/system/t@.service\n\
+end\n";
+
+const OTHER_FILES: &[u8] = b"unitadm-inventory 1\n\
+F\t7\t/usr/lib/systemd/system/a.service\n[Unit]\n\n\
+F\t7\t/usr/lib/systemd/system/t@.service\n[Unit]\n\n\
+F\t7\t/usr/lib/systemd/system/t@x.service\n[Unit]\n\n\
+L\t/etc/systemd/system/a.socket\t/usr/lib/systemd/system/a.service\n\
+L\t/etc/systemd/system/b.service\t/usr/lib/systemd/system/t@.service\n\
+L\t/etc/systemd/system/c.service\t/usr/lib/systemd/system/t@x.service\n\
+L\t/etc/systemd/system/d@.service\t/usr/lib/systemd/system/a.service\n\
+L\t/etc/systemd/system/e@.service\t/usr/lib/systemd/system/t@x.service\n\
+L\t/etc/systemd/system/f@x.service\t/usr/lib/systemd/system/a.service\n\
+L\t/etc/systemd/system/g@y.service\t/usr/lib/systemd/system/t@x.service\n\
+end\n";
+
+/// An alias of a template whose name has 100 bytes.
+const LONG_NAMES: &[u8] = b"unitadm-inventory 1\n\
+F\t7\t/etc/systemd/system/\
+aaaaaaaaaaaaaaaaaaaaaaaaaaaaaaaaaaaaaaaaaaaaaaaaaaaaaaaaaaaaaaaaaaaaaaaaaaaaaaaaaaaaaaaaaaa@.service\n\
+[Unit]\n\n\
+L\t/etc/systemd/system/u@.service\t\
+aaaaaaaaaaaaaaaaaaaaaaaaaaaaaaaaaaaaaaaaaaaaaaaaaaaaaaaaaaaaaaaaaaaaaaaaaaaaaaaaaaaaaaaaaaa@.service\n\
+end\n";
+
+/// A name with an instance of so many bytes.
+fn long_name(alloc: Global, len: usize) -> Result<Vec<u8>, AllocError> {
+    let instance = Vec::from_elem(alloc, b'b', len)?;
+    [b"u@", instance.as_slice(), b".service"].concat(alloc)
 }
 
-const OTHER_FILES: [Row; 10] = [
-    Row::File(Place::Vendor, b"a.service", UNIT),
-    Row::File(Place::Vendor, b"t@.service", UNIT),
-    Row::File(Place::Vendor, b"t@x.service", UNIT),
-    Row::Link(
-        Place::Etc,
-        b"a.socket",
-        b"/usr/lib/systemd/system/a.service",
-    ),
-    Row::Link(
-        Place::Etc,
-        b"b.service",
-        b"/usr/lib/systemd/system/t@.service",
-    ),
-    Row::Link(
-        Place::Etc,
-        b"c.service",
-        b"/usr/lib/systemd/system/t@x.service",
-    ),
-    Row::Link(
-        Place::Etc,
-        b"d@.service",
-        b"/usr/lib/systemd/system/a.service",
-    ),
-    Row::Link(
-        Place::Etc,
-        b"e@.service",
-        b"/usr/lib/systemd/system/t@x.service",
-    ),
-    Row::Link(
-        Place::Etc,
-        b"f@x.service",
-        b"/usr/lib/systemd/system/a.service",
-    ),
-    Row::Link(
-        Place::Etc,
-        b"g@y.service",
-        b"/usr/lib/systemd/system/t@x.service",
-    ),
-];
-
-const NO_UNITS: [(&[u8], Wanted); 8] = [
-    (
-        b"a.socket",
-        Wanted::Dangling(b"/etc/systemd/system/a.socket"),
-    ),
-    (
-        b"b.service",
-        Wanted::Dangling(b"/etc/systemd/system/b.service"),
-    ),
-    (
-        b"c.service",
-        Wanted::Dangling(b"/etc/systemd/system/c.service"),
-    ),
-    (
-        b"d@.service",
-        Wanted::Dangling(b"/etc/systemd/system/d@.service"),
-    ),
-    (
-        b"e@.service",
-        Wanted::Dangling(b"/etc/systemd/system/e@.service"),
-    ),
-    (
-        b"f@x.service",
-        Wanted::Dangling(b"/etc/systemd/system/f@x.service"),
-    ),
-    (
-        b"g@y.service",
-        Wanted::Dangling(b"/etc/systemd/system/g@y.service"),
-    ),
-    (
-        b"d@x.service",
-        Wanted::Dangling(b"/etc/systemd/system/d@.service"),
-    ),
-];
-
-#[test]
-fn other_files_are_no_units(rt: HostRuntime) -> Result<(), Fail> {
-    assert_finds(&rt, rt.alloc(), &OTHER_FILES, &NO_UNITS)
-}
-
-#[test]
-fn a_name_that_would_be_too_long_is_none(rt: HostRuntime) -> Result<(), Fail> {
-    let alloc = rt.alloc();
-    let mut template = [b'a'; 100];
-    template[91..].copy_from_slice(b"@.service");
-    let mut name = [b'b'; 255];
-    name[..2].copy_from_slice(b"u@");
-    name[247..].copy_from_slice(b".service");
-    let rows = [
-        Row::File(Place::Etc, &template, UNIT),
-        Row::Link(Place::Etc, b"u@.service", &template),
-    ];
-    let wanted = Wanted::Dangling(b"/etc/systemd/system/u@.service");
-    assert_finds(&rt, alloc, &rows, &[(&name, wanted)])?;
-    let count = ample!(count_looked_at(alloc, &rows, &name), AllocError)?;
-    assert_eq!(rt; count, 6);
-    Ok(())
+fn answer_of_long(alloc: Global, row: &Row) -> Result<Vec<u8>, AllocError> {
+    let tree = tree(alloc, LONG_NAMES)?;
+    let name = long_name(alloc, number_of(&row.two))?;
+    answer_of(alloc, &tree, row, &name)
 }
 
 /// The instance of a template; of another name none.
@@ -197,33 +99,35 @@ fn instance_of(
     }
 }
 
-/// Whether the template with this put in is the instance of this name, or none.
-fn is_instance(
-    alloc: Global,
-    instance: Option<&[u8]>,
-    text: Option<&[u8]>,
-) -> Result<bool, AllocError> {
+/// The template `t@.service` with this put in.
+fn with_instance(alloc: Global, instance: Option<&[u8]>) -> Result<Vec<u8>, AllocError> {
     let template = name(alloc, b"t@.service")?;
     match instance_of(alloc, &template, instance)? {
-        Some(name) => Ok(text == Some(name.text())),
-        None => Ok(text.is_none()),
+        Some(name) => Vec::from_slice(alloc, name.text()),
+        None => Vec::from_slice(alloc, b"none"),
+    }
+}
+
+fn with_long_instance(alloc: Global, len: usize) -> Result<Vec<u8>, AllocError> {
+    let instance = Vec::from_elem(alloc, b'x', len)?;
+    with_instance(alloc, Some(&instance))
+}
+
+fn answer(alloc: Global, row: &Row) -> Result<Vec<u8>, AllocError> {
+    if row.one.as_slice() == b"long names".as_slice() {
+        answer_of_long(alloc, row)
+    } else if is(row, b"put in") {
+        with_instance(alloc, Some(&row.one))
+    } else if is(row, b"put in long") {
+        with_long_instance(alloc, number_of(&row.one))
+    } else if is(row, b"put in nothing") {
+        with_instance(alloc, None)
+    } else {
+        answer_in(alloc, row, &TREES)
     }
 }
 
 #[test]
-fn templates_take_instances(rt: HostRuntime) -> Result<(), Fail> {
-    let long = [b'x'; 246];
-    let put: [(Option<&[u8]>, Option<&[u8]>); 6] = [
-        (Some(b"tty1"), Some(b"t@tty1.service")),
-        (Some(b"a@b"), Some(b"t@a@b.service")),
-        (Some(b""), Some(b"t@.service")),
-        (Some(b"a/b"), None),
-        (Some(&long), None),
-        (None, None),
-    ];
-    for (instance, text) in put {
-        let is_instance = ample!(is_instance(rt.alloc(), instance, text), AllocError)?;
-        assert!(rt; is_instance);
-    }
-    Ok(())
+fn aliases_lead_to_units(rt: HostRuntime) -> Result<(), Fail> {
+    assert_rows(&rt, rt.alloc(), ROWS, answer)
 }
