@@ -133,14 +133,15 @@ fn push_settled(out: &mut Vec<u8>, settling: &Settling) -> Result<(), AllocError
     }
 }
 
-/// The plan, if it is stale.
-fn stale_plan(
+/// The plan, if it made no row.
+fn kept_plan(
     alloc: Global,
     settling: Box<Settling>,
 ) -> Result<Option<Box<Plan<Step>>>, AllocError> {
     match Box::into_inner(settling) {
+        Ok(Settled::Committed(_)) => Ok(None),
         Ok(Settled::Stale { plan, at: _ }) => Ok(Some(Box::new(alloc, plan)?)),
-        _ => Ok(None),
+        Err(left) => Ok(Some(Box::new(alloc, left.plan)?)),
     }
 }
 
@@ -171,7 +172,7 @@ impl Bench {
         let settling = self.admin.commit(rt, operator, Box::into_inner(plan));
         let settling = Box::new(alloc, settling)?;
         push_settled(out, &settling)?;
-        self.plan = stale_plan(alloc, settling)?;
+        self.plan = kept_plan(alloc, settling)?;
         Ok(())
     }
 
