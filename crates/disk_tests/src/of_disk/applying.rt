@@ -2,12 +2,11 @@
 use super::fake::{Failing, Fake};
 use disk::{ApplyError, Oddity, StepError, apply};
 use link_tree::{Change, Tree};
+use sample_rows::{Row, unlike};
 use sample_values::tree;
 use std::alloc::{AllocError, Global};
-use std::process::Abort;
 use std::test::Fail;
 use tree_steps::{are_same, steps_between};
-use unit_name::ample;
 
 const OLD: &[u8] = b"unitadm-inventory 1
 L\t/etc/systemd/system/a.service\tb.service
@@ -16,7 +15,7 @@ b
 end
 ";
 
-/// Three steps from the first: `c.service` is put, `a.service` becomes another link, `b.service` goes.
+/// Three steps from the first: `c.service` is put, `a.service` becomes another link, `b.service` is removed.
 const NEW: &[u8] = b"unitadm-inventory 1
 L\t/etc/systemd/system/a.service\tc.service
 F\t1\t/etc/systemd/system/c.service
@@ -24,7 +23,7 @@ c
 end
 ";
 
-/// The first, but for the bytes of the file that goes last.
+/// The first, but for the bytes of the file that is removed last.
 const OTHER: &[u8] = b"unitadm-inventory 1
 L\t/etc/systemd/system/a.service\tb.service
 F\t1\t/etc/systemd/system/b.service
@@ -32,13 +31,36 @@ B
 end
 ";
 
-/// How many steps there are.
-const STEPS: u32 = 3;
+const ROWS: &[u8] = b"\
+    # there, back: what three steps result in from OLD to NEW, and from NEW to OLD, if the calls\n\
+    # ONE of the disk fail: `3`, that one; `3 on`, that one and all after it; `3 5`, both. Behind\n\
+    # that are the tree that the disk holds now, how many calls failed, and how often something\n\
+    # was put or removed.\n\
+    there\t\t\tdone; new tree, failed calls 0, changes 3\n\
+    back\t\t\tdone; new tree, failed calls 0, changes 3\n\
+    # Each path is looked at, and then each is looked at again and changed: nine calls. One\n\
+    # fails, and what was made is taken back.\n\
+    there\t0\t\tstep 0: disk failure; old tree, failed calls 1, changes 0\n\
+    there\t1\t\tstep 1: disk failure; old tree, failed calls 1, changes 0\n\
+    there\t2\t\tstep 2: disk failure; old tree, failed calls 1, changes 0\n\
+    there\t3\t\tstep 0: disk failure; old tree, failed calls 1, changes 0\n\
+    there\t4\t\tstep 0: disk failure; old tree, failed calls 1, changes 0\n\
+    there\t5\t\tstep 1: disk failure; old tree, failed calls 1, changes 2\n\
+    there\t6\t\tstep 1: disk failure; old tree, failed calls 1, changes 2\n\
+    there\t7\t\tstep 2: disk failure; old tree, failed calls 1, changes 4\n\
+    there\t8\t\tstep 2: disk failure; old tree, failed calls 1, changes 4\n\
+    there\t9\t\tdone; new tree, failed calls 0, changes 3\n\
+    # there from another: the disk holds OTHER. The last step is not from what is there, so\n\
+    # nothing is changed.\n\
+    there from another\t\t\tstep 2: changed meanwhile; old tree, failed calls 0, changes 0\n\
+    # there twice: all steps come a second time. The first of these is not due when its turn\n\
+    # comes, and the first three are taken back.\n\
+    there twice\t\t\tstep 3: changed meanwhile; old tree, failed calls 0, changes 6\n\
+    # there among directories: a directory is where a file is to be put.\n\
+    there among directories\t\t\t\
+        step 0: neither a file nor a link; old tree, failed calls 0, changes 0\n";
 
-/// Each path is looked at, and then each is looked at again and changed.
-const CALLS: u32 = 9;
-
-/// What steps came to.
+/// What steps resulted in.
 #[derive(Clone, Copy, Debug)]
 struct Outcome {
     applied: Result<(), ApplyError>,
@@ -71,7 +93,7 @@ struct Way {
     new: &'static [u8],
     /// Whether all steps come a second time.
     is_repeated: bool,
-    /// What stands wherever the disk has no entry.
+    /// What is wherever the disk has no entry.
     odd: Option<Oddity>,
 }
 
@@ -138,7 +160,7 @@ fn made(
     })
 }
 
-/// What the steps of a way come to.
+/// What the steps of a way result in.
 fn between(alloc: Global, way: Way, failing: Failing) -> Result<Outcome, AllocError> {
     let held = tree(alloc, way.held)?;
     let new = tree(alloc, way.new)?;
@@ -146,126 +168,123 @@ fn between(alloc: Global, way: Way, failing: Failing) -> Result<Outcome, AllocEr
     made(alloc, way, failing, &held, &new, &steps)
 }
 
-fn outcome_of(alloc: Global, way: Way, failing: Failing) -> Result<Outcome, AllocError> {
-    ample!(between(alloc, way, failing), AllocError)
+fn tree_word(outcome: Outcome) -> &'static str {
+    match (outcome.is_old, outcome.is_new) {
+        (true, false) => "old",
+        (false, true) => "new",
+        (false, false) => "neither",
+        (true, true) => "same",
+    }
 }
 
-/// All steps are made, and no call failed.
-fn assert_made(rt: &impl Abort, outcome: Outcome) {
-    assert_eq!(rt; outcome.applied, Ok(()));
-    assert!(rt; outcome.is_new);
-    assert_eq!(rt; (outcome.failures, outcome.changes), (0, STEPS));
-}
-
-/// None is made, after so many failures.
-fn assert_taken_back(
-    rt: &impl Abort,
-    outcome: Outcome,
-    step: usize,
-    why: StepError,
-    failures: u64,
-) {
-    assert_eq!(rt; outcome.applied, Err(ApplyError::TakenBack { step, why }));
-    assert!(rt; outcome.is_old);
-    assert_eq!(rt; outcome.failures, failures);
-}
-
-/// So many are made still, after two failures.
-fn assert_half_done(rt: &impl Abort, outcome: Outcome, step: usize, made: usize) {
-    assert_eq!(rt;
-        outcome.applied,
-        Err(ApplyError::HalfDone {
-            step,
-            why: StepError::Failed,
-            made,
-            back: StepError::Failed,
-        })
-    );
-    assert!(rt; !outcome.is_old && !outcome.is_new);
-    assert_eq!(rt; outcome.failures, 2);
-}
-
-/// Which step a call is for.
-fn step_of(call: u32) -> usize {
-    let step = if call < STEPS {
-        call
-    } else {
-        (call - STEPS) / 2
+fn text_of(alloc: Global, outcome: Outcome) -> Result<Vec<u8>, AllocError> {
+    let mut text = match outcome.applied {
+        Ok(()) => format!(in alloc; "done")?.into_bytes(),
+        Err(error) => format!(in alloc; "{error}")?.into_bytes(),
     };
-    step as usize
+    let tree = tree_word(outcome);
+    let failures = outcome.failures;
+    let changes = outcome.changes;
+    let rest = format!(in alloc; "; {tree} tree, failed calls {failures}, changes {changes}")?;
+    text.extend_from_slice(rest.as_bytes())?;
+    Ok(text)
 }
 
-#[test]
-fn steps_are_made(rt: HostRuntime) -> Result<(), Fail> {
-    assert_made(&rt, outcome_of(rt.alloc(), THERE, Failing::NEVER)?);
-    assert_made(&rt, outcome_of(rt.alloc(), BACK, Failing::NEVER)?);
-    Ok(())
-}
-
-/// One call fails, and the way back doesn't.
-#[test]
-fn steps_are_taken_back(rt: HostRuntime) -> Result<(), Fail> {
-    for call in 0..CALLS {
-        let outcome = outcome_of(rt.alloc(), THERE, Failing::once(call))?;
-        assert_taken_back(&rt, outcome, step_of(call), StepError::Failed, 1);
+fn number(digits: &[u8]) -> u32 {
+    let mut number = 0u32;
+    for digit in digits {
+        number = number
+            .wrapping_mul(10)
+            .wrapping_add(u32::from(digit.wrapping_sub(b'0')));
     }
-    assert_made(&rt, outcome_of(rt.alloc(), THERE, Failing::once(CALLS))?);
-    Ok(())
+    number
 }
 
-/// One call fails, and all after it.
-#[test]
-fn half_done_is_told(rt: HostRuntime) -> Result<(), Fail> {
-    for call in 0..CALLS {
-        let outcome = outcome_of(rt.alloc(), THERE, Failing::from(call))?;
-        let step = step_of(call);
-        if call < STEPS || step == 0 {
-            assert_taken_back(&rt, outcome, step, StepError::Failed, 1);
-        } else {
-            assert_half_done(&rt, outcome, step, step);
-        }
+fn failing(text: &[u8]) -> Failing {
+    let mut words = text.split(|b| *b == b' ');
+    let first = words.next().unwrap_or(b"");
+    if first.is_empty() {
+        return Failing::NEVER;
     }
-    Ok(())
-}
-
-/// One call fails, and one more on the way back: what was taken back until then stays so.
-#[test]
-fn half_done_is_told_where_it_stops(rt: HostRuntime) -> Result<(), Fail> {
-    for back in 0..STEPS * 2 {
-        let failing = Failing::twice(CALLS - 1, CALLS + back);
-        let outcome = outcome_of(rt.alloc(), THERE, failing)?;
-        match back {
-            0 | 1 => assert_half_done(&rt, outcome, 2, 2),
-            2 | 3 => assert_half_done(&rt, outcome, 2, 1),
-            _ => assert_taken_back(&rt, outcome, 2, StepError::Failed, 1),
-        }
+    match words.next() {
+        None => Failing::once(number(first)),
+        Some(b"on") => Failing::from(number(first)),
+        Some(again) => Failing::twice(number(first), number(again)),
     }
+}
+
+fn way_named(word: &[u8]) -> Option<Way> {
+    if word == b"there".as_slice() {
+        return Some(THERE);
+    }
+    if word == b"back".as_slice() {
+        return Some(BACK);
+    }
+    if word == b"there from another".as_slice() {
+        return Some(FROM_OTHER);
+    }
+    if word == b"there twice".as_slice() {
+        return Some(TWICE);
+    }
+    if word == b"there among directories".as_slice() {
+        return Some(AMONG_DIRECTORIES);
+    }
+    None
+}
+
+fn answer(alloc: Global, row: &Row) -> Result<Vec<u8>, AllocError> {
+    let Some(way) = way_named(&row.kind) else {
+        return Vec::from_slice(alloc, b"unknown kind");
+    };
+    let outcome = between(alloc, way, failing(&row.one))?;
+    text_of(alloc, outcome)
+}
+
+#[test]
+fn steps_are_made_or_taken_back(rt: HostRuntime) -> Result<(), Fail> {
+    let found = unlike(rt.alloc(), ROWS, answer)?;
+    assert_eq!(rt; found.as_slice(), b"".as_slice());
     Ok(())
 }
 
-/// What the last step is from doesn't stand there: nothing is changed meanwhile.
-#[test]
-fn all_is_looked_at_first(rt: HostRuntime) -> Result<(), Fail> {
-    let outcome = outcome_of(rt.alloc(), FROM_OTHER, Failing::NEVER)?;
-    assert_taken_back(&rt, outcome, 2, StepError::Changed, 0);
-    assert_eq!(rt; outcome.changes, 0);
-    Ok(())
-}
+const HALF_DONE: &[u8] = b"\
+    # One call fails, and all after it: so the way back fails too, if there is one.\n\
+    there\t0 on\t\tstep 0: disk failure; old tree, failed calls 1, changes 0\n\
+    there\t1 on\t\tstep 1: disk failure; old tree, failed calls 1, changes 0\n\
+    there\t2 on\t\tstep 2: disk failure; old tree, failed calls 1, changes 0\n\
+    there\t3 on\t\tstep 0: disk failure; old tree, failed calls 1, changes 0\n\
+    there\t4 on\t\tstep 0: disk failure; old tree, failed calls 1, changes 0\n\
+    there\t5 on\t\t\
+        step 1: disk failure; half done, 1 steps are made: disk failure; neither tree, failed \
+        calls 2, changes 1\n\
+    there\t6 on\t\t\
+        step 1: disk failure; half done, 1 steps are made: disk failure; neither tree, failed \
+        calls 2, changes 1\n\
+    there\t7 on\t\t\
+        step 2: disk failure; half done, 2 steps are made: disk failure; neither tree, failed \
+        calls 2, changes 2\n\
+    there\t8 on\t\t\
+        step 2: disk failure; half done, 2 steps are made: disk failure; neither tree, failed \
+        calls 2, changes 2\n\
+    # The last call fails, and one more on the way back: what was taken back until then stays so.\n\
+    there\t8 9\t\t\
+        step 2: disk failure; half done, 2 steps are made: disk failure; neither tree, failed \
+        calls 2, changes 2\n\
+    there\t8 10\t\t\
+        step 2: disk failure; half done, 2 steps are made: disk failure; neither tree, failed \
+        calls 2, changes 2\n\
+    there\t8 11\t\t\
+        step 2: disk failure; half done, 1 steps are made: disk failure; neither tree, failed \
+        calls 2, changes 3\n\
+    there\t8 12\t\t\
+        step 2: disk failure; half done, 1 steps are made: disk failure; neither tree, failed \
+        calls 2, changes 3\n\
+    there\t8 13\t\tstep 2: disk failure; old tree, failed calls 1, changes 4\n\
+    there\t8 14\t\tstep 2: disk failure; old tree, failed calls 1, changes 4\n";
 
-/// A step that is no more due when its turn comes: the first three are taken back.
 #[test]
-fn each_is_looked_at_again(rt: HostRuntime) -> Result<(), Fail> {
-    let outcome = outcome_of(rt.alloc(), TWICE, Failing::NEVER)?;
-    assert_taken_back(&rt, outcome, 3, StepError::Changed, 0);
-    assert_eq!(rt; outcome.changes, 6);
-    Ok(())
-}
-
-/// A directory where a file is to come.
-#[test]
-fn nothing_is_put_in_place_of_something_odd(rt: HostRuntime) -> Result<(), Fail> {
-    let outcome = outcome_of(rt.alloc(), AMONG_DIRECTORIES, Failing::NEVER)?;
-    assert_taken_back(&rt, outcome, 0, StepError::Odd, 0);
-    assert_eq!(rt; outcome.changes, 0);
+fn half_done_is_reported(rt: HostRuntime) -> Result<(), Fail> {
+    let found = unlike(rt.alloc(), HALF_DONE, answer)?;
+    assert_eq!(rt; found.as_slice(), b"".as_slice());
     Ok(())
 }

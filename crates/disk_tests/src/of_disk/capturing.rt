@@ -3,9 +3,9 @@ use super::fake::Failing;
 use super::root::Root;
 use disk::{CaptureError, Oddity, capture};
 use link_tree::{Tree, TreePath};
+use sample_rows::{Row, unlike};
 use sample_values::{path, tree};
 use std::alloc::{AllocError, Global};
-use std::process::Abort;
 use std::test::Fail;
 use tree_steps::are_same;
 use unit_name::ample;
@@ -79,9 +79,6 @@ r
 end
 ";
 
-/// A file that is asked for, beside these.
-const ASKED: &[u8] = b"/srv/asked.service";
-
 /// A link to a link, whose text leads beneath that.
 const THROUGH: &[u8] = b"unitadm-inventory 1
 L\t/etc/systemd/system/a.service\t/opt/app
@@ -90,7 +87,59 @@ L\t/opt/app\t/srv
 end
 ";
 
-/// What came of a capture.
+const ROWS: &[u8] = b"\
+    # capture: what is captured of the tree ONE, and how many calls failed. Slots are captured,\n\
+    # and what their links lead to. What is captured is captured again as it is.\n\
+    capture\twhole\t\tas wanted; failed calls 0\n\
+    capture\tcaptured\t\tas wanted; failed calls 0\n\
+    # odd at: the same, with a directory at TWO. At a slot it is reported.\n\
+    odd at\twhole\t/usr/lib/systemd/system/w.service\todd: Directory; failed calls 0\n\
+    odd at\twhole\t/usr/lib/systemd/system-preset/90-systemd.preset\t\
+        odd: Directory; failed calls 0\n\
+    # Elsewhere it counts as nothing: the last file of a chain, and a file to which no link\n\
+    # leads.\n\
+    odd at\twhole\t/srv/b.service\t16 entries; failed calls 0\n\
+    odd at\twhole\t/srv/other.service\tas wanted; failed calls 0\n\
+    # no directory at: with a file in place of the directory TWO. If it has slots, that is\n\
+    # reported.\n\
+    no directory at\twhole\t/etc/systemd/system/multi-user.target.wants\t\
+        no directory; failed calls 0\n\
+    no directory at\twhole\t/etc/systemd/system-preset\tno directory; failed calls 0\n\
+    no directory at\twhole\t/etc/systemd/system/a.service.d\tas wanted; failed calls 0\n\
+    # beneath: with a file at TWO, beneath a link. An inventory can't say that.\n\
+    beneath\tthrough\t/opt/app/b.service\tbad shape; failed calls 0\n\
+    # asked for: with what is at these paths too. There is nothing at the other.\n\
+    asked for\twhole\t/srv/asked.service /srv/nothing\t18 entries; failed calls 0\n";
+
+/// The trees of the three inventories.
+#[derive(Drop)]
+struct Trees {
+    whole: Box<Tree>,
+    captured: Box<Tree>,
+    through: Box<Tree>,
+}
+
+impl Trees {
+    fn named(&self, word: &[u8]) -> &Tree {
+        if word == b"captured".as_slice() {
+            return &self.captured;
+        }
+        if word == b"through".as_slice() {
+            return &self.through;
+        }
+        &self.whole
+    }
+}
+
+fn read_trees(alloc: Global) -> Result<Trees, AllocError> {
+    Ok(Trees {
+        whole: tree(alloc, WHOLE)?,
+        captured: tree(alloc, CAPTURED)?,
+        through: tree(alloc, THROUGH)?,
+    })
+}
+
+/// What a capture resulted in.
 #[derive(Clone, Copy, Debug, PartialEq, Eq)]
 enum Came {
     Equal,
@@ -123,116 +172,91 @@ fn capture_on(
     }
 }
 
-/// What stands oddly in a root, and where.
-#[derive(Clone, Copy, Debug)]
-enum Strange {
-    Nothing,
-    Odd(&'static [u8]),
-    NoDirectory(&'static [u8]),
-    Beneath(&'static [u8]),
+fn shared_root(alloc: Global, tree: &Tree, failing: Failing) -> Result<Box<Root>, AllocError> {
+    let tree = Box::new(alloc, tree.share()?)?;
+    Root::new(alloc, tree, failing)
 }
 
-/// A root that holds a tree with something strange.
-fn root(alloc: Global, whole: &[u8], strange: Strange) -> Result<Box<Root>, AllocError> {
-    let mut root = Root::new(alloc, tree(alloc, whole)?, Failing::NEVER)?;
-    match strange {
-        Strange::Nothing => {}
-        Strange::Odd(at) => root.odd = Some(path(alloc, at)?),
-        Strange::NoDirectory(at) => root.no_directory = Some(path(alloc, at)?),
-        Strange::Beneath(at) => root.beneath = Some(path(alloc, at)?),
-    }
-    Ok(root)
-}
-
-/// What comes of a capture of such a root, and how many calls failed.
-fn captured(alloc: Global, whole: &[u8], strange: Strange) -> Result<(Came, u64), AllocError> {
-    let mut root = root(alloc, whole, strange)?;
-    let wanted = tree(alloc, CAPTURED)?;
-    let came = capture_on(alloc, &mut root, &[], &wanted)?;
-    Ok((came, root.failures))
-}
-
-fn assert_comes(
-    rt: &impl Abort,
+/// Puts something strange into a root. If it is none of these, the answer is `AllocError`, by which a test fails.
+fn put_strange(
     alloc: Global,
-    whole: &[u8],
-    strange: Strange,
-    wanted: Came,
-) -> Result<(), Fail> {
-    assert_eq!(rt;
-        ample!(captured(alloc, whole, strange), AllocError)?,
-        (wanted, 0)
-    );
+    root: &mut Root,
+    strange: &[u8],
+    at: &[u8],
+) -> Result<(), AllocError> {
+    if strange == b"capture".as_slice() || strange == b"asked for".as_slice() {
+        return Ok(());
+    }
+    let at = path(alloc, at)?;
+    if strange == b"odd at".as_slice() {
+        root.odd = Some(at);
+    } else if strange == b"no directory at".as_slice() {
+        root.no_directory = Some(at);
+    } else if strange == b"beneath".as_slice() {
+        root.beneath = Some(at);
+    } else {
+        return Err(AllocError);
+    }
     Ok(())
+}
+
+fn push_path(alloc: Global, paths: &mut Vec<TreePath>, text: &[u8]) -> Result<(), AllocError> {
+    let path = path(alloc, text)?;
+    Ok(paths.push(path)?)
+}
+
+fn asked_for(alloc: Global, row: &Row) -> Result<Vec<TreePath>, AllocError> {
+    let mut paths = Vec::new(alloc);
+    if row.kind.as_slice() == b"asked for".as_slice() {
+        for text in row.two.split(|b| *b == b' ') {
+            push_path(alloc, &mut paths, text)?;
+        }
+    }
+    Ok(paths)
+}
+
+fn word_of(came: Came) -> &'static str {
+    match came {
+        Came::Equal => "as wanted",
+        Came::Other(_) => "other",
+        Came::Odd(_) => "odd",
+        Came::NoDirectory => "no directory",
+        Came::TooMany => "too many",
+        Came::BadShape => "bad shape",
+        Came::Failed => "failed",
+    }
+}
+
+fn text_of(alloc: Global, came: Came, failures: u64) -> Result<Vec<u8>, AllocError> {
+    let word = word_of(came);
+    let text = match came {
+        Came::Other(len) => format!(in alloc; "{len} entries; failed calls {failures}")?,
+        Came::Odd(oddity) => format!(in alloc; "odd: {oddity:?}; failed calls {failures}")?,
+        _ => format!(in alloc; "{word}; failed calls {failures}")?,
+    };
+    Ok(text.into_bytes())
+}
+
+fn answer(alloc: Global, trees: &Trees, row: &Row) -> Result<Vec<u8>, AllocError> {
+    let mut root = shared_root(alloc, trees.named(&row.one), Failing::NEVER)?;
+    put_strange(alloc, &mut root, &row.kind, &row.two)?;
+    let also = asked_for(alloc, row)?;
+    let came = capture_on(alloc, &mut root, &also, &trees.captured)?;
+    text_of(alloc, came, root.failures)
 }
 
 #[test]
 fn slots_and_what_links_lead_to(rt: HostRuntime) -> Result<(), Fail> {
-    assert_comes(&rt, rt.alloc(), WHOLE, Strange::Nothing, Came::Equal)
-}
-
-/// What is captured is captured again as it is.
-#[test]
-fn no_more_is_captured(rt: HostRuntime) -> Result<(), Fail> {
-    assert_comes(&rt, rt.alloc(), CAPTURED, Strange::Nothing, Came::Equal)
-}
-
-#[test]
-fn odd_things_at_slots_are_told(rt: HostRuntime) -> Result<(), Fail> {
-    let odd = Came::Odd(Oddity::Directory);
-    let unit = Strange::Odd(b"/usr/lib/systemd/system/w.service");
-    assert_comes(&rt, rt.alloc(), WHOLE, unit, odd)?;
-    let preset = Strange::Odd(b"/usr/lib/systemd/system-preset/90-systemd.preset");
-    assert_comes(&rt, rt.alloc(), WHOLE, preset, odd)
-}
-
-/// Elsewhere they are as good as nothing: here the last file of a chain is none.
-#[test]
-fn odd_things_elsewhere_are_left_out(rt: HostRuntime) -> Result<(), Fail> {
-    let file = Strange::Odd(b"/srv/b.service");
-    assert_comes(&rt, rt.alloc(), WHOLE, file, Came::Other(16))?;
-    let unseen = Strange::Odd(b"/srv/other.service");
-    assert_comes(&rt, rt.alloc(), WHOLE, unseen, Came::Equal)
-}
-
-#[test]
-fn files_in_place_of_directories_are_told(rt: HostRuntime) -> Result<(), Fail> {
-    let wants = Strange::NoDirectory(b"/etc/systemd/system/multi-user.target.wants");
-    assert_comes(&rt, rt.alloc(), WHOLE, wants, Came::NoDirectory)?;
-    let presets = Strange::NoDirectory(b"/etc/systemd/system-preset");
-    assert_comes(&rt, rt.alloc(), WHOLE, presets, Came::NoDirectory)?;
-    let drop_ins = Strange::NoDirectory(b"/etc/systemd/system/a.service.d");
-    assert_comes(&rt, rt.alloc(), WHOLE, drop_ins, Came::Equal)
-}
-
-#[test]
-fn entries_beneath_others_are_told(rt: HostRuntime) -> Result<(), Fail> {
-    let beneath = Strange::Beneath(b"/opt/app/b.service");
-    assert_comes(&rt, rt.alloc(), THROUGH, beneath, Came::BadShape)
-}
-
-/// What comes of a capture with a file that is asked for, and one that isn't there.
-fn captured_with_more(alloc: Global) -> Result<Came, AllocError> {
-    let mut root = root(alloc, WHOLE, Strange::Nothing)?;
-    let wanted = tree(alloc, CAPTURED)?;
-    let also = [path(alloc, ASKED)?, path(alloc, b"/srv/nothing")?];
-    capture_on(alloc, &mut root, &also, &wanted)
-}
-
-#[test]
-fn what_is_asked_for_is_captured(rt: HostRuntime) -> Result<(), Fail> {
-    assert_eq!(rt;
-        ample!(captured_with_more(rt.alloc()), AllocError)?,
-        Came::Other(18)
-    );
+    let trees = ample!(read_trees(rt.alloc()), AllocError)?;
+    let found = unlike(rt.alloc(), ROWS, |alloc, row| answer(alloc, &trees, row))?;
+    assert_eq!(rt; found.as_slice(), b"".as_slice());
     Ok(())
 }
 
-/// Whether a capture of which one call fails tells so, and failed once; where there is no such call, whether all is captured.
-fn is_told(alloc: Global, whole: &Tree, wanted: &Tree, call: u32) -> Result<bool, AllocError> {
-    let whole = Box::new(alloc, whole.share()?)?;
-    let mut root = Root::new(alloc, whole, Failing::once(call))?;
-    let came = capture_on(alloc, &mut root, &[], wanted)?;
+/// Whether a capture of which one call fails reports that, and failed once; or if there is no such call, whether all is captured.
+fn is_reported(alloc: Global, trees: &Trees, call: u32) -> Result<bool, AllocError> {
+    let mut root = shared_root(alloc, &trees.whole, Failing::once(call))?;
+    let came = capture_on(alloc, &mut root, &[], &trees.captured)?;
     let has_failed = call < root.calls;
     let expected = if has_failed {
         Came::Failed
@@ -242,21 +266,20 @@ fn is_told(alloc: Global, whole: &Tree, wanted: &Tree, call: u32) -> Result<bool
     Ok(came == expected && root.failures == u64::from(has_failed))
 }
 
-/// The first of so many calls whose failure isn't told, if there is one.
-fn untold(alloc: Global, calls: u32) -> Result<Option<u32>, AllocError> {
-    let whole = tree(alloc, WHOLE)?;
-    let wanted = tree(alloc, CAPTURED)?;
+/// The first of so many calls whose failure isn't reported, if there is one.
+fn unreported(alloc: Global, calls: u32) -> Result<Option<u32>, AllocError> {
+    let trees = read_trees(alloc)?;
     for call in 0..calls {
-        if !is_told(alloc, &whole, &wanted, call)? {
+        if !is_reported(alloc, &trees, call)? {
             return Ok(Some(call));
         }
     }
     Ok(None)
 }
 
-/// Each call fails in turn, and that is told.
+/// Each call fails in turn, and that is reported.
 #[test]
-fn failures_are_told(rt: HostRuntime) -> Result<(), Fail> {
-    assert_eq!(rt; ample!(untold(rt.alloc(), 40), AllocError)?, None);
+fn failures_are_reported(rt: HostRuntime) -> Result<(), Fail> {
+    assert_eq!(rt; ample!(unreported(rt.alloc(), 40), AllocError)?, None);
     Ok(())
 }

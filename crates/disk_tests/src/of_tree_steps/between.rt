@@ -1,19 +1,10 @@
 //! Changes and steps between small trees.
-use link_tree::{Change, Entry};
+use link_tree::{Change, Entry, Tree};
+use sample_rows::{Row, unlike};
 use sample_values::tree;
 use std::alloc::{AllocError, Global};
-use std::process::Abort;
 use std::test::Fail;
 use tree_steps::{are_same, changes_between, steps_between};
-use unit_name::ample;
-
-/// Texts of two trees, the changes from the first to the second, and the steps.
-struct Row {
-    old: &'static [u8],
-    new: &'static [u8],
-    changes: &'static [u8],
-    steps: &'static [u8],
-}
 
 const EMPTY: &[u8] = b"unitadm-inventory 1\nend\n";
 
@@ -45,32 +36,34 @@ F\t0\t/etc/systemd/system/z.service
 end
 ";
 
-const ROWS: [Row; 4] = [
-    Row {
-        old: OLD,
-        new: NEW,
-        changes: b"a LL, b F-, c L-, d FL, e FF, f -L, g -F, z LF, ",
-        steps: b"e FF, g -F, z LF, a LL, d FL, f -L, c L-, b F-, ",
-    },
-    Row {
-        old: EMPTY,
-        new: OLD,
-        changes: b"a -L, b -F, c -L, d -F, e -F, k -L, z -L, ",
-        steps: b"b -F, d -F, e -F, a -L, c -L, k -L, z -L, ",
-    },
-    Row {
-        old: OLD,
-        new: EMPTY,
-        changes: b"a L-, b F-, c L-, d F-, e F-, k L-, z L-, ",
-        steps: b"a L-, c L-, k L-, z L-, b F-, d F-, e F-, ",
-    },
-    Row {
-        old: NEW,
-        new: NEW,
-        changes: b"",
-        steps: b"",
-    },
-];
+const ROWS: &[u8] = b"\
+    # changes: what differs between the trees ONE and TWO, by the letters of names, each with\n\
+    # what is there before and after: a file, a link, or nothing.\n\
+    changes\told\tnew\ta LL, b F-, c L-, d FL, e FF, f -L, g -F, z LF\n\
+    changes\tempty\told\ta -L, b -F, c -L, d -F, e -F, k -L, z -L\n\
+    changes\told\tempty\ta L-, b F-, c L-, d F-, e F-, k L-, z L-\n\
+    changes\tnew\tnew\t\n\
+    # steps: the same in the order in which it is made. Files come first and are removed last.\n\
+    steps\told\tnew\te FF, g -F, z LF, a LL, d FL, f -L, c L-, b F-\n\
+    steps\tempty\told\tb -F, d -F, e -F, a -L, c -L, k -L, z -L\n\
+    steps\told\tempty\ta L-, c L-, k L-, z L-, b F-, d F-, e F-\n\
+    steps\tnew\tnew\t\n\
+    # same: whether the trees are the same.\n\
+    same\told\tnew\tno\n\
+    same\tnew\told\tno\n\
+    same\tempty\told\tno\n\
+    same\told\tempty\tno\n\
+    same\tnew\tnew\tyes\n";
+
+fn tree_named(alloc: Global, word: &[u8]) -> Result<Box<Tree>, AllocError> {
+    if word == b"old".as_slice() {
+        return tree(alloc, OLD);
+    }
+    if word == b"new".as_slice() {
+        return tree(alloc, NEW);
+    }
+    tree(alloc, EMPTY)
+}
 
 fn letter(entry: &Option<Entry>) -> u8 {
     match entry {
@@ -80,59 +73,59 @@ fn letter(entry: &Option<Entry>) -> u8 {
     }
 }
 
-/// The first letter of each name, with the kinds of what stands there before and after.
+fn push_change(text: &mut Vec<u8>, change: &Change) -> Result<(), AllocError> {
+    if !text.is_empty() {
+        text.extend_from_slice(b", ")?;
+    }
+    text.extend_from_slice(change.path.file_name().get(..1).unwrap_or(b"?"))?;
+    text.push(b' ')?;
+    text.push(letter(&change.before))?;
+    text.push(letter(&change.after))?;
+    Ok(())
+}
+
+/// The first letter of each name, with the kinds of what is there before and after.
 fn text_of(alloc: Global, changes: &[Change]) -> Result<Vec<u8>, AllocError> {
     let mut text = Vec::new(alloc);
     for change in changes {
-        text.extend_from_slice(change.path.file_name().get(..1).unwrap_or(b"?"))?;
-        text.push(b' ')?;
-        text.push(letter(&change.before))?;
-        text.push(letter(&change.after))?;
-        text.extend_from_slice(b", ")?;
+        push_change(&mut text, change)?;
     }
     Ok(text)
 }
 
-fn changes_text(alloc: Global, row: &Row) -> Result<Vec<u8>, AllocError> {
-    let old = tree(alloc, row.old)?;
-    let new = tree(alloc, row.new)?;
-    let changes = changes_between(alloc, &old, &new)?;
+fn changes(alloc: Global, old: &Tree, new: &Tree) -> Result<Vec<u8>, AllocError> {
+    let changes = changes_between(alloc, old, new)?;
     text_of(alloc, &changes)
 }
 
-fn steps_text(alloc: Global, row: &Row) -> Result<Vec<u8>, AllocError> {
-    let old = tree(alloc, row.old)?;
-    let new = tree(alloc, row.new)?;
-    let steps = steps_between(alloc, &old, &new)?;
+fn steps(alloc: Global, old: &Tree, new: &Tree) -> Result<Vec<u8>, AllocError> {
+    let steps = steps_between(alloc, old, new)?;
     text_of(alloc, &steps)
 }
 
-/// Whether the trees are the same, asked both ways.
-fn are_same_trees(alloc: Global, row: &Row) -> Result<(bool, bool), AllocError> {
-    let old = tree(alloc, row.old)?;
-    let new = tree(alloc, row.new)?;
-    Ok((are_same(&old, &new), are_same(&new, &old)))
+fn same(alloc: Global, old: &Tree, new: &Tree) -> Result<Vec<u8>, AllocError> {
+    Vec::from_slice(alloc, if are_same(old, new) { b"yes" } else { b"no" })
 }
 
-fn assert_row(rt: &impl Abort, alloc: Global, row: &Row) -> Result<(), Fail> {
-    let changes = ample!(changes_text(alloc, row), AllocError)?;
-    let steps = ample!(steps_text(alloc, row), AllocError)?;
-    let are_same = ample!(are_same_trees(alloc, row), AllocError)?;
-    let same = row.steps.is_empty();
-    assert_eq!(rt; changes.as_slice(), row.changes);
-    assert_eq!(rt; steps.as_slice(), row.steps);
-    assert_eq!(rt; are_same, (same, same));
-    Ok(())
-}
-
-fn assert_rows(rt: &impl Abort, alloc: Global, rows: &[Row]) -> Result<(), Fail> {
-    for row in rows {
-        assert_row(rt, alloc, row)?;
+fn answer(alloc: Global, row: &Row) -> Result<Vec<u8>, AllocError> {
+    let old = tree_named(alloc, &row.one)?;
+    let new = tree_named(alloc, &row.two)?;
+    let kind = row.kind.as_slice();
+    if kind == b"changes".as_slice() {
+        return changes(alloc, &old, &new);
     }
-    Ok(())
+    if kind == b"steps".as_slice() {
+        return steps(alloc, &old, &new);
+    }
+    if kind == b"same".as_slice() {
+        return same(alloc, &old, &new);
+    }
+    Vec::from_slice(alloc, b"unknown kind")
 }
 
 #[test]
 fn files_come_first_and_go_last(rt: HostRuntime) -> Result<(), Fail> {
-    assert_rows(&rt, rt.alloc(), &ROWS)
+    let found = unlike(rt.alloc(), ROWS, answer)?;
+    assert_eq!(rt; found.as_slice(), b"".as_slice());
+    Ok(())
 }
