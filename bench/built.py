@@ -30,7 +30,7 @@ def listed():
     for line in (ROOT / "crates.txt").read_text().splitlines():
         head, _, uses = line.partition("#")[0].partition(":")
         if head.strip():
-            # Behind the name there may be words such as may_wait=2, which rt reads.
+            # After the name there may be words such as may_wait=2, which rt reads.
             lines[head.split()[0]] = line, re.split(r"[\s,]+", uses.strip())
     return lines
 

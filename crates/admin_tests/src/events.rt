@@ -1,6 +1,6 @@
-//! Scripts of events, and what comes of them.
+//! Scripts of events, and what results from them.
 //!
-//! | Word | What happens | What comes of it |
+//! | Word | What happens | What results from it |
 //! |---|---|---|
 //! | `snapshot:0` | slot 0 takes a snapshot | `taken` |
 //! | `plan:0:put:a` | slot 0 plans the step on its snapshot | `planned`; `nothing` |
@@ -21,7 +21,7 @@ use std::alloc::{AllocError, Global};
 use std::str;
 use std::test::Fail;
 
-/// Events on a history of the empty tree, and what comes of each; then the rows, and how many
+/// Events on a history of the empty tree, and what results from each; then the rows, and how many
 /// entries the tree has. A short history has room for one row.
 const ROWS: &[u8] = b"\
     # bob's call comes first; made again, alice's is refused, and an undo of bob's\n\
@@ -175,7 +175,7 @@ fn driven(alloc: Global, script: &[u8]) -> Result<Box<Driven>, AllocError> {
     Ok(Box::new(alloc, driven)?)
 }
 
-/// What comes of each event of a script, then the history.
+/// What results from each event of a script, then the history.
 pub(crate) fn said(alloc: Global, script: &[u8]) -> Result<Vec<u8>, AllocError> {
     let mut out = Vec::new(alloc);
     let driven = driven(alloc, script)?;
@@ -220,7 +220,7 @@ fn begun(alloc: Global) -> Result<Box<History<Step>>, AllocError> {
     Ok(Box::new(alloc, history)?)
 }
 
-/// What comes of the events of a script on it.
+/// What results from the events of a script on it.
 fn said_in_one_row(alloc: Global, script: &[u8]) -> Result<Vec<u8>, AllocError> {
     let mut out = Vec::new(alloc);
     let mut history = begun(alloc)?;

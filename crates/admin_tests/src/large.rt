@@ -1,4 +1,4 @@
-//! Random scripts of events, against a plain machine that runs everything anew for each reply.
+//! Random scripts of events, against a plain machine that runs everything again for each reply.
 
 use crate::events::said;
 use link_tree::push_decimal;
@@ -148,7 +148,7 @@ fn bit(unit: u8) -> u8 {
     }
 }
 
-/// The units at whose slots a file is, a bit each, when all surviving commands have run anew.
+/// The units at whose slots a file is, a bit each, when all surviving commands have run again.
 fn present(rows: &[PlainRow]) -> u8 {
     let mut units = 0u8;
     for row in rows {
@@ -373,7 +373,7 @@ impl Plain {
     }
 }
 
-/// What comes of a script by the plain machine.
+/// What results from a script by the plain machine.
 fn expected(alloc: Global, script: &[u8]) -> Result<Vec<u8>, AllocError> {
     let mut plain = Plain::new(alloc);
     for word in script.split(|b| *b == b' ') {

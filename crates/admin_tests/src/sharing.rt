@@ -23,7 +23,7 @@ use std::str;
 use std::sync::Wait;
 use std::test::Fail;
 
-/// Calls on a history that alice and bob share, and what they answer. Operators, and what comes of
+/// Calls on a history that alice and bob share, and what they answer. Operators, and what results from
 /// opening a history for them.
 const ROWS: &[u8] = b"\
     # bob comes first, so alice's plan is stale; made again on a new snapshot it is refused,\n\
@@ -284,7 +284,7 @@ fn shared_by(alloc: Global, names: &[u8]) -> Result<SharedAdmin<Step>, OpenError
     }
 }
 
-/// What comes of opening a history for these operators.
+/// What results from opening a history for these operators.
 fn opened(alloc: Global, names: &[u8]) -> Result<Vec<u8>, AllocError> {
     match shared_by(alloc, names) {
         Ok(_) => Vec::from_slice(alloc, b"is shared"),

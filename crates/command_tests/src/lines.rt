@@ -4,7 +4,7 @@ use link_tree::Scope;
 use sample_values::name;
 use std::alloc::{AllocError, Global};
 
-/// What is before the first of these bytes, and what is behind it.
+/// What is before the first of these bytes, and what is after it.
 fn cut(text: &[u8], at: u8) -> (&[u8], &[u8]) {
     let mut parts = text.splitn(2, |b| *b == at);
     let before = parts.next().unwrap_or(b"");

@@ -86,7 +86,7 @@ fn looked(
     Ok(())
 }
 
-/// How many rows looked at the link, and what comes of the undo.
+/// How many rows looked at the link, and what results from the undo.
 fn told(alloc: Global, history: &mut History<Watch>) -> Result<Vec<u8>, AllocError> {
     let mut out = Vec::new(alloc);
     push_numbered(&mut out, b"readers", readers_of_the_first(alloc, history)?)?;

@@ -16,7 +16,7 @@ use history::{Operator, Request};
 use link_tree::TreePath;
 use std::alloc::{AllocError, Global};
 
-/// The first part of a word, and the parts behind it.
+/// The first part of a word, and the parts after it.
 pub fn parts(word: &[u8]) -> (&[u8], &[u8]) {
     let mut parts = word.splitn(2, |b| *b == b':');
     let first = parts.next().unwrap_or(b"");

@@ -1,4 +1,4 @@
-//! Events on a history of real commands: what comes of each, and what the rows say then.
+//! Events on a history of real commands: what results from each, and what the rows say then.
 ghost use Rattle.std.specs.Prelude.{◌<◌, All, IfOk, OnOk};
 ghost use Rattle.shared_admin.specs.Events.{HasSlot};
 
@@ -16,7 +16,7 @@ use unit_script::{Action, Call, push_rows};
 
 /// What happens on the inventory of ssh.service: `snapshot` takes one in slot 0, `plan` plans what
 /// its line asks for on it, alice commits that by `commit`, and a line of its own is a call. Then
-/// what comes of each, the lines of all rows, and how many entries the tree has.
+/// what results from each, the lines of all rows, and how many entries the tree has.
 const ROWS: &[u8] = b"\
     # bob masks the unit while alice plans to enable it; she plans anew, is refused,\n\
     # and bob takes his mask back\n\

@@ -67,7 +67,7 @@ fn fed<R: Threads + Wait + Sync, G: Gate + Sync>(
     Ok(Box::new(alloc, ran)?)
 }
 
-/// What comes of feeding operators.
+/// What results from feeding operators.
 pub(crate) fn text_of_feed<R: Threads + Wait + Sync, G: Gate + Sync>(
     rt: &R,
     alloc: Global,

@@ -117,7 +117,7 @@ fn line_in(
     Ok(in_pieces)
 }
 
-/// What a line of so many bytes is, with a LF and more behind it, and as the last.
+/// What a line of so many bytes is, with a LF and more after it, and as the last.
 fn line_of(alloc: Global, len: usize, limit: usize) -> Result<Vec<u8>, AllocError> {
     let mut input = Vec::from_elem(alloc, b'x', 304)?;
     if let Some(end) = input.get_mut(len) {
@@ -187,7 +187,7 @@ fn prefix_of(alloc: Global, input: &[u8], prefix: &[u8]) -> Result<Vec<u8>, Allo
     [found, b", then ", rest].concat(alloc)
 }
 
-/// Whether there is a prefix, and how many bytes there are in three bytes and in a line behind it.
+/// Whether there is a prefix, and how many bytes there are in three bytes and in a line after it.
 fn read_front(
     alloc: Global,
     reader: &mut &[u8],

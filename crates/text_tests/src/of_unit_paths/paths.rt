@@ -99,7 +99,7 @@ fn parts_of(alloc: Global, text: &[u8]) -> Result<Vec<u8>, AllocError> {
     Ok(parts)
 }
 
-/// What the first path in byte order that can be beneath one has behind it, if there is one.
+/// What the first path in byte order that can be beneath one has after it, if there is one.
 fn first_beneath(alloc: Global, above: &[u8]) -> Result<Vec<u8>, AllocError> {
     let path = path(alloc, above)?;
     match path.first_beneath()? {
