@@ -1,4 +1,5 @@
--- Where a tree agrees with all that a plan looked at, the plan is the one that would be made now, and makes the row of a call.
+-- Where a tree agrees with all that a plan looked at, the plan is the one that would be made now,
+-- and makes the row of a call.
 use Rattle.std.proofs.Common.{◌≡◌, ◌↔◌, Result, Ok, Err, IfErr, ℕ, ◌<◌, Bool, true, List, [], ◌∷◌, ◌++◌, map as list_map, All, Contains, length, refl, sym, ap, subst, ◌∙◌}
 use Rattle.std.proofs.lemmas.List.Elements.{All-head, All-tail, All-nil, All-cons, All-contains, All-contains_itself, Contains-append_right}
 use Rattle.unit_paths.specs.Slots.{is_slot}

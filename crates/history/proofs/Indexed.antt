@@ -7,7 +7,6 @@ use Rattle.std.specs.declared.cmp.Ordering.{Ordering}
 use Rattle.std.specs.declared.cmp.Ordering.TheVariants.{Less, Equal, Greater}
 use Rattle.std.proofs.lemmas.Map.Lookups.{exact_unsigned}
 use Rattle.std.proofs.lemmas.Cmp.{tied_itself, nat_cmp_total}
-use Rattle.std.proofs.lemmas.Option.{slice_get_past}
 use Rattle.std.specs.List.{list_any}
 use Rattle.std.proofs.lemmas.Bool.{cases_Bool, false≢true}
 use Rattle.link_tree.specs.declared.change.Change.{Change}
@@ -20,9 +19,9 @@ use Rattle.readers.specs.Readers.{reads, is_read, is_touched_in}
 use Rattle.readers.proofs.Touched.{touched, same_touched, touched_none, touched_and, touched_read}
 use Rattle.history.specs.declared.row.Row.{Row}
 use Rattle.history.specs.Indexes.{is_reader, Agrees}
-use Rattle.history.specs.Rows.{row_at, row_of_undo, mark, undone, meets, survivor, first_met, readers_from, readers_of}
+use Rattle.history.specs.Rows.{row_at, row_of_undo, row_of_redo, unless_undone, accepted, undone, redone, meets, survivor, first_met, readers_from, readers_of}
 use Rattle.history.specs.declared.row.RowReply.{RowReply}
-use Rattle.history.proofs.Marks.{get_push-new}
+use Rattle.history.proofs.Places.{row_pushed, row_new, no_row, row_undone, other_undone, row_redone, other_redone}
 
 or_false : (b : Bool) → (b || false) ≡ b
 or_false true = refl
@@ -145,7 +144,8 @@ module _ {O : Type 0} (asks : O → Bool) where
   row_after : (rows : List (Row O)) (n j : ℕ) → slice_get (drop n rows) j ≡ row_at rows (n + 1 + j)
   row_after rows n j = let place : suc (n + j) ≡ n + 1 + j = omega arith in dropped rows n j (n + j) refl ∙ ap (row_at rows) place
 
-  -- the least row after n that the index lists at a key that changes touch is the first that is met after n
+  -- the least row after n that the index lists at a key that changes touch is the first that is met
+  -- after n
   pub found_first : (r : Readers) (rows : List (Row O)) → Agrees asks r rows → (changes : List Change) (n : ℕ) (found : Option ℕ)
       → IsNext (λ i. list_any (λ change. is_touched_in r change i) changes) n found → found ≡ first_met asks changes (drop n rows) (n + 1)
   found_first r rows agrees changes n found h =
@@ -184,27 +184,12 @@ module _ {O : Type 0} (asks : O → Bool) where
         | false ↦ λ none. all_from change rest at (at + 1) test numbers refl later (skipped test n at numbers next (ap test start ∙ same 0 ∙ none) h)
       ]) refl
 
-  -- all rows that the index lists at a key that a change touches are the survivors that looked at what it touches
+  -- all rows that the index lists at a key that a change touches are the survivors that looked at
+  -- what it touches
   pub all_found : (r : Readers) (rows : List (Row O)) → Agrees asks r rows → (change : Change) (numbers : List ℕ) → AreAllAfter (is_touched_in r change) 0 numbers → numbers ≡ readers_of asks rows change
   all_found r rows agrees change numbers h = all_from change rows 0 1 (is_touched_in r change) numbers refl (λ j. let place : 1 + j ≡ suc j = omega arith in touched_met r rows agrees change (1 + j) ∙ ap (λ i. is_met (change ∷ []) (row_at rows i)) place) h
 
   -- ---- the index of the rows after a call
-  other_pushed : (rows : List (Row O)) (last : Row O) (k : ℕ) → (k ≡ length rows → ⊥) → slice_get (rows ++ last ∷ []) k ≡ slice_get rows k
-  other_pushed [] last zero away = absurd (away refl)
-  other_pushed [] last (suc k) away = refl
-  other_pushed (r ∷ rows) last zero away = refl
-  other_pushed (r ∷ rows) last (suc k) away = other_pushed rows last k (λ same. away (ap suc same))
-
-  row_pushed : (rows : List (Row O)) (last : Row O) (i : ℕ) → (i ≡ length rows + 1 → ⊥) → row_at (rows ++ last ∷ []) i ≡ row_at rows i
-  row_pushed rows last zero away = refl
-  row_pushed rows last (suc k) away = other_pushed rows last k (λ same. let number : suc k ≡ length rows + 1 = omega (arith, same) in away number)
-
-  row_new : (rows : List (Row O)) (last : Row O) → row_at (rows ++ last ∷ []) (length rows + 1) ≡ Some last
-  row_new rows last = let one : length rows + 1 ≡ suc (length rows) = omega arith in ap (row_at (rows ++ last ∷ [])) one ∙ get_push-new rows last
-
-  pub no_row : (rows : List (Row O)) → row_at rows (length rows + 1) ≡ None
-  no_row rows = let one : length rows + 1 ≡ suc (length rows) = omega arith in ap (row_at rows) one ∙ slice_get_past rows (length rows) (omega arith)
-
   added : (s read : Bool) → ((s && (read && true)) || false) ≡ (s && read)
   added true true = refl
   added true false = refl
@@ -237,30 +222,13 @@ module _ {O : Type 0} (asks : O → Bool) where
   pub agrees_undo : (r : Readers) (rows : List (Row O)) (operator : List ℕ) (n : ℕ) (reply : RowReply) → Agrees asks r rows → Agrees asks r (rows ++ row_of_undo operator n reply ∷ [])
   agrees_undo r rows operator n reply agrees = agrees_pushed r r rows (row_of_undo operator n reply) (length rows + 1) refl agrees (λ k i. refl)
 
+  -- and that of a redo
+  pub agrees_redo : (r : Readers) (rows : List (Row O)) (operator : List ℕ) (n : ℕ) (reply : RowReply) → Agrees asks r rows → Agrees asks r (rows ++ row_of_redo operator n reply ∷ [])
+  agrees_redo r rows operator n reply agrees = agrees_pushed r r rows (row_of_redo operator n reply) (length rows + 1) refl agrees (λ k i. refl)
+
   -- the same index, key by key and row by row
   pub agrees_alike : (r new : Readers) (rows : List (Row O)) → Agrees asks r rows → ((k : Key) (i : ℕ) → reads new k i ≡ reads r k i) → Agrees asks new rows
   agrees_alike r new rows agrees alike = λ k i. alike k i ∙ agrees k i
-
-  other_marked : (rows : List (Row O)) (k by j : ℕ) → (j ≡ k → ⊥) → slice_get (mark rows k by) j ≡ slice_get rows j
-  other_marked [] k by j away = refl
-  other_marked (r ∷ rows) zero by zero away = absurd (away refl)
-  other_marked (r ∷ rows) zero by (suc j) away = refl
-  other_marked (r ∷ rows) (suc k) by zero away = refl
-  other_marked (r ∷ rows) (suc k) by (suc j) away = other_marked rows k by j (λ same. away (ap suc same))
-
-  marked_here : (rows : List (Row O)) (k by : ℕ) (row : Row O) → slice_get rows k ≡ Some row → slice_get (mark rows k by) k ≡ Some (record row { undone_by = Some by })
-  marked_here [] k by row h = cc
-  marked_here (r ∷ rows) zero by row h = let same : r ≡ row = cc in ap (λ (x : Row O). Some (record x { undone_by = Some by })) same
-  marked_here (r ∷ rows) (suc k) by row h = marked_here rows k by row h
-
-  row_undone : (rows : List (Row O)) (n by : ℕ) (row : Row O) → row_at rows n ≡ Some row → row_at (undone rows n by) n ≡ Some (record row { undone_by = Some by })
-  row_undone rows zero by row h = cc
-  row_undone rows (suc k) by row h = marked_here rows k by row h
-
-  other_undone : (rows : List (Row O)) (n by i : ℕ) → (i ≡ n → ⊥) → row_at (undone rows n by) i ≡ row_at rows i
-  other_undone rows zero by i away = refl
-  other_undone rows (suc k) by zero away = refl
-  other_undone rows (suc k) by (suc j) away = other_marked rows k by j (λ same. away (ap suc same))
 
   removed : (s read : Bool) → (not (read && true) && (s && read)) ≡ false
   removed true true = refl
@@ -286,6 +254,34 @@ module _ {O : Type 0} (asks : O → Bool) where
         | inr away ↦
             ap (λ b. not (read && b) && reads r k i) away ∙ left read (reads r k i) ∙ agrees k i
             ∙ sym (ap (λ o. is_reader asks o k) (other_undone rows n by i (λ at. false≢true (sym away ∙ number_is n i (sym at)))))
+      ])
+
+  put_in : (read : Bool) → ((read && true) || false) ≡ read
+  put_in true = refl
+  put_in false = refl
+
+  beside : (read old : Bool) → ((read && false) || old) ≡ old
+  beside true old = refl
+  beside false old = refl
+
+  -- a row that is undone no longer, and is listed again
+  pub agrees_redone : (r new : Readers) (rows : List (Row O)) (n by : ℕ) (row : Row O) (c : O) → row_at rows n ≡ Some row → row.undone_by ≡ Some by → accepted asks row.request row.reply ≡ Some c → Agrees asks r rows
+      → ((k : Key) (i : ℕ) → reads new k i ≡ ((is_read row.reading k && is_at (nat_cmp n) i) || reads r k i))
+      → Agrees asks new (redone rows n)
+  agrees_redone r new rows n by row c is undone command agrees listed = λ k i.
+      let read = is_read row.reading k in
+      listed k i ∙ (elim (cases_Bool (is_at (nat_cmp n) i)) [
+        | inl here ↦
+            let at : i ≡ n = sym (same_number n i here) in
+            ap (λ b. (read && b) || reads r k i) here
+            ∙ ap (λ b. (read && true) || b) (agrees k i ∙ ap (λ o. is_reader asks o k) (ap (row_at rows) at ∙ is))
+            ∙ ap (λ (o : Option ℕ). (read && true) || (is_some (unless_undone o (accepted asks row.request row.reply)) && read)) undone
+            ∙ put_in read
+            ∙ ap (λ (o : Option O). is_some o && read) (sym command)
+            ∙ sym (ap (λ o. is_reader asks o k) (ap (row_at (redone rows n)) at ∙ row_redone rows n row is))
+        | inr away ↦
+            ap (λ b. (read && b) || reads r k i) away ∙ beside read (reads r k i) ∙ agrees k i
+            ∙ sym (ap (λ o. is_reader asks o k) (other_redone rows n i (λ at. false≢true (sym away ∙ number_is n i (sym at)))))
       ])
 
 -- what was listed of a row that wasn't there is taken back

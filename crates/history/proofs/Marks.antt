@@ -1,245 +1,157 @@
--- A row is marked as undone where there is an accepted undo of it.
-use Rattle.std.proofs.Common.{◌≡◌, ◌+◌, ◌↔◌, ℕ, zero, suc, Bool, true, List, [], ◌∷◌, ◌++◌, Option, Some, None, is_some, slice_get, length, refl, sym, ap, subst, ◌∙◌, arith, ◌⊎◌, inl, inr}
-use Rattle.std.proofs.lemmas.Bool.{false≢true}
-use Rattle.std.proofs.lemmas.Option.{slice_get_within}
+-- The marks of rows are those that their undos and redos leave.
+use Rattle.std.proofs.Common.{◌≡◌, ◌+◌, ◌<◌, ◌≤◌, ◌==◌, ◌⊎◌, ℕ, zero, suc, Bool, false, cond, List, [], ◌∷◌, ◌++◌, Option, Some, None, slice_get, length, refl, sym, ap, ◌∙◌, arith, inl, inr}
+use Rattle.std.proofs.lemmas.Bool.{cases_Bool, false≢true}
+use Rattle.std.proofs.lemmas.Bool.Decides.{Decides-eqb}
 use Rattle.link_tree.specs.Trees.{Entries}
 use Rattle.footprint.specs.Inquiry.{Inquiry}
 use Rattle.footprint.specs.Operations.{Effect, outcome_of}
 use Rattle.history.specs.declared.row.UndoRefusal.{UndoRefusal}
+use Rattle.history.specs.declared.row.RedoRefusal.{RedoRefusal}
 use Rattle.history.specs.declared.row.Row.{Row}
-use Rattle.history.specs.declared.row.Request.TheVariants.{Do, Undo}
-use Rattle.history.specs.declared.row.RowReply.TheVariants.{Undid, UndoRefused}
-use Rattle.history.specs.Rows.{Call, row_at, answered, row_of_undo, mark, Undoes, AreMarked, rows_undone, undo_refusal, replay, rows_after, run}
+use Rattle.history.specs.declared.row.Request.TheVariants.{Do, Undo, Redo}
+use Rattle.history.specs.declared.row.RowReply.{RowReply}
+use Rattle.history.specs.declared.row.RowReply.TheVariants.{Answered, Undid, UndoRefused, Redid, RedoRefused}
+use Rattle.history.specs.Rows.{Call, row_at, answered, row_of_undo, row_of_redo, mark, undoer_then, undoer_from, undoer, undone_by_at, MarksAgree, rows_undone, rows_redone, undo_refusal, redo_refusal, replay, rows_after, run}
+use Rattle.history.proofs.Places.{other_marked, marked_here}
 use Rattle.history.proofs.Replayed.{length-mark, free_row}
+use Rattle.history.proofs.Restored.{free_redo}
 
-refused_none : (u : UndoRefusal) (n : ℕ) → UndoRefused u ≡ Undid n → ⊥
-refused_none u n h = cc
+pub no_rows : (O : Type 0) → MarksAgree {O = O} []
+no_rows O zero = refl
+no_rows O (suc k) = refl
+
+other_number : (k n : ℕ) → (k ≡ n → ⊥) → (k == n) ≡ false
+other_number k n away = elim (cases_Bool (k == n)) [
+  | inl same ↦ absurd (away ((Decides-eqb k n).0 same))
+  | inr none ↦ none
+]
+
+-- a row is undone by an earlier row or by the one that says so
+then_range : (reply : RowReply) (at n : ℕ) (by : Option ℕ) (u : ℕ) → undoer_then reply at n by ≡ Some u → (by ≡ Some u) ⊎ (u ≡ at)
+then_range (Answered answer) at n by u h = inl h
+then_range (Undid k) at n by u h = elim (cases_Bool (k == n)) [
+  | inl same ↦ (let made : Some at ≡ Some u = sym (ap (λ b. cond b (Some at) by) same) ∙ h in inr (cc))
+  | inr other ↦ inl (sym (ap (λ b. cond b (Some at) by) other) ∙ h)
+]
+then_range (UndoRefused refusal) at n by u h = inl h
+then_range (Redid k) at n by u h = elim (cases_Bool (k == n)) [
+  | inl same ↦ (let never : None ≡ Some u = sym (ap (λ b. cond b None by) same) ∙ h in absurd (cc))
+  | inr other ↦ inl (sym (ap (λ b. cond b None by) other) ∙ h)
+]
+then_range (RedoRefused refusal) at n by u h = inl h
 
 module _ {O : Type 0} where
-  get_push-old : (rows : List (Row O)) (last : Row O) (k : ℕ) (row : Row O) → slice_get rows k ≡ Some row → slice_get (rows ++ last ∷ []) k ≡ Some row
-  get_push-old [] last k row h = cc
-  get_push-old (r ∷ rows) last zero row h = h
-  get_push-old (r ∷ rows) last (suc k) row h = get_push-old rows last k row h
-
-  pub get_push-new : (rows : List (Row O)) (last : Row O) → slice_get (rows ++ last ∷ []) (length rows) ≡ Some last
-  get_push-new [] last = refl
-  get_push-new (r ∷ rows) last = get_push-new rows last
-
-  get_push : (rows : List (Row O)) (last : Row O) (k : ℕ) (row : Row O) → slice_get (rows ++ last ∷ []) k ≡ Some row → (slice_get rows k ≡ Some row) ⊎ ((k ≡ length rows) × (row ≡ last))
-  get_push [] last zero row h = inr (refl, cc)
-  get_push [] last (suc k) row h = cc
-  get_push (r ∷ rows) last zero row h = inl h
-  get_push (r ∷ rows) last (suc k) row h = elim (get_push rows last k row h) [
-    | inl old ↦ inl old
-    | inr new ↦ inr (ap suc new.0, new.1)
-  ]
-
-  at_push-old : (rows : List (Row O)) (last : Row O) (n : ℕ) (row : Row O) → row_at rows n ≡ Some row → row_at (rows ++ last ∷ []) n ≡ Some row
-  at_push-old rows last zero row h = cc
-  at_push-old rows last (suc k) row h = get_push-old rows last k row h
-
-  at_push : (rows : List (Row O)) (last : Row O) (n : ℕ) (row : Row O) → row_at (rows ++ last ∷ []) n ≡ Some row → (row_at rows n ≡ Some row) ⊎ ((n ≡ suc (length rows)) × (row ≡ last))
-  at_push rows last zero row h = cc
-  at_push rows last (suc k) row h = elim (get_push rows last k row h) [
-    | inl old ↦ inl old
-    | inr new ↦ inr (ap suc new.0, new.1)
-  ]
-
-  there_push : (rows : List (Row O)) (last : Row O) (n : ℕ) → is_some (row_at rows n) ≡ true → is_some (row_at (rows ++ last ∷ []) n) ≡ true
-  there_push rows last n h = by_row (row_at rows n) refl h
-    where
-      by_row : (o : Option (Row O)) → row_at rows n ≡ o → is_some o ≡ true → is_some (row_at (rows ++ last ∷ []) n) ≡ true
-      by_row None is h = absurd (false≢true h)
-      by_row (Some row) is h = ap (λ (o : Option (Row O)). is_some o) (at_push-old rows last n row is)
-
-  -- no row stands past the end
-  past_end : (rows : List (Row O)) (n : ℕ) → n ≡ suc (length rows) → is_some (row_at rows n) ≡ true → ⊥
-  past_end rows zero is h = false≢true h
-  past_end rows (suc k) is h = by_row (slice_get rows k) refl h
-    where
-      by_row : (o : Option (Row O)) → slice_get rows k ≡ o → is_some o ≡ true → ⊥
-      by_row None at h = false≢true h
-      by_row (Some row) at h = omega (arith, is, slice_get_within rows k row at)
-
-  undoes_push : (rows : List (Row O)) (last : Row O) (m n : ℕ) → Undoes rows m n → Undoes (rows ++ last ∷ []) m n
-  undoes_push rows last m n u = (u.0, at_push-old rows last m u.0 u.1, u.2)
-
-  undoes_in : (rows : List (Row O)) (last : Row O) (m n : ℕ) → Undoes (rows ++ last ∷ []) m n → Undoes rows m n ⊎ ((m ≡ suc (length rows)) × (last.reply ≡ Undid n))
-  undoes_in rows last m n u = elim (at_push rows last m u.0 u.1) [
-    | inl old ↦ inl (u.0, old, u.2)
-    | inr new ↦ inr (new.0, ap (λ (r : Row O). r.reply) (sym new.1) ∙ u.2)
-  ]
-
-  no_rows : AreMarked {O = O} []
-  no_rows = record {
-    marked = λ n m row here. absurd (nothing n row here);
-    of_row = λ m n u. absurd (nothing m u.0 u.1);
-  }
-    where
-      nothing : (n : ℕ) (row : Row O) → row_at {O = O} [] n ≡ Some row → ⊥
-      nothing zero row h = cc
-      nothing (suc k) row h = cc
-
-  -- a row that undoes none is added
-  module _ (rows : List (Row O)) (last : Row O) (unmarked : last.undone_by ≡ None) (undoes : (n : ℕ) → last.reply ≡ Undid n → ⊥) (h : AreMarked rows) where
-    still : (m n : ℕ) → Undoes (rows ++ last ∷ []) m n → Undoes rows m n
-    still m n u = elim (undoes_in rows last m n u) [ inl old ↦ old | inr new ↦ absurd (undoes n new.1) ]
-
-    marks-push : AreMarked (rows ++ last ∷ [])
-    marks-push = record {
-      marked = λ n m row here. elim (at_push rows last n row here) [
-        | inl old ↦ (λ by. undoes_push rows last m n ((h.marked n m row old).0 by), λ u. (h.marked n m row old).1 (still m n u))
-        | inr new ↦ (
-          λ by. absurd (none_some m (sym (ap (λ (r : Row O). r.undone_by) new.1 ∙ unmarked) ∙ by)),
-          λ u. absurd (past_end rows n new.0 (h.of_row m n (still m n u))),
-        )
-      ];
-      of_row = λ m n u. there_push rows last n (h.of_row m n (still m n u));
-    }
-      where
-        none_some : (m : ℕ) → None ≡ Some m → ⊥
-        none_some m h = cc
-
-  get_mark : (rows : List (Row O)) (k by j : ℕ) (row x : Row O) → slice_get rows k ≡ Some row → slice_get (mark rows k by) j ≡ Some x
-      → ((j ≡ k) × (x ≡ record row { undone_by = Some by })) ⊎ ((j ≡ k → ⊥) × (slice_get rows j ≡ Some x))
-  get_mark [] k by j row x is h = cc
-  get_mark (r ∷ rows) zero by zero row x is h =
-      let same : r ≡ row = cc in
-      let made : record r { undone_by = Some by } ≡ x = cc in
-      inl (refl, sym made ∙ ap (λ (y : Row O). record y { undone_by = Some by }) same)
-  get_mark (r ∷ rows) zero by (suc j) row x is h = inr (λ e. cc, h)
-  get_mark (r ∷ rows) (suc k) by zero row x is h = inr (λ e. cc, h)
-  get_mark (r ∷ rows) (suc k) by (suc j) row x is h = elim (get_mark rows k by j row x is h) [
-    | inl here ↦ inl (ap suc here.0, here.1)
-    | inr away ↦ inr (λ e. away.0 cc, away.1)
-  ]
-
-  reply_there : (rows : List (Row O)) (k by j : ℕ) (x : Row O) → slice_get rows j ≡ Some x → (y : Row O) × (slice_get (mark rows k by) j ≡ Some y) × (y.reply ≡ x.reply)
-  reply_there [] k by j x h = cc
-  reply_there (r ∷ rows) zero by zero x h = let same : r ≡ x = cc in (record r { undone_by = Some by }, refl, ap (λ (y : Row O). y.reply) same)
-  reply_there (r ∷ rows) zero by (suc j) x h = (x, h, refl)
-  reply_there (r ∷ rows) (suc k) by zero x h = (x, h, refl)
-  reply_there (r ∷ rows) (suc k) by (suc j) x h = reply_there rows k by j x h
-
-  reply_back : (rows : List (Row O)) (k by j : ℕ) (y : Row O) → slice_get (mark rows k by) j ≡ Some y → (x : Row O) × (slice_get rows j ≡ Some x) × (x.reply ≡ y.reply)
-  reply_back [] k by j y h = cc
-  reply_back (r ∷ rows) zero by zero y h = let same : record r { undone_by = Some by } ≡ y = cc in (r, refl, ap (λ (x : Row O). x.reply) same)
-  reply_back (r ∷ rows) zero by (suc j) y h = (y, h, refl)
-  reply_back (r ∷ rows) (suc k) by zero y h = (y, h, refl)
-  reply_back (r ∷ rows) (suc k) by (suc j) y h = reply_back rows k by j y h
-
-  undoes_mark : (rows : List (Row O)) (k by m n : ℕ) → Undoes rows m n → Undoes (mark rows k by) m n
-  undoes_mark rows k by zero n u = cc (u.1)
-  undoes_mark rows k by (suc j) n u = let there = reply_there rows k by j u.0 u.1 in (there.0, there.1, there.2 ∙ u.2)
-
-  undoes_unmark : (rows : List (Row O)) (k by m n : ℕ) → Undoes (mark rows k by) m n → Undoes rows m n
-  undoes_unmark rows k by zero n u = cc (u.1)
-  undoes_unmark rows k by (suc j) n u = let back = reply_back rows k by j u.0 u.1 in (back.0, back.1, back.2 ∙ u.2)
-
-  there_mark : (rows : List (Row O)) (k by n : ℕ) → is_some (row_at rows n) ≡ true → is_some (row_at (mark rows k by) n) ≡ true
-  there_mark rows k by zero h = h
-  there_mark rows k by (suc j) h = by_row (slice_get rows j) refl h
-    where
-      by_row : (o : Option (Row O)) → slice_get rows j ≡ o → is_some o ≡ true → is_some (slice_get (mark rows k by) j) ≡ true
-      by_row None is h = absurd (false≢true h)
-      by_row (Some row) is h = ap (λ (o : Option (Row O)). is_some o) (reply_there rows k by j row is).1
-
-  -- a row is undone
-  module _ (operator : List ℕ) (rows : List (Row O)) (k : ℕ) (row : Row O) (is : slice_get rows k ≡ Some row) (unmarked : row.undone_by ≡ None) (h : AreMarked rows) where
-    abbrev the_mark : ℕ
-    the_mark = length rows + 1
-
-    abbrev marked_rows : List (Row O)
-    marked_rows = mark rows k the_mark
-
-    abbrev the_undo : Row O
-    the_undo = row_of_undo operator (suc k) (Undid (suc k))
-
-    at_end : (m : ℕ) → (m ≡ suc (length marked_rows)) ↔ (m ≡ the_mark)
-    at_end m = (λ e. omega (arith, e, length-mark rows k the_mark), λ e. omega (arith, e, length-mark rows k the_mark))
-
-    new_undoes : (m : ℕ) → m ≡ the_mark → Undoes (marked_rows ++ the_undo ∷ []) m (suc k)
-    new_undoes m e =
-        subst (λ (j : ℕ). Undoes (marked_rows ++ the_undo ∷ []) j (suc k)) (sym ((at_end m).1 e))
-        (the_undo, get_push-new marked_rows the_undo, refl)
-
-    -- an undo is one of before or the new one
-    which : (m n : ℕ) → Undoes (marked_rows ++ the_undo ∷ []) m n → Undoes rows m n ⊎ ((m ≡ the_mark) × (n ≡ suc k))
-    which m n u = elim (undoes_in marked_rows the_undo m n u) [
-      | inl old ↦ inl (undoes_unmark rows k the_mark m n old)
-      | inr new ↦ inr ((at_end m).0 new.0, number n new.1)
+  undoer-range : (rows : List (Row O)) (at n : ℕ) (by : Option ℕ) (u : ℕ) → undoer_from rows at n by ≡ Some u → (by ≡ Some u) ⊎ ((at ≤ u) × (u < at + length rows))
+  undoer-range [] at n by u h = inl h
+  undoer-range (row ∷ rows) at n by u h = elim (undoer-range rows (at + 1) n (undoer_then row.reply at n by) u h) [
+    | inl first ↦ elim (then_range row.reply at n by u first) [
+      | inl before ↦ inl before
+      | inr here ↦ inr (omega (arith, here), omega (arith, here))
     ]
-      where
-        number : (n : ℕ) → Undid (suc k) ≡ Undid n → n ≡ suc k
-        number n e = cc
+    | inr later ↦ inr (omega (arith, later.0), omega (arith, later.1))
+  ]
 
-    old_undoes : (m n : ℕ) → Undoes rows m n → Undoes (marked_rows ++ the_undo ∷ []) m n
-    old_undoes m n u = undoes_push marked_rows the_undo m n (undoes_mark rows k the_mark m n u)
+  -- a mark is the number of a row
+  pub mark_range : (rows : List (Row O)) (n : ℕ) (row : Row O) (u : ℕ) → MarksAgree rows → row_at rows n ≡ Some row → row.undone_by ≡ Some u → (1 ≤ u) × (u ≤ length rows)
+  mark_range rows n row u marked is by = elim (undoer-range rows 1 n None u (sym (marked n) ∙ ap (λ (o : Option (Row O)). undone_by_at o) is ∙ by)) [
+    | inl never ↦ absurd (cc)
+    | inr range ↦ (range.0, omega (arith, range.1))
+  ]
 
-    there_undo : (n : ℕ) → is_some (row_at rows n) ≡ true → is_some (row_at (marked_rows ++ the_undo ∷ []) n) ≡ true
-    there_undo n h = there_push marked_rows the_undo n (there_mark rows k the_mark n h)
+  -- the last row decides, if it names the row
+  pub undoer-push : (rows : List (Row O)) (row : Row O) (at n : ℕ) (by : Option ℕ)
+      → undoer_from (rows ++ row ∷ []) at n by ≡ undoer_then row.reply (at + length rows) n (undoer_from rows at n by)
+  undoer-push [] row at n by = let same : at ≡ at + 0 = omega arith in ap (λ (i : ℕ). undoer_then row.reply i n by) same
+  undoer-push (r ∷ rows) row at n by =
+      let same : at + 1 + length rows ≡ at + suc (length rows) = omega arith in
+      undoer-push rows row (at + 1) n (undoer_then r.reply at n by)
+      ∙ ap (λ (i : ℕ). undoer_then row.reply i n (undoer_from rows (at + 1) n (undoer_then r.reply at n by))) same
 
-    none_some : (m : ℕ) → None ≡ Some m → ⊥
-    none_some m h = cc
+  -- marks say nothing of undos
+  pub undoer-mark : (rows : List (Row O)) (k : ℕ) (mark_by : Option ℕ) (at n : ℕ) (by : Option ℕ) → undoer_from (mark rows k mark_by) at n by ≡ undoer_from rows at n by
+  undoer-mark [] k mark_by at n by = refl
+  undoer-mark (r ∷ rows) zero mark_by at n by = refl
+  undoer-mark (r ∷ rows) (suc k) mark_by at n by = undoer-mark rows k mark_by (at + 1) n (undoer_then r.reply at n by)
 
-    some_itself : (a b : ℕ) → Some a ≡ Some b → b ≡ a
-    some_itself a b e = cc
+  pushed_at : (rows : List (Row O)) (row : Row O) → row.undone_by ≡ None → (k : ℕ) → undone_by_at (slice_get (rows ++ row ∷ []) k) ≡ undone_by_at (slice_get rows k)
+  pushed_at [] row unmarked zero = unmarked
+  pushed_at [] row unmarked (suc k) = refl
+  pushed_at (r ∷ rows) row unmarked zero = refl
+  pushed_at (r ∷ rows) row unmarked (suc k) = pushed_at rows row unmarked k
 
-    old_row : (n m : ℕ) (x : Row O) → row_at marked_rows n ≡ Some x → (x.undone_by ≡ Some m) ↔ Undoes (marked_rows ++ the_undo ∷ []) m n
-    old_row zero m x here = cc
-    old_row (suc j) m x here = elim (get_mark rows k the_mark j row x is here) [
-      | inl it ↦ (
-        λ by. subst (λ (i : ℕ). Undoes (marked_rows ++ the_undo ∷ []) m (suc i)) (sym it.0) (new_undoes m (some_itself the_mark m (sym (ap (λ (r : Row O). r.undone_by) it.1) ∙ by))),
-        λ u. elim (which m (suc j) u) [
-          | inl old ↦ absurd (none_some m (sym unmarked ∙ (h.marked (suc k) m row is).1 (subst (λ (i : ℕ). Undoes rows m (suc i)) it.0 old)))
-          | inr new ↦ ap (λ (r : Row O). r.undone_by) it.1 ∙ ap (λ (i : ℕ). Some i) (sym new.0)
-        ],
-      )
-      | inr away ↦ (
-        λ by. old_undoes m (suc j) ((h.marked (suc j) m x away.1).0 by),
-        λ u. elim (which m (suc j) u) [
-          | inl old ↦ (h.marked (suc j) m x away.1).1 old
-          | inr new ↦ absurd (away.0 (omega (arith, new.1)))
-        ],
-      )
-    ]
+  -- a new row isn't marked
+  pushed : (rows : List (Row O)) (row : Row O) → row.undone_by ≡ None → (n : ℕ) → undone_by_at (row_at (rows ++ row ∷ []) n) ≡ undone_by_at (row_at rows n)
+  pushed rows row unmarked zero = refl
+  pushed rows row unmarked (suc k) = pushed_at rows row unmarked k
 
-    new_row : (n m : ℕ) (x : Row O) → n ≡ suc (length marked_rows) → x ≡ the_undo → (x.undone_by ≡ Some m) ↔ Undoes (marked_rows ++ the_undo ∷ []) m n
-    new_row n m x at e = (
-      λ by. absurd (none_some m (sym (ap (λ (r : Row O). r.undone_by) e) ∙ by)),
-      λ u. elim (which m n u) [
-        | inl old ↦ absurd (past_end rows n (at ∙ ap suc (length-mark rows k the_mark)) (h.of_row m n old))
-        | inr new ↦ absurd (omega (arith, at, new.1, length-mark rows k the_mark, slice_get_within rows k row is))
-      ],
-    )
+  -- a mark changes that of its own row alone
+  marked : (rows : List (Row O)) (k : ℕ) (by : Option ℕ) (row : Row O) → slice_get rows k ≡ Some row → (n : ℕ)
+      → undone_by_at (row_at (mark rows k by) n) ≡ cond (suc k == n) by (undone_by_at (row_at rows n))
+  marked rows k by row is zero = let away : (suc k == zero) ≡ false = other_number (suc k) zero (λ same. omega (arith, same)) in ap (λ b. cond b by None) (sym away)
+  marked rows k by row is (suc j) = elim (cases_Bool (suc k == suc j)) [
+    | inl here ↦
+        let same : j ≡ k = (let numbers : suc k ≡ suc j = (Decides-eqb (suc k) (suc j)).0 here in omega (arith, numbers)) in
+        ap (λ (i : ℕ). undone_by_at (slice_get (mark rows k by) i)) same
+        ∙ ap (λ (o : Option (Row O)). undone_by_at o) (marked_here rows k by row is)
+        ∙ ap (λ b. cond b by (undone_by_at (slice_get rows j))) (sym here)
+    | inr away ↦
+        ap (λ (o : Option (Row O)). undone_by_at o) (other_marked rows k by j (λ same. false≢true (sym away ∙ (Decides-eqb (suc k) (suc j)).1 (ap suc (sym same)))))
+        ∙ ap (λ b. cond b by (undone_by_at (slice_get rows j))) (sym away)
+  ]
 
-    marks-undo : AreMarked (marked_rows ++ the_undo ∷ [])
-    marks-undo = record {
-      marked = λ n m x here. elim (at_push marked_rows the_undo n x here) [
-        | inl old ↦ old_row n m x old
-        | inr new ↦ new_row n m x new.0 new.1
-      ];
-      of_row = λ m n u. elim (which m n u) [
-        | inl old ↦ there_undo n (h.of_row m n old)
-        | inr new ↦ subst (λ (j : ℕ). is_some (row_at (marked_rows ++ the_undo ∷ []) j) ≡ true) (sym new.1) (there_undo (suc k) (ap (λ (o : Option (Row O)). is_some o) is))
-      ];
-    }
+  -- a row is added that names none
+  marks-push : (rows : List (Row O)) (row : Row O) → row.undone_by ≡ None → ((at n : ℕ) (by : Option ℕ) → undoer_then row.reply at n by ≡ by) → MarksAgree rows → MarksAgree (rows ++ row ∷ [])
+  marks-push rows row unmarked names_none h = λ n.
+      pushed rows row unmarked n ∙ h n ∙ sym (undoer-push rows row 1 n None ∙ names_none (1 + length rows) n (undoer rows n))
+
+  -- the undos and redos after a row was marked and one added that names it
+  pub undoer-toggled : (rows : List (Row O)) (k : ℕ) (by : Option ℕ) (last : Row O) → ((n : ℕ) (was : Option ℕ) → undoer_then last.reply (1 + length rows) n was ≡ cond (suc k == n) by was)
+      → (n : ℕ) → undoer (mark rows k by ++ last ∷ []) n ≡ cond (suc k == n) by (undoer rows n)
+  undoer-toggled rows k by last names n =
+      undoer-push (mark rows k by) last 1 n None
+      ∙ ap (λ (i : ℕ). undoer_then last.reply (1 + i) n (undoer (mark rows k by) n)) (length-mark rows k by)
+      ∙ ap (λ (was : Option ℕ). undoer_then last.reply (1 + length rows) n was) (undoer-mark rows k by 1 n None)
+      ∙ names n (undoer rows n)
+
+  -- a row is marked as the new row says
+  marks-toggled : (rows : List (Row O)) (k : ℕ) (by : Option ℕ) (row last : Row O) → slice_get rows k ≡ Some row → last.undone_by ≡ None
+      → ((n : ℕ) (was : Option ℕ) → undoer_then last.reply (1 + length rows) n was ≡ cond (suc k == n) by was) → MarksAgree rows → MarksAgree (mark rows k by ++ last ∷ [])
+  marks-toggled rows k by row last is unmarked names h = λ n.
+      pushed (mark rows k by) last unmarked n ∙ marked rows k by row is n ∙ ap (λ (was : Option ℕ). cond (suc k == n) by was) (h n)
+      ∙ sym (undoer-toggled rows k by last names n)
+
+  -- what the row of an undo says, and that of a redo
+  pub names_undone : (rows : List (Row O)) (operator : List ℕ) (k n : ℕ) (was : Option ℕ)
+      → undoer_then (row_of_undo {O = O} operator (suc k) (Undid (suc k))).reply (1 + length rows) n was ≡ cond (suc k == n) (Some (length rows + 1)) was
+  names_undone rows operator k n was = let number : 1 + length rows ≡ length rows + 1 = omega arith in ap (λ (i : ℕ). cond (suc k == n) (Some i) was) number
+
+  pub names_redone : (rows : List (Row O)) (operator : List ℕ) (k n : ℕ) (was : Option ℕ)
+      → undoer_then (row_of_redo {O = O} operator (suc k) (Redid (suc k))).reply (1 + length rows) n was ≡ cond (suc k == n) None was
+  names_redone rows operator k n was = refl
 
   module _ (asks : O → Bool) (meaning : O → Inquiry Effect) where
-    marks-rows_undone : (operator : List ℕ) (rows : List (Row O)) (n : ℕ) (u : Option UndoRefusal) → undo_refusal asks rows n ≡ u → AreMarked rows → AreMarked (rows_undone operator rows n u)
-    marks-rows_undone operator rows n (Some u) is h = marks-push rows (row_of_undo operator n (UndoRefused u)) refl (refused_none u) h
+    marks-rows_undone : (operator : List ℕ) (rows : List (Row O)) (n : ℕ) (u : Option UndoRefusal) → undo_refusal asks rows n ≡ u → MarksAgree rows → MarksAgree (rows_undone operator rows n u)
+    marks-rows_undone operator rows n (Some u) is h = marks-push rows (row_of_undo operator n (UndoRefused u)) refl (λ at n by. refl) h
     marks-rows_undone operator rows zero None is h = cc
     marks-rows_undone operator rows (suc k) None is h =
         let free = free_row asks rows k is in
-        marks-undo operator rows k free.0 free.1.here free.1.unmarked h
+        marks-toggled rows k (Some (length rows + 1)) free.0 (row_of_undo operator (suc k) (Undid (suc k))) free.1.here refl (names_undone rows operator k) h
 
-    marks-after : (first : Entries) (rows : List (Row O)) (call : Call O) → AreMarked rows → AreMarked (rows_after asks meaning first rows call)
-    marks-after first rows (operator, Do c) h = marks-push rows (answered operator c (outcome_of meaning c (replay asks meaning first rows))) refl (λ n e. cc) h
+    marks-rows_redone : (operator : List ℕ) (rows : List (Row O)) (n : ℕ) (u : Option RedoRefusal) → redo_refusal asks rows n ≡ u → MarksAgree rows → MarksAgree (rows_redone operator rows n u)
+    marks-rows_redone operator rows n (Some u) is h = marks-push rows (row_of_redo operator n (RedoRefused u)) refl (λ at n by. refl) h
+    marks-rows_redone operator rows zero None is h = cc
+    marks-rows_redone operator rows (suc k) None is h =
+        let free = free_redo asks rows k is in
+        marks-toggled rows k None free.0 (row_of_redo operator (suc k) (Redid (suc k))) free.1.here refl (names_redone rows operator k) h
+
+    pub marks-after : (first : Entries) (rows : List (Row O)) (call : Call O) → MarksAgree rows → MarksAgree (rows_after asks meaning first rows call)
+    marks-after first rows (operator, Do c) h = marks-push rows (answered operator c (outcome_of meaning c (replay asks meaning first rows))) refl (λ at n by. refl) h
     marks-after first rows (operator, Undo n) h = marks-rows_undone operator rows n (undo_refusal asks rows n) refl h
+    marks-after first rows (operator, Redo n) h = marks-rows_redone operator rows n (redo_refusal asks rows n) refl h
 
-    marks-from : (first : Entries) (rows : List (Row O)) (calls : List (Call O)) → AreMarked rows → AreMarked (run asks meaning first rows calls)
+    marks-from : (first : Entries) (rows : List (Row O)) (calls : List (Call O)) → MarksAgree rows → MarksAgree (run asks meaning first rows calls)
     marks-from first rows [] h = h
     marks-from first rows (call ∷ calls) h = marks-from first (rows_after asks meaning first rows call) calls (marks-after first rows call h)
 
-    pub marks-run : (first : Entries) (calls : List (Call O)) → AreMarked (run asks meaning first [] calls)
-    marks-run first calls = marks-from first [] calls no_rows
+    pub marks-run : (first : Entries) (calls : List (Call O)) → MarksAgree (run asks meaning first [] calls)
+    marks-run first calls = marks-from first [] calls (no_rows O)

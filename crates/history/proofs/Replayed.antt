@@ -1,4 +1,5 @@
--- What becomes of the replay when a row is added, and when a survivor that no row blocks is undone.
+-- What becomes of the replay when a row is added, when a survivor that no row blocks is undone, and
+-- when changes are made before rows that didn't look at what they touch.
 use Rattle.std.proofs.Common.{◌≡◌, ◌+◌, ◌&&◌, ◌||◌, ℕ, zero, suc, Bool, true, false, cond, List, [], ◌∷◌, ◌++◌, Option, Some, None, is_some, slice_get, drop, length, refl, sym, ap, subst, ◌∙◌, All, ◌⊎◌, inl, inr}
 use Rattle.std.specs.List.{list_any}
 use Rattle.std.proofs.lemmas.Bool.{cases_Bool, or_parts, false≢true}
@@ -6,6 +7,7 @@ use Rattle.std.proofs.lemmas.List.Elements.{All-cons, All-nil, All-map, All-weak
 use Rattle.link_tree.specs.declared.change.Change.{Change}
 use Rattle.link_tree.specs.Trees.{Entries, AreFrom, after_changes, inverse_of}
 use Rattle.link_tree.proofs.Changed.{inverse_from, inverse_undoes}
+use Rattle.footprint.specs.declared.key.Key.{Key}
 use Rattle.footprint.specs.declared.outcome.Outcome.{Outcome}
 use Rattle.footprint.specs.declared.reading.Observation.{Observation}
 use Rattle.footprint.specs.Inquiry.{Inquiry}
@@ -15,37 +17,47 @@ use Rattle.footprint.specs.Readings.{keys_of, reading_of}
 use Rattle.footprint.proofs.Outcomes.{untouched_keys}
 use Rattle.footprint.proofs.Untouched.{untouched-inverse, untouched_step}
 use Rattle.history.specs.declared.row.UndoRefusal.{UndoRefusal}
+use Rattle.history.specs.declared.row.RedoRefusal.{RedoRefusal}
 use Rattle.history.specs.declared.row.Row.{Row}
-use Rattle.history.specs.declared.row.Request.TheVariants.{Do, Undo}
-use Rattle.history.specs.declared.row.RowReply.TheVariants.{Answered, Undid, UndoRefused}
-use Rattle.history.specs.Rows.{Call, calls_of, unless_undone, meets, answered, row_of_undo, mark, undone, rows_undone, or_blocked, row_refusal, accepted, with_command, survivor, survivors, first_met, blocker_at, refusal_at, undo_refusal, after, after_commands, replay, AnswersHere, AnswersAlike, rows_after, run}
+use Rattle.history.specs.declared.row.Request.TheVariants.{Do, Undo, Redo}
+use Rattle.history.specs.declared.row.RowReply.TheVariants.{Answered, Undid, UndoRefused, Redid, RedoRefused}
+use Rattle.history.specs.Rows.{Call, calls_of, unless_undone, meets, answered, row_of_undo, row_of_redo, mark, undone, redone, rows_undone, rows_redone, redo_refusal, or_blocked, row_refusal, accepted, with_command, survivor, survivors, first_met, blocker_at, refusal_at, undo_refusal, after, after_commands, replay, AnswersHere, AnswersAlike, rows_after, run}
 
 module _ {O : Type 0} where
   calls-push : (rows : List (Row O)) (row : Row O) → calls_of (rows ++ row ∷ []) ≡ calls_of rows ++ (row.operator, row.request) ∷ []
   calls-push [] row = refl
   calls-push (r ∷ rows) row = ap (λ cs. (r.operator, r.request) ∷ cs) (calls-push rows row)
 
-  calls-mark : (rows : List (Row O)) (k by : ℕ) → calls_of (mark rows k by) ≡ calls_of rows
+  calls-mark : (rows : List (Row O)) (k : ℕ) (by : Option ℕ) → calls_of (mark rows k by) ≡ calls_of rows
   calls-mark [] k by = refl
   calls-mark (r ∷ rows) zero by = refl
   calls-mark (r ∷ rows) (suc k) by = ap (λ cs. (r.operator, r.request) ∷ cs) (calls-mark rows k by)
 
   calls-undone : (rows : List (Row O)) (n by : ℕ) → calls_of (undone rows n by) ≡ calls_of rows
   calls-undone rows zero by = refl
-  calls-undone rows (suc k) by = calls-mark rows k by
+  calls-undone rows (suc k) by = calls-mark rows k (Some by)
+
+  calls-redone : (rows : List (Row O)) (n : ℕ) → calls_of (redone rows n) ≡ calls_of rows
+  calls-redone rows zero = refl
+  calls-redone rows (suc k) = calls-mark rows k None
 
   calls-rows_undone : (operator : List ℕ) (rows : List (Row O)) (n : ℕ) (u : Option UndoRefusal) → calls_of (rows_undone operator rows n u) ≡ calls_of rows ++ (operator, Undo n) ∷ []
   calls-rows_undone operator rows n None =
       calls-push (undone rows n (length rows + 1)) (row_of_undo operator n (Undid n)) ∙ ap (λ (cs : List (Call O)). cs ++ (operator, Undo n) ∷ []) (calls-undone rows n (length rows + 1))
   calls-rows_undone operator rows n (Some u) = calls-push rows (row_of_undo operator n (UndoRefused u))
 
-  pub length-mark : (rows : List (Row O)) (k by : ℕ) → length (mark rows k by) ≡ length rows
+  calls-rows_redone : (operator : List ℕ) (rows : List (Row O)) (n : ℕ) (u : Option RedoRefusal) → calls_of (rows_redone operator rows n u) ≡ calls_of rows ++ (operator, Redo n) ∷ []
+  calls-rows_redone operator rows n None =
+      calls-push (redone rows n) (row_of_redo operator n (Redid n)) ∙ ap (λ (cs : List (Call O)). cs ++ (operator, Redo n) ∷ []) (calls-redone rows n)
+  calls-rows_redone operator rows n (Some u) = calls-push rows (row_of_redo operator n (RedoRefused u))
+
+  pub length-mark : (rows : List (Row O)) (k : ℕ) (by : Option ℕ) → length (mark rows k by) ≡ length rows
   length-mark [] k by = refl
   length-mark (row ∷ rows) zero by = refl
   length-mark (row ∷ rows) (suc k) by = ap suc (length-mark rows k by)
 
 -- what a test that finds no row says
-not_first : (b : Bool) (at : ℕ) (rest : Option ℕ) → cond b (Some at) rest ≡ None → (b ≡ false) × (rest ≡ None)
+pub not_first : (b : Bool) (at : ℕ) (rest : Option ℕ) → cond b (Some at) rest ≡ None → (b ≡ false) × (rest ≡ None)
 not_first true at rest h = cc
 not_first false at rest h = (refl, h)
 
@@ -53,7 +65,7 @@ none_any : {A : Type 0} (p : A → Bool) (xs : List A) → list_any p xs ≡ fal
 none_any p [] h = All-nil (λ x. p x ≡ false)
 none_any p (x ∷ xs) h = let parts = or_parts (p x) (list_any p xs) h in All-cons (λ x. p x ≡ false) x xs parts.0 (none_any p xs parts.1)
 
-not_meeting : (changes : List Change) (reading : List Observation) → meets changes reading ≡ false → Untouched changes (keys_of reading)
+pub not_meeting : (changes : List Change) (reading : List Observation) → meets changes reading ≡ false → Untouched changes (keys_of reading)
 not_meeting changes reading h =
     All-map (λ key. All (λ change. touches change key ≡ false) changes) (λ (o : Observation). o.key) reading
     (All-weaker (λ (o : Observation). list_any (λ change. touches change o.key) changes ≡ false) (λ (o : Observation). All (λ change. touches change o.key ≡ false) changes)
@@ -110,6 +122,7 @@ module _ {O : Type 0} (asks : O → Bool) where
     calls-after : (first : Entries) (rows : List (Row O)) (call : Call O) → calls_of (rows_after asks meaning first rows call) ≡ calls_of rows ++ call ∷ []
     calls-after first rows (operator, Do c) = calls-push rows (answered operator c (outcome_of meaning c (replay asks meaning first rows)))
     calls-after first rows (operator, Undo n) = calls-rows_undone operator rows n (undo_refusal asks rows n)
+    calls-after first rows (operator, Redo n) = calls-rows_redone operator rows n (redo_refusal asks rows n)
 
     pub run-push : (first : Entries) (rows : List (Row O)) (calls : List (Call O)) (call : Call O) → run asks meaning first rows (calls ++ call ∷ []) ≡ rows_after asks meaning first (run asks meaning first rows calls) call
     run-push first rows [] call = refl
@@ -126,7 +139,7 @@ module _ {O : Type 0} (asks : O → Bool) where
     replay-push t [] row = refl
     replay-push t (r ∷ rows) row = replay-push (after asks meaning (survivor asks r) t) rows row
 
-    alike-push : (t : Entries) (rows : List (Row O)) (row : Row O) → AnswersAlike asks meaning t rows → AnswersHere asks meaning (survivor asks row) (replay asks meaning t rows) row
+    pub alike-push : (t : Entries) (rows : List (Row O)) (row : Row O) → AnswersAlike asks meaning t rows → AnswersHere asks meaning (survivor asks row) (replay asks meaning t rows) row
         → AnswersAlike asks meaning t (rows ++ row ∷ [])
     alike-push t [] row h here = (here, tt)
     alike-push t (r ∷ rows) row h here = (h.0, alike-push (after asks meaning (survivor asks r) t) rows row h.1 here)
@@ -155,34 +168,36 @@ module _ {O : Type 0} {asks : O → Bool} {meaning : O → Inquiry Effect} (laws
         | inr away ↦ subst Goal (sym away) (refl, (refl, refl, refl))
       ]
 
-  -- one command with changes taken back before it that touch nothing that it looks at: it does the same, and they can be taken
-  -- back after it
-  row_without : (cs : List Change) (o : Option O) (t : Entries) (row : Row O) → AnswersHere asks meaning o t row → AreFrom t (inverse_of cs) → (is_some o && meets cs row.reading) ≡ false
-      → AnswersHere asks meaning o (after_changes (inverse_of cs) t) row
-      × (after asks meaning o (after_changes (inverse_of cs) t) ≡ after_changes (inverse_of cs) (after asks meaning o t))
-      × AreFrom (after asks meaning o t) (inverse_of cs)
-  row_without cs None t row h from apart = (tt, refl, from)
-  row_without cs (Some c) t row h from apart =
-      let keys = (meaning c).keys t in
-      let seen : Untouched cs (keys_of (reading_of keys t)) = subst (λ (r : List Observation). Untouched cs (keys_of r)) h.2 (not_meeting cs row.reading apart) in
-      let one = untouched_step laws (inverse_of cs) c t from (untouched-inverse cs keys (untouched_keys cs keys t seen)) in
-      let u : Entries = after_changes (inverse_of cs) t in (
-        (h.0 ∙ ap (λ (o : Outcome). Answered o.answer) one.0, h.1 ∙ ap (λ (o : Outcome). o.changes) one.0, h.2 ∙ ap (λ (o : Outcome). o.reading) one.0),
-        ap (λ (o : Outcome). after_changes o.changes u) (sym one.0) ∙ one.1,
-        one.2,
-      )
+  -- Changes before rows that didn't look at what they touch: `ds` is made, and `cs`, which it is or
+  -- which it takes back, touches nothing that is looked at.
+  module _ (cs ds : List Change) (same_keys : (keys : List Key) → Untouched cs keys → Untouched ds keys) where
+    -- one command does the same after them, and they can be made after it
+    row_apart : (o : Option O) (t : Entries) (row : Row O) → AnswersHere asks meaning o t row → AreFrom t ds → (is_some o && meets cs row.reading) ≡ false
+        → AnswersHere asks meaning o (after_changes ds t) row
+        × (after asks meaning o (after_changes ds t) ≡ after_changes ds (after asks meaning o t))
+        × AreFrom (after asks meaning o t) ds
+    row_apart None t row h from apart = (tt, refl, from)
+    row_apart (Some c) t row h from apart =
+        let keys = (meaning c).keys t in
+        let seen : Untouched cs (keys_of (reading_of keys t)) = subst (λ (r : List Observation). Untouched cs (keys_of r)) h.2 (not_meeting cs row.reading apart) in
+        let one = untouched_step laws ds c t from (same_keys keys (untouched_keys cs keys t seen)) in
+        let u : Entries = after_changes ds t in (
+          (h.0 ∙ ap (λ (o : Outcome). Answered o.answer) one.0, h.1 ∙ ap (λ (o : Outcome). o.changes) one.0, h.2 ∙ ap (λ (o : Outcome). o.reading) one.0),
+          ap (λ (o : Outcome). after_changes o.changes u) (sym one.0) ∙ one.1,
+          one.2,
+        )
 
-  -- without those changes the later rows answer as they did, and the tree in the end is the same without them
-  rows_without : (cs : List Change) (rows : List (Row O)) (t : Entries) (at : ℕ) → AnswersAlike asks meaning t rows → AreFrom t (inverse_of cs) → first_met asks cs rows at ≡ None
-      → AnswersAlike asks meaning (after_changes (inverse_of cs) t) rows
-      × (replay asks meaning (after_changes (inverse_of cs) t) rows ≡ after_changes (inverse_of cs) (replay asks meaning t rows))
-      × AreFrom (replay asks meaning t rows) (inverse_of cs)
-  rows_without cs [] t at h from none = (tt, refl, from)
-  rows_without cs (row ∷ rows) t at h from none =
-      let parts = not_first (is_some (survivor asks row) && meets cs row.reading) at (first_met asks cs rows (at + 1)) none in
-      let one = row_without cs (survivor asks row) t row h.0 from parts.0 in
-      let rest = rows_without cs rows (after asks meaning (survivor asks row) t) (at + 1) h.1 one.2 parts.1 in
-      ((one.0, subst (λ (u : Entries). AnswersAlike asks meaning u rows) (sym one.1) rest.0), ap (λ (u : Entries). replay asks meaning u rows) one.1 ∙ rest.1, rest.2)
+    -- the rows answer after them as they did, and the tree in the end is the same with them
+    pub rows_apart : (rows : List (Row O)) (t : Entries) (at : ℕ) → AnswersAlike asks meaning t rows → AreFrom t ds → first_met asks cs rows at ≡ None
+        → AnswersAlike asks meaning (after_changes ds t) rows
+        × (replay asks meaning (after_changes ds t) rows ≡ after_changes ds (replay asks meaning t rows))
+        × AreFrom (replay asks meaning t rows) ds
+    rows_apart [] t at h from none = (tt, refl, from)
+    rows_apart (row ∷ rows) t at h from none =
+        let parts = not_first (is_some (survivor asks row) && meets cs row.reading) at (first_met asks cs rows (at + 1)) none in
+        let one = row_apart (survivor asks row) t row h.0 from parts.0 in
+        let rest = rows_apart rows (after asks meaning (survivor asks row) t) (at + 1) h.1 one.2 parts.1 in
+        ((one.0, subst (λ (u : Entries). AnswersAlike asks meaning u rows) (sym one.1) rest.0), ap (λ (u : Entries). replay asks meaning u rows) one.1 ∙ rest.1, rest.2)
 
   removed_first : (rows : List (Row O)) (t : Entries) (at : ℕ) (r : Row O) (c : O) → survivor asks r ≡ Some c → AnswersAlike asks meaning t (r ∷ rows) → first_met asks r.changes rows at ≡ None
       → AnswersAlike asks meaning t rows
@@ -194,19 +209,19 @@ module _ {O : Type 0} {asks : O → Bool} {meaning : O → Inquiry Effect} (laws
       let from : AreFrom t cs = subst (AreFrom t) (sym here.1) (laws.changes c t).from in
       let u : Entries = after_changes cs t in
       let u_is : after asks meaning (survivor asks r) t ≡ u = ap (λ (o : Option O). after asks meaning o t) there ∙ ap (λ (xs : List Change). after_changes xs t) (sym here.1) in
-      let rest = rows_without cs rows u at (subst (λ (x : Entries). AnswersAlike asks meaning x rows) u_is h.1) (inverse_from t cs from) none in
+      let rest = rows_apart cs (inverse_of cs) (untouched-inverse cs) rows u at (subst (λ (x : Entries). AnswersAlike asks meaning x rows) u_is h.1) (inverse_from t cs from) none in
       let back : after_changes (inverse_of cs) u ≡ t = inverse_undoes t cs from in (
         subst (λ (x : Entries). AnswersAlike asks meaning x rows) back rest.0,
         ap (λ (x : Entries). replay asks meaning x rows) (sym back) ∙ rest.1 ∙ ap (λ (x : Entries). after_changes (inverse_of cs) (replay asks meaning x rows)) (sym u_is),
         subst (λ (x : Entries). AreFrom (replay asks meaning x rows) (inverse_of cs)) (sym u_is) rest.2,
       )
 
-  -- THE REMOVAL: where no later survivor looked at what a survivor changed, taking its changes back from the tree gives the
-  -- replay without it, and every other survivor answers as it did.
+  -- THE REMOVAL: where no later survivor looked at what a survivor changed, taking its changes back
+  -- from the tree gives the replay without it, and every other survivor answers as it did.
   pub removed : (rows : List (Row O)) (t : Entries) (k at by : ℕ) (row : Row O) → AnswersAlike asks meaning t rows → slice_get rows k ≡ Some row → is_some (survivor asks row) ≡ true
       → first_met asks row.changes (drop (suc k) rows) at ≡ None
-      → AnswersAlike asks meaning t (mark rows k by)
-      × (replay asks meaning t (mark rows k by) ≡ after_changes (inverse_of row.changes) (replay asks meaning t rows))
+      → AnswersAlike asks meaning t (mark rows k (Some by))
+      × (replay asks meaning t (mark rows k (Some by)) ≡ after_changes (inverse_of row.changes) (replay asks meaning t rows))
       × AreFrom (replay asks meaning t rows) (inverse_of row.changes)
   removed [] t k at by row h is stands none = cc
   removed (r ∷ rows) t zero at by row h is stands none =
@@ -217,24 +232,3 @@ module _ {O : Type 0} {asks : O → Bool} {meaning : O → Inquiry Effect} (laws
   removed (r ∷ rows) t (suc k) at by row h is stands none =
       let rest = removed rows (after asks meaning (survivor asks r) t) k at by row h.1 is stands none in
       ((h.0, rest.0), rest.1, rest.2)
-
-  -- after each call the survivors answer in the replay as their rows say
-  alike-undo : (first : Entries) (operator : List ℕ) (rows : List (Row O)) (n : ℕ) (u : Option UndoRefusal) → undo_refusal asks rows n ≡ u → AnswersAlike asks meaning first rows
-      → AnswersAlike asks meaning first (rows_undone operator rows n u)
-  alike-undo first operator rows n (Some u) is h = alike-push asks meaning first rows (row_of_undo operator n (UndoRefused u)) h tt
-  alike-undo first operator rows zero None is h = cc
-  alike-undo first operator rows (suc k) None is h =
-      let free = free_row asks rows k is in
-      let by = length rows + 1 in
-      let without = removed rows first k (suc k + 1) by free.0 h free.1.here free.1.stands free.1.unblocked in
-      alike-push asks meaning first (mark rows k by) (row_of_undo operator (suc k) (Undid (suc k))) without.0 tt
-
-  alike-after : (first : Entries) (rows : List (Row O)) (call : Call O) → AnswersAlike asks meaning first rows → AnswersAlike asks meaning first (rows_after asks meaning first rows call)
-  alike-after first rows (operator, Do c) h =
-      let t = replay asks meaning first rows in
-      alike-push asks meaning first rows (answered operator c (outcome_of meaning c t)) h (new_row operator c t).1
-  alike-after first rows (operator, Undo n) h = alike-undo first operator rows n (undo_refusal asks rows n) refl h
-
-  pub alike-run : (first : Entries) (rows : List (Row O)) (calls : List (Call O)) → AnswersAlike asks meaning first rows → AnswersAlike asks meaning first (run asks meaning first rows calls)
-  alike-run first rows [] h = h
-  alike-run first rows (call ∷ calls) h = alike-run first (rows_after asks meaning first rows call) calls (alike-after first rows call h)

@@ -1,9 +1,9 @@
--- Which rows stand in the way of an undo, as a relation between two rows, and what each refusal of an undo says.
+-- Which rows block an undo, as a relation between two rows, and what each refusal of an undo says.
 use Rattle.std.specs.Prelude.{◌≡◌, ◌<◌, ◌≤◌, ℕ, Bool, true, Option, Some, None, is_some, List, length, Any}
 use Rattle.footprint.specs.Keys.{touches}
 use Rattle.history.specs.declared.row.Row.{Row}
 use Rattle.history.specs.declared.row.RowReply.{RowReply}
-use Rattle.history.specs.declared.row.RowReply.TheVariants.{Answered, Undid, UndoRefused}
+use Rattle.history.specs.declared.row.RowReply.TheVariants.{Answered, Undid, UndoRefused, Redid, RedoRefused}
 use Rattle.history.specs.declared.row.UndoRefusal.{UndoRefusal}
 use Rattle.history.specs.declared.row.UndoRefusal.TheVariants.{NoSuchRow, NotACommand, AlreadyUndone, Blocked}
 use Rattle.history.specs.Rows.{row_at, accepted, survivor}
@@ -17,6 +17,8 @@ abbrev pub refusal_told : RowReply → Option UndoRefusal
 refusal_told (Answered answer) = None
 refusal_told (Undid n) = None
 refusal_told (UndoRefused refusal) = Some refusal
+refusal_told (Redid n) = None
+refusal_told (RedoRefused refusal) = None
 
 module _ {O : Type 0} (asks : O → Bool) where
   -- The row of this number is this one, and it survives.
@@ -27,7 +29,7 @@ module _ {O : Type 0} (asks : O → Bool) where
   abbrev pub Blocks : List (Row O) → (n m : ℕ) → Type 0
   Blocks rows n m = (row later : Row O) × Survives rows n row × Survives rows m later × (n < m) × LookedAt row later
 
-  -- Of the rows that block row n it is the first; there is none where none does.
+  -- It is the first of the rows that block row n, or there is none if none does.
   abbrev pub IsFirstToBlock : List (Row O) → ℕ → Option ℕ → Type 0
   IsFirstToBlock rows n (Some m) = Blocks rows n m × ((k : ℕ) → Blocks rows n k → m ≤ k)
   IsFirstToBlock rows n None = (k : ℕ) → Blocks rows n k → ⊥
@@ -41,6 +43,6 @@ module _ {O : Type 0} (asks : O → Bool) where
   IsRefusedBy rows n (Some (Blocked m)) = IsFirstToBlock rows n (Some m)
   IsRefusedBy rows n None = (row : Row O) × Survives rows n row × IsFirstToBlock rows n None
 
-  -- The last row tells it.
+  -- The last row says so.
   abbrev pub TellsRefusal : (old new : List (Row O)) → ℕ → Type 0
   TellsRefusal old new n = (row : Row O) → row_at new (length new) ≡ Some row → IsRefusedBy old n (refusal_told row.reply)

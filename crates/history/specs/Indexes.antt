@@ -19,7 +19,8 @@ module _ {O : Type 0} (asks : O → Bool) where
   abbrev pub Agrees : Readers → List (Row O) → Type 0
   Agrees readers rows = (key : Key) (i : ℕ) → reads readers key i ≡ is_reader (row_at rows i) key
 
-  -- Row n is listed under the keys of its reading, if it is that of a command that was accepted; all else is as before.
+  -- Row n is listed under the keys of its reading, if it is that of a command that was accepted;
+  -- all else is as before.
   abbrev pub IsListedIfAccepted : O → Outcome → ℕ → Readers → Readers → Type 0
   IsListedIfAccepted c outcome n old new =
       (key : Key) (i : ℕ) → reads new key i ≡ ((is_some (command_of asks c outcome.answer) && (is_read outcome.reading key && is_at (nat_cmp n) i)) || reads old key i)

@@ -1,6 +1,8 @@
 pub mod Operators
 pub mod Rows
+pub mod Toggles
 pub mod Blocks
+pub mod Hindrances
 pub mod Indexes
 pub mod Logs
 pub mod Plans

@@ -1,4 +1,5 @@
--- Plans: an operation with what it came to on some tree. What a commit of one does, and when it is stale.
+-- Plans: an operation with its outcome on some tree. What a commit of one does, and when it is
+-- stale.
 use Rattle.std.specs.Prelude.{◌≡◌, ℕ, ◌<◌, Bool, true, List, All, length, refl}
 use Rattle.unit_paths.specs.Slots.{is_slot}
 use Rattle.link_tree.specs.Trees.{Entries}
@@ -13,7 +14,7 @@ use Rattle.history.specs.declared.row.Request.TheVariants.{Do}
 use Rattle.history.specs.Logs.{Log}
 use Rattle.history.specs.Rows.{replay, rows_after, IdleStays}
 
--- An operation, and what it came to: its answer, its changes, and what it looked at.
+-- An operation and its outcome: its answer, its changes, and what it looked at.
 pub record Planned (O : Type 0) : Type 0 where
   pub operation : O
   pub outcome : Outcome
@@ -46,8 +47,9 @@ module _ {O : Type 0} (asks : O → Bool) (meaning : O → Inquiry Effect) where
   abbrev pub IsStaleAt : Log O → Planned O → Key → Type 0
   IsStaleAt log plan key = IsFirstOther (replay asks meaning log.first log.rows) plan.outcome.reading key
 
-  -- What a commit does. Where the tree agrees with all that the plan looked at, the plan is the one that would be made now, and the
-  -- rows are those after a call of its operation; else the plan is stale at the first key that differs, and nothing changes.
+  -- What a commit does. If the tree agrees with all that the plan looked at, the plan is the one
+  -- that would be made now, and the rows are those after a call of its operation. Otherwise the
+  -- plan is stale at the first key that differs, and nothing changes.
   abbrev pub IsCommit : Log O → List ℕ → Planned O → Log O → Commit (Planned O) → Type 0
   IsCommit old operator plan new (Committed n) =
       AgreesWith old plan

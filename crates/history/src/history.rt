@@ -3,20 +3,23 @@ ghost use Rattle.std.specs.Prelude.{◌≡◌, ◌≤◌, ◌<◌, ◌+◌, ◌�
 ghost use Rattle.unit_paths.specs.Slots.{is_slot};
 ghost use Rattle.link_tree.specs.Trees.{AreFrom, after_changes};
 ghost use Rattle.footprint.specs.declared.key.Key.{Key};
-ghost use Rattle.readers.specs.Readers.{reads, AreAlike};
+ghost use Rattle.readers.specs.Readers.{reads, IsListed, AreAlike};
 ghost use Rattle.history.specs.Logs.{Log};
 ghost use Rattle.history.specs.Plans.{planned, AgreesWith, IsCommit};
 ghost use Rattle.history.specs.Blocks.{IsFirstToBlock, TellsRefusal};
+ghost use Rattle.history.specs.Hindrances.{IsFirstToHinder, TellsRedoRefusal};
+ghost use Rattle.history.specs.Toggles.{AllAlternate, AreLinked};
 ghost use Rattle.history.specs.Indexes.{Agrees, IsListedIfAccepted};
-ghost use Rattle.history.specs.Rows.{blocker, readers_of, undo_refusal, rows_undone, rows_after, survivors, after_commands, replay, run, calls_of, AnswersAlike, AreMarked, IdleStays, GivesBack};
-ghost use Rattle.history.specs.declared.row.Request.TheVariants.{Do, Undo};
+ghost use Rattle.history.specs.Rows.{blocker, hindrance, readers_of, undo_refusal, redo_refusal, rows_undone, rows_redone, rows_after, survivors, after_commands, replay, run, calls_of, AnswersAlike, AreMarked, MarksAgree, IdleStays, GivesBack, Restores};
+ghost use Rattle.history.specs.declared.row.Request.TheVariants.{Do, Undo, Redo};
 ghost use Rattle.history.specs.declared.history.CallError.TheVariants.{OutOfMemory};
 ghost use Rattle.history.specs.declared.plan.Commit.TheVariants.{Stale};
 
 use crate::operator::Operator;
 use crate::plan::{Commit, Plan, Uncommitted};
-use crate::row::{Row, RowReply, UndoRefusal, is_refused};
-use footprint::{Key, Operation, Outcome, agrees};
+use crate::row::{RedoRefusal, Request, Row, RowReply, UndoRefusal, is_refused};
+use crate::toggles::{first_flipped, relink};
+use footprint::{Key, Operation, Outcome, Reading, agrees};
 use link_tree::{Change, Tree};
 use readers::Readers;
 use std::alloc::{AllocError, AllocFailed, Global};
@@ -56,13 +59,15 @@ pub struct Unrun<O> {
     pub why: CallError,
 }
 
-/// All calls on a tree, from the first on. Contracts see the first tree, the rows, and how many there may be.
+/// All calls on a tree, from the first on. Contracts see the first tree, the rows, and the limit on
+/// their number.
 #[derive(Drop)]
 pub struct History<O: Operation> {
     first: Tree,
     tree: Tree,
     rows: Vec<Row<O>>,
     readers: Readers,
+    links: Vec<u32>,
     limit: usize,
 }
 
@@ -77,6 +82,7 @@ impl<O: Operation> Model for History<O> {
     ghost use Rattle.history.specs.declared.row.Row.{Row};
     ghost use Rattle.history.specs.Logs.{Log, parts_of, of_parts, of_own_parts};
     ghost use Rattle.history.specs.Rows.{IsKept};
+    ghost use Rattle.history.specs.Toggles.{AreLinked};
     ghost use Rattle.history.specs.Indexes.{Agrees};
 
     ghost Value = { Log O };
@@ -85,7 +91,7 @@ impl<O: Operation> Model for History<O> {
 
     ghost view = { λ history. record { first = history.first; rows = history.rows.items; limit = history.limit } };
 
-    ghost invariant = { λ history. IsKept O.asks O.meaning history.first history.tree history.rows.items history.limit × Agrees O.asks history.readers history.rows.items };
+    ghost invariant = { λ history. IsKept O.asks O.meaning history.first history.tree history.rows.items history.limit × Agrees O.asks history.readers history.rows.items × AreLinked history.links.items history.rows.items };
 }
 
 impl<O: Operation> History<O> {
@@ -107,6 +113,7 @@ impl<O: Operation> History<O> {
             tree,
             rows: Vec::new(alloc),
             readers: Readers::none(alloc),
+            links: Vec::new(alloc),
             limit,
         })
     }
@@ -126,8 +133,9 @@ impl<O: Operation> History<O> {
         &self.tree
     }
 
-    /// A row for each call, as the machine makes them that runs everything anew for each. A surviving command answers, changes
-    /// and sees in the replay what its row says, and the rows that are undone are those of which there is an accepted undo.
+    /// A row for each call, as made by a machine that runs everything again for each call. In the
+    /// replay a surviving command answers, changes and sees what its row says. A row is undone if
+    /// the last accepted undo or redo that names it is an undo.
     pub fn rows(&self) -> &[Row<O>]
         ensures rows { result.now ≡ self.now.rows }
         ensures legal { self.now.rows ≡ run O.asks O.meaning self.now.first [] (calls_of self.now.rows) }
@@ -147,14 +155,29 @@ impl<O: Operation> History<O> {
         blocker(&self.rows, &self.readers, n)
     }
 
-    /// The survivors that looked at what a change touches, in ascending order. Fails only where memory runs out.
+    /// The first row that hinders a redo of the undone command n: an earlier command that changed
+    /// what row n looked at, and survives now but did not when row n was undone, or did then and
+    /// does not now; or a later survivor that looked at what row n changed. None if row n is no
+    /// undone command, or nothing hinders it. Takes no memory.
+    pub fn hindrance(&self, n: u32) -> Option<u32>
+        ensures found { result ≡ hindrance O.asks self.now.rows n }
+        ensures first { IsFirstToHinder O.asks self.now.rows n result }
+    {
+        hindrance(&self.rows, &self.links, &self.readers, n)
+    }
+
+    /// The survivors that looked at what a change touches, in ascending order. Fails only if memory
+    /// runs out.
     pub fn readers(&self, alloc: Global, change: &Change) -> Result<Vec<u32>, AllocError>
         ensures { IfOk result (λ numbers. numbers.items ≡ readers_of O.asks self.now.rows change.now) }
     {
         Ok(self.readers.all(alloc, change)?)
     }
 
-    /// Runs an operation on the tree, and gives the new row's number. An operation that is not run comes back.
+    /// Runs an operation on the tree, and returns the new row's number.
+    ///
+    /// The error is `Full` if the history has as many rows as it may have, else `OutOfMemory`. It
+    /// hands the operation back.
     pub fn call(&mut self, alloc: Global, operator: Operator, operation: O) -> Result<u32, Unrun<O>>
         ensures first { self.new.first ≡ self.old.first }
         ensures limit { self.new.limit ≡ self.old.limit }
@@ -182,10 +205,12 @@ impl<O: Operation> History<O> {
         }
     }
 
-    /// Commits a plan: where the tree agrees with all that the plan looked at, its row is added, as a call of its operation would add it, and
-    /// its number is given. Else the plan is stale, and the first key at which the tree differs is named. A plan that makes no row comes back.
+    /// Commits a plan. If the tree agrees with all that the plan looked at, its row is added, as a
+    /// call of its operation would add it, and its number is returned. Otherwise the plan is stale:
+    /// it is handed back with the first key at which the tree differs.
     ///
-    /// The error is `Full` where the tree agrees and the history has as many rows as it may have; else `OutOfMemory`.
+    /// The error is `Full` if the tree agrees and the history has as many rows as it may have, else
+    /// `OutOfMemory`. It hands the plan back.
     pub fn commit(
         &mut self,
         operator: Operator,
@@ -242,7 +267,8 @@ impl<O: Operation> History<O> {
         self.rows.len() == self.limit
     }
 
-    /// Adds the row of a plan that the tree agrees with, and makes its changes. A plan for which memory is wanting comes back.
+    /// Adds the row of a plan that the tree agrees with, and makes its changes. If memory runs out,
+    /// it hands the plan back.
     fn add(&mut self, operator: Operator, plan: Plan<O>) -> Result<u32, Plan<O>>
         requires room { length self.old.rows < self.old.limit }
         requires agrees { AgreesWith O.asks O.meaning self.old plan }
@@ -257,6 +283,7 @@ impl<O: Operation> History<O> {
     {
         match make_room(
             &mut self.rows,
+            &mut self.links,
             &mut self.readers,
             &mut self.tree,
             &plan.operation,
@@ -267,12 +294,16 @@ impl<O: Operation> History<O> {
                 let Plan { operation, outcome } = plan;
                 self.rows
                     .push_reserved(Row::answered(operator, operation, outcome));
+                self.links.push_reserved(0);
                 Ok(self.rows.len() as u32)
             }
         }
     }
 
-    /// Undoes row n, from 1 on, unless that is refused, and gives the new row's number.
+    /// Undoes row n (rows count from 1) unless that is refused, and returns the new row's number.
+    /// The new row says why it is refused.
+    ///
+    /// The error is `Full` if the history has as many rows as it may have, else `OutOfMemory`.
     pub fn undo(&mut self, alloc: Global, operator: Operator, n: u32) -> Result<u32, CallError>
         ensures first { self.new.first ≡ self.old.first }
         ensures limit { self.new.limit ≡ self.old.limit }
@@ -291,7 +322,7 @@ impl<O: Operation> History<O> {
         Ok(self.add_undo(alloc, operator, n)?)
     }
 
-    /// The row of an undo, and what it does.
+    /// Adds the row of an undo, and does what it does.
     fn add_undo(&mut self, alloc: Global, operator: Operator, n: u32) -> Result<u32, AllocError>
         requires room { length self.old.rows < self.old.limit }
         ensures first { self.new.first ≡ self.old.first }
@@ -321,9 +352,11 @@ impl<O: Operation> History<O> {
         ensures number { IfOk result (λ m. m ≡ length self.new.rows) }
         ensures err { OnErr result (self.new ≡ self.old) }
     {
-        self.rows.reserve(1)?;
-        let row = Row::of_undo(alloc, operator, n, RowReply::UndoRefused(refusal));
+        reserve(&mut self.rows, &mut self.links)?;
+        let reply = RowReply::UndoRefused(refusal);
+        let row = Row::bare(alloc, operator, Request::Undo(n), reply);
         self.rows.push_reserved(row);
+        self.links.push_reserved(0);
         Ok(self.rows.len() as u32)
     }
 
@@ -338,18 +371,110 @@ impl<O: Operation> History<O> {
     {
         let place = n as usize - 1;
         let back = self.rows[place].changes.inverse()?;
-        self.rows.reserve(1)?;
+        reserve(&mut self.rows, &mut self.links)?;
         self.tree.make_changes(back.as_slice())?;
         self.readers.remove(&self.rows[place].reading, n);
-        let row = Row::of_undo(alloc, operator, n, RowReply::Undid(n));
+        let row = Row::bare(alloc, operator, Request::Undo(n), RowReply::Undid(n));
         self.rows.push_reserved(row);
         let by = self.rows.len() as u32;
         self.rows[place].undone_by = Some(by);
+        relink(&mut self.links, n, by);
+        Ok(by)
+    }
+
+    /// Redoes row n (rows count from 1) unless that is refused, and returns the new row's number. A
+    /// command that is redone is in effect again at its own place: it and every other survivor
+    /// answer as they did. The new row says why it is refused.
+    ///
+    /// The error is `Full` if the history has as many rows as it may have, else `OutOfMemory`.
+    pub fn redo(&mut self, alloc: Global, operator: Operator, n: u32) -> Result<u32, CallError>
+        ensures first { self.new.first ≡ self.old.first }
+        ensures limit { self.new.limit ≡ self.old.limit }
+        ensures rows { OnOk result (self.new.rows ≡ rows_after O.asks O.meaning self.old.first self.old.rows (operator, Redo n)) }
+        ensures number { IfOk result (λ m. m ≡ length self.new.rows) }
+        ensures idle { OnOk result (IdleStays O.asks O.meaning self.old.first self.old.rows self.new.rows) }
+        ensures why { OnOk result (TellsRedoRefusal O.asks self.old.rows self.new.rows n) }
+        ensures restored { OnOk result (Restores O.asks O.meaning self.old.first self.old.rows n self.new.rows) }
+        ensures err { OnErr result (self.new ≡ self.old) }
+        ensures full { IfErr result (λ why. (why ≡ CallError.Full) ↔ (length self.old.rows ≡ self.old.limit)) }
+        ensures room { OnOk result (length self.old.rows < self.old.limit) }
+    {
+        if self.is_full() {
+            Err(CallError::Full)
+        } else {
+            Ok(self.add_redo(alloc, operator, n)?)
+        }
+    }
+
+    /// Adds the row of a redo, and does what it does.
+    fn add_redo(&mut self, alloc: Global, operator: Operator, n: u32) -> Result<u32, AllocError>
+        requires room { length self.old.rows < self.old.limit }
+        ensures first { self.new.first ≡ self.old.first }
+        ensures limit { self.new.limit ≡ self.old.limit }
+        ensures legal { self.old.rows ≡ run O.asks O.meaning self.old.first [] (calls_of self.old.rows) }
+        ensures rows { OnOk result (self.new.rows ≡ rows_redone operator self.old.rows n (redo_refusal O.asks self.old.rows n)) }
+        ensures number { IfOk result (λ m. m ≡ length self.new.rows) }
+        ensures err { OnErr result (self.new ≡ self.old) }
+    {
+        match redo_refusal(&self.rows, &self.links, &self.readers, n) {
+            Some(refusal) => self.refuse_redo(alloc, operator, n, refusal),
+            None => self.put_back(alloc, operator, n),
+        }
+    }
+
+    fn refuse_redo(
+        &mut self,
+        alloc: Global,
+        operator: Operator,
+        n: u32,
+        refusal: RedoRefusal,
+    ) -> Result<u32, AllocError>
+        requires room { length self.old.rows < self.old.limit }
+        requires why { redo_refusal O.asks self.old.rows n ≡ Some refusal }
+        ensures first { self.new.first ≡ self.old.first }
+        ensures limit { self.new.limit ≡ self.old.limit }
+        ensures rows { OnOk result (self.new.rows ≡ rows_redone operator self.old.rows n (Some refusal)) }
+        ensures number { IfOk result (λ m. m ≡ length self.new.rows) }
+        ensures err { OnErr result (self.new ≡ self.old) }
+    {
+        reserve(&mut self.rows, &mut self.links)?;
+        let reply = RowReply::RedoRefused(refusal);
+        let row = Row::bare(alloc, operator, Request::Redo(n), reply);
+        self.rows.push_reserved(row);
+        self.links.push_reserved(0);
+        Ok(self.rows.len() as u32)
+    }
+
+    fn put_back(&mut self, alloc: Global, operator: Operator, n: u32) -> Result<u32, AllocError>
+        requires room { length self.old.rows < self.old.limit }
+        requires free { redo_refusal O.asks self.old.rows n ≡ None }
+        ensures first { self.new.first ≡ self.old.first }
+        ensures limit { self.new.limit ≡ self.old.limit }
+        ensures rows { OnOk result (self.new.rows ≡ rows_redone operator self.old.rows n None) }
+        ensures number { IfOk result (λ m. m ≡ length self.new.rows) }
+        ensures err { OnErr result (self.new ≡ self.old) }
+    {
+        let place = n as usize - 1;
+        reserve(&mut self.rows, &mut self.links)?;
+        let again = &self.rows[place];
+        make_again(
+            alloc,
+            &mut self.readers,
+            &mut self.tree,
+            again.changes.as_slice(),
+            &again.reading,
+            n,
+        )?;
+        let row = Row::bare(alloc, operator, Request::Redo(n), RowReply::Redid(n));
+        self.rows.push_reserved(row);
+        let by = self.rows.len() as u32;
+        self.rows[place].undone_by = None;
+        relink(&mut self.links, n, by);
         Ok(by)
     }
 }
 
-/// A plan that is stale at a key, unless memory was wanting to copy the key.
+/// A plan that is stale at a key, unless memory ran out when the key was copied.
 fn stale<P: Drop>(plan: P, at: Result<Key, AllocError>) -> Result<Commit<P>, Uncommitted<P>>
     ensures stale { IfOk result (λ done. (key : Key) × (at ≡ Ok key) × (done ≡ Stale plan key)) }
     ensures handed_back { IfErr result (λ left. left.plan ≡ plan) }
@@ -364,7 +489,8 @@ fn stale<P: Drop>(plan: P, at: Result<Key, AllocError>) -> Result<Commit<P>, Unc
     }
 }
 
-/// Lists row n in the index under the keys that its operation looked at, where it is a command that was accepted.
+/// Lists row n in the index under the keys that its operation looked at, if it is a command that
+/// was accepted.
 fn list<O: Operation>(
     alloc: Global,
     readers: &mut Readers,
@@ -383,9 +509,22 @@ fn list<O: Operation>(
     }
 }
 
-/// Makes room for a row, lists it in the index, and makes its changes of the tree, the row itself not yet. Where memory runs out, all is as before.
+/// Makes room for a row and its link. If memory runs out, all is as before.
+fn reserve<O: Operation>(rows: &mut Vec<Row<O>>, links: &mut Vec<u32>) -> Result<(), AllocError>
+    ensures rows { rows.new.items ≡ rows.old.items }
+    ensures links { links.new.items ≡ links.old.items }
+    ensures row_room { OnOk result (vec_len rows.new < vec_capacity rows.new) }
+    ensures link_room { OnOk result (vec_len links.new < vec_capacity links.new) }
+{
+    rows.reserve(1)?;
+    links.reserve(1)
+}
+
+/// Makes room for a row and its link, lists the row in the index, and makes its changes of the
+/// tree; the row itself is not added yet. If memory runs out, all is as before.
 fn make_room<O: Operation>(
     rows: &mut Vec<Row<O>>,
+    links: &mut Vec<u32>,
     readers: &mut Readers,
     tree: &mut Tree,
     operation: &O,
@@ -396,13 +535,15 @@ fn make_room<O: Operation>(
     requires few { length rows.old.items < 1000000 }
     requires fresh { (k : Key) → reads readers.old k (length rows.old.items + 1) ≡ false }
     ensures items { rows.new.items ≡ rows.old.items }
+    ensures links { links.new.items ≡ links.old.items }
     ensures room { OnOk result (vec_len rows.new < vec_capacity rows.new) }
+    ensures link_room { OnOk result (vec_len links.new < vec_capacity links.new) }
     ensures listed { OnOk result (IsListedIfAccepted O.asks operation.now outcome.now (length rows.old.items + 1) readers.old readers.new) }
     ensures unlisted { OnErr result (AreAlike readers.old readers.new) }
     ensures after { OnOk result (tree.new ≡ after_changes outcome.now.changes tree.old) }
     ensures err { OnErr result (tree.new ≡ tree.old) }
 {
-    rows.reserve(1)?;
+    reserve(rows, links)?;
     let alloc = *rows.allocator();
     let n = rows.len() as u32 + 1;
     list(alloc, readers, operation, outcome, n)?;
@@ -449,5 +590,83 @@ fn blocker<O: Operation>(rows: &[Row<O>], readers: &Readers, n: u32) -> Option<u
         readers.first_after(row.changes.as_slice(), n)
     } else {
         None
+    }
+}
+
+/// Lists row n in the index again, and makes its changes again; its row is still marked as undone.
+/// If memory runs out, all is as before.
+fn make_again(
+    alloc: Global,
+    readers: &mut Readers,
+    tree: &mut Tree,
+    changes: &[Change],
+    reading: &Reading,
+    n: u32,
+) -> Result<(), AllocError>
+    requires slots { All (λ change. is_slot change.path ≡ true) changes.now }
+    requires from { AreFrom tree.old changes.now }
+    requires unlisted { (k : Key) → reads readers.old k n ≡ false }
+    ensures listed { OnOk result (IsListed reading.now n readers.old readers.new) }
+    ensures alike { OnErr result (AreAlike readers.old readers.new) }
+    ensures after { OnOk result (tree.new ≡ after_changes changes.now tree.old) }
+    ensures err { OnErr result (tree.new ≡ tree.old) }
+{
+    readers.add(alloc, reading, n)?;
+    match tree.make_changes(changes) {
+        Ok(()) => Ok(()),
+        Err(error) => {
+            readers.remove(reading, n);
+            Err(error)
+        }
+    }
+}
+
+/// Why a redo of row n is refused, if it is.
+fn redo_refusal<O: Operation>(
+    rows: &[Row<O>],
+    links: &[u32],
+    readers: &Readers,
+    n: u32,
+) -> Option<RedoRefusal>
+    requires few { length rows.now ≤ 1000000 }
+    requires agrees { Agrees O.asks readers.now rows.now }
+    requires linked { AreLinked links.now rows.now }
+    requires marks { MarksAgree rows.now }
+    requires alternate { AllAlternate rows.now }
+    ensures { result ≡ redo_refusal O.asks rows.now n }
+{
+    let place = n as usize;
+    if place == 0 || place > rows.len() {
+        return Some(RedoRefusal::NoSuchRow);
+    }
+    match rows[place - 1].redo_refusal() {
+        Some(refusal) => Some(refusal),
+        None => match hindrance(rows, links, readers, n) {
+            Some(m) => Some(RedoRefusal::Hindered(m)),
+            None => None,
+        },
+    }
+}
+
+/// The first row that hinders a redo of row n, if it is an undone command.
+fn hindrance<O: Operation>(rows: &[Row<O>], links: &[u32], readers: &Readers, n: u32) -> Option<u32>
+    requires few { length rows.now ≤ 1000000 }
+    requires agrees { Agrees O.asks readers.now rows.now }
+    requires linked { AreLinked links.now rows.now }
+    requires marks { MarksAgree rows.now }
+    requires alternate { AllAlternate rows.now }
+    ensures { result ≡ hindrance O.asks rows.now n }
+{
+    let place = n as usize;
+    if place == 0 || place > rows.len() {
+        return None;
+    }
+    let undone = &rows[place - 1];
+    match undone.undone_command() {
+        None => None,
+        Some(by) => match first_flipped(rows, links, by, undone.reading.as_slice(), n) {
+            Some(k) => Some(k),
+            None => readers.first_after(undone.changes.as_slice(), n),
+        },
     }
 }

@@ -3,13 +3,15 @@ ghost use Rattle.history.specs.Laws.{SurvivorsAloneRemain, AgreedPlansAreNew};
 
 use footprint::Operation;
 
-/// Whatever calls and commits are made on whatever tree, the rows tell what the surviving commands alone would do, and a survivor that
-/// no row blocks can be removed.
+/// Whatever calls and commits are made on whatever tree, the rows say what the surviving commands
+/// alone would do. A survivor that no row blocks can be removed, and an undone command that no row
+/// hinders can be put back.
 pub fn survivors_alone_remain<O: Operation>()
     ensures { SurvivorsAloneRemain O.asks O.meaning }
 {}
 
-/// A tree agrees with all that a plan looked at exactly where a plan of the same operation, made on that tree, is the same plan.
+/// A tree agrees with all that a plan looked at exactly if a plan of the same operation, made on
+/// that tree, is the same plan.
 pub fn agreed_plans_are_new<O: Operation>()
     ensures { AgreedPlansAreNew O.meaning }
 {}

@@ -9,8 +9,9 @@ use link_tree::Tree;
 use std::alloc::{AllocError, Global};
 use std::marker::Model;
 
-/// An operation with what it came to on a tree: its answer, its changes, and what it looked at. It holds no tree: the one on which it
-/// was made may have changed since, or be gone. Contracts see the operation and its outcome.
+/// An operation with its outcome on a tree: its answer, its changes, and what it looked at. It
+/// holds no tree: the one on which it was made may have changed since, or may no longer exist.
+/// Contracts see the operation and its outcome.
 #[derive(Drop)]
 pub struct Plan<O: Operation> {
     pub(crate) operation: O,
@@ -37,7 +38,8 @@ impl<O: Operation> Model for Plan<O> {
 }
 
 impl<O: Operation> Plan<O> {
-    /// Runs an operation on a tree, which stays as it is. Fails only where memory runs out, and then the operation comes back.
+    /// Runs an operation on a tree, which stays as it is. Fails only if memory runs out, and then
+    /// hands the operation back.
     pub fn make(alloc: Global, operation: O, tree: &Tree) -> Result<Plan<O>, Unrun<O>>
         ensures plan { IfOk result (λ plan. plan ≡ planned O.meaning operation tree.now) }
         ensures handed_back { IfErr result (λ unrun. unrun.operation ≡ operation) }
@@ -61,7 +63,7 @@ impl<O: Operation> Plan<O> {
         operation
     }
 
-    /// What the operation answered on its tree. Where the plan is committed, its row has this answer.
+    /// What the operation answered on its tree. If the plan is committed, its row has this answer.
     pub fn answer(&self) -> &Answer
         ensures { result.now ≡ self.now.outcome.answer }
     {
@@ -76,7 +78,7 @@ impl<O: Operation> Plan<O> {
     }
 }
 
-/// What became of a plan that was to be committed.
+/// The result of a commit.
 #[derive(Debug, Drop)]
 pub enum Commit<P> {
     /// The tree agreed with all that the plan looked at, and the row of this number was made.
@@ -85,7 +87,8 @@ pub enum Commit<P> {
     Stale { plan: P, at: Key },
 }
 
-/// A plan that the tree agrees with and that still made no row, and why; or one whose key couldn't be copied for want of memory.
+/// A plan that made no row although the tree agrees with it, and why; or one whose key could not be
+/// copied since memory ran out.
 #[derive(Debug, Drop)]
 pub struct Uncommitted<P> {
     pub plan: P,

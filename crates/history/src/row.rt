@@ -1,27 +1,29 @@
 //! Calls with their replies.
 ghost use Rattle.std.specs.Prelude.{◌≡◌, ◌↔◌, IfOk, IsTrue, is_some};
 ghost use Rattle.footprint.specs.Operations.{is_refused};
-ghost use Rattle.history.specs.Rows.{accepted, survivor, row_refusal, row_of_undo, answered};
+ghost use Rattle.history.specs.Rows.{accepted, survivor, row_refusal, undone_command, row_redo_refusal, bare, answered};
 
 use crate::operator::Operator;
 use footprint::{Answer, Changes, Operation, Outcome, Reading};
 use std::alloc::{AllocError, Global};
 
-/// An operation, or an undo of the row of this number.
+/// An operation, or an undo or a redo of the row of this number.
 #[derive(Debug, Drop)]
 pub enum Request<O> {
     Do(O),
     Undo(u32),
+    Redo(u32),
 }
 
 impl<O: Operation> Request<O> {
-    /// An equal request. Fails only where memory runs out.
+    /// An equal request. Fails only if memory runs out.
     pub fn copy(&self) -> Result<Request<O>, AllocError>
         ensures { IfOk result (λ request. request ≡ self.now) }
     {
         match self {
             Request::Do(operation) => Ok(Request::Do(operation.copy()?)),
             Request::Undo(n) => Ok(Request::Undo(*n)),
+            Request::Redo(n) => Ok(Request::Redo(*n)),
         }
     }
 
@@ -32,6 +34,7 @@ impl<O: Operation> Request<O> {
         match (self, other) {
             (Request::Do(one), Request::Do(other)) => one.same(other),
             (Request::Undo(one), Request::Undo(other)) => one == other,
+            (Request::Redo(one), Request::Redo(other)) => one == other,
             _ => false,
         }
     }
@@ -50,6 +53,21 @@ pub enum UndoRefusal {
     Blocked(u32),
 }
 
+/// Why a redo was refused, in the order in which the reasons are tried.
+#[derive(Clone, Copy, Debug, PartialEq, Eq)]
+pub enum RedoRefusal {
+    /// No row has the number.
+    NoSuchRow,
+    /// The row is no accepted command.
+    NotACommand,
+    /// The row survives.
+    NotUndone,
+    /// This row is the first that hinders it: a later command that survives and looked at what the
+    /// row changed; or an earlier command that changed what the row looked at, and survives now but
+    /// did not when the row was undone, or did then and does not now.
+    Hindered(u32),
+}
+
 /// What a call was answered.
 #[derive(Debug, Drop)]
 pub enum RowReply {
@@ -57,10 +75,13 @@ pub enum RowReply {
     /// The row of this number was taken back.
     Undid(u32),
     UndoRefused(UndoRefusal),
+    /// The row of this number is in effect again, at its own place.
+    Redid(u32),
+    RedoRefused(RedoRefusal),
 }
 
 impl RowReply {
-    /// An equal reply.
+    /// An equal reply. Fails only if memory runs out.
     pub fn copy(&self) -> Result<RowReply, AllocError>
         ensures { IfOk result (λ reply. reply ≡ self.now) }
     {
@@ -68,6 +89,8 @@ impl RowReply {
             RowReply::Answered(answer) => Ok(RowReply::Answered(answer.copy()?)),
             RowReply::Undid(n) => Ok(RowReply::Undid(*n)),
             RowReply::UndoRefused(refusal) => Ok(RowReply::UndoRefused(*refusal)),
+            RowReply::Redid(n) => Ok(RowReply::Redid(*n)),
+            RowReply::RedoRefused(refusal) => Ok(RowReply::RedoRefused(*refusal)),
         }
     }
 
@@ -79,12 +102,15 @@ impl RowReply {
             (RowReply::Answered(one), RowReply::Answered(other)) => one.same(other),
             (RowReply::Undid(one), RowReply::Undid(other)) => one == other,
             (RowReply::UndoRefused(one), RowReply::UndoRefused(other)) => one == other,
+            (RowReply::Redid(one), RowReply::Redid(other)) => one == other,
+            (RowReply::RedoRefused(one), RowReply::RedoRefused(other)) => one == other,
             _ => false,
         }
     }
 }
 
-/// A call, what it was answered, what it changed and looked at, and the row that undid it.
+/// A call, what it was answered, what it changed and looked at, and the row that undid it as long
+/// as it is undone.
 #[derive(Debug, Drop)]
 pub struct Row<O> {
     pub operator: Operator,
@@ -117,13 +143,18 @@ impl<O: Operation> Row<O> {
         }
     }
 
-    /// The row of an undo, which holds no changes of its own and looked at nothing.
-    pub(crate) fn of_undo(alloc: Global, operator: Operator, n: u32, reply: RowReply) -> Row<O>
-        ensures { result ≡ row_of_undo operator n reply }
+    /// The row of an undo or a redo, which holds no changes of its own and looked at nothing.
+    pub(crate) fn bare(
+        alloc: Global,
+        operator: Operator,
+        request: Request<O>,
+        reply: RowReply,
+    ) -> Row<O>
+        ensures { result ≡ bare operator request reply }
     {
         Row {
             operator,
-            request: Request::Undo(n),
+            request,
             reply,
             changes: Changes::none(alloc),
             reading: Reading::none(alloc),
@@ -131,7 +162,7 @@ impl<O: Operation> Row<O> {
         }
     }
 
-    /// Whether it is a command that was accepted; what only asks is none.
+    /// Whether it is an accepted command. A question is not a command.
     pub fn is_command(&self) -> bool
         ensures { result ≡ is_some (accepted O.asks self.now.request self.now.reply) }
     {
@@ -161,6 +192,30 @@ impl<O: Operation> Row<O> {
             self.undone_by.map(UndoRefusal::AlreadyUndone)
         } else {
             Some(UndoRefusal::NotACommand)
+        }
+    }
+
+    /// The row that undid it, if it is a command that is undone.
+    pub(crate) fn undone_command(&self) -> Option<u32>
+        ensures { result ≡ undone_command (accepted O.asks self.now.request self.now.reply) self.now.undone_by }
+    {
+        if self.is_command() {
+            self.undone_by
+        } else {
+            None
+        }
+    }
+
+    /// Why it can't be redone, whatever the other rows are.
+    pub fn redo_refusal(&self) -> Option<RedoRefusal>
+        ensures { result ≡ row_redo_refusal (accepted O.asks self.now.request self.now.reply) self.now.undone_by }
+    {
+        if !self.is_command() {
+            return Some(RedoRefusal::NotACommand);
+        }
+        match self.undone_by {
+            None => Some(RedoRefusal::NotUndone),
+            Some(_) => None,
         }
     }
 }

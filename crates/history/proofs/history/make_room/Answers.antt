@@ -11,5 +11,5 @@ returns-in-Err-clause-unlisted g c = λ k i.
     let outcome = c.args.outcome.now in
     taken_back (reads c.args.readers.now k i) _ _ (is_some (command_of g.O.Operation.asks c.args.operation.now outcome.answer)) (is_read outcome.reading k) _
     (c.in_ok-list.ensures.ok k i) (c.remove.ensures k i)
-    (λ at. let count : c.len.result + 1 ≡ n = omega (arith, c.len.ensures, ap length c.in_ok-reserve.ensures.items, c.reserve.new.self.ok.0) in
+    (λ at. let count : c.len.result + 1 ≡ n = omega (arith, c.len.ensures, ap length c.in_ok-reserve.ensures.rows, c.reserve.new.rows.ok.0) in
     ap (reads c.args.readers.now k) (sym (same_number _ i at) ∙ count) ∙ c.requires.fresh k)

@@ -4,7 +4,9 @@ use Rattle.history.specs.Logs.{Log}
 use Rattle.history.specs.Rows.{answered}
 use Rattle.history.proofs.Agreed.{plan_from, plan_kept, plan_of_now, plan_rows, plan_stays}
 use Rattle.history.specs.Indexes.{is_reader}
-use Rattle.history.proofs.Indexed.{no_row, agrees_pushed, agrees_alike}
+use Rattle.history.proofs.Indexed.{agrees_pushed, agrees_alike}
+use Rattle.history.proofs.Places.{no_row}
+use Rattle.history.proofs.Links.{linked_push}
 use Rattle.history.proofs.history.History.add.Goals as goal
 
 pub make_room-requires-clause-few : goal.make_room-requires-clause-few
@@ -16,7 +18,7 @@ make_room-requires-clause-few g c =
 pub make_room-requires-clause-fresh : goal.make_room-requires-clause-fresh
 make_room-requires-clause-fresh g c = λ k.
     let rows = c.self.inside.rows.items in
-    c.self.invariant.1 k (length rows + 1) ∙ ap (λ o. is_reader g.O.Operation.asks o k) (no_row g.O.Operation.asks rows)
+    c.self.invariant.1 k (length rows + 1) ∙ ap (λ o. is_reader g.O.Operation.asks o k) (no_row rows)
 
 pub make_room-requires-clause-from : goal.make_room-requires-clause-from
 make_room-requires-clause-from g c =
@@ -33,13 +35,16 @@ invariant_of-self-in-Ok g c =
     let agrees = agrees_pushed asks c.self.inside.readers c.make_room.new.readers rows (answered c.args.operator c.plan.inside.operation c.plan.inside.outcome) (length rows + 1) refl c.self.invariant.1 c.in-Ok.ensures.listed in (
       rw (c.push_reserved.ensures.items, c.make_room.ensures.items, c.answered.ensures, c.in-Ok.ensures.after) kept,
       rw (c.push_reserved.ensures.items, c.make_room.ensures.items, c.answered.ensures) agrees,
+      rw (c.push_reserved-in-Ok.ensures.items, c.make_room.ensures.links, c.push_reserved.ensures.items, c.make_room.ensures.items, c.answered.ensures)
+          (linked_push c.self.inside.links.items rows (answered c.args.operator c.plan.inside.operation c.plan.inside.outcome) refl c.self.invariant.2),
     )
 
--- where memory runs out, the index lists what it listed
+-- if memory runs out, the index lists what it listed
 pub invariant_of-self : goal.invariant_of-self
 invariant_of-self g c = (
   rw (c.make_room.ensures.items, c.in-Err.ensures.err) c.self.invariant.0,
   rw c.make_room.ensures.items (agrees_alike g.O.Operation.asks c.self.inside.readers c.make_room.new.readers c.self.inside.rows.items c.self.invariant.1 c.in-Err.ensures.unlisted),
+  rw (c.make_room.ensures.links, c.make_room.ensures.items) c.self.invariant.2,
 )
 
 pub returns-in-Ok-clause-rows : goal.returns-in-Ok-clause-rows
