@@ -40,6 +40,10 @@ const ROWS: &[u8] = b"\
         alice put:a,ok,row:1,seen:0 undo:1,undid:1,row:3,seen:2 / \
         bob ask:a,static,row:2,seen:0 undo:9,no-such-row,row:4,seen:3\t\
         closed logs:2 alice:ok bob:static alice:undid:1 bob:no-such-row\n\
+    close\talice:put:a alice:undo:1 bob:redo:1 bob:redo:1\t\
+        alice put:a,ok,row:1,seen:0 undo:1,undid:1,row:2,seen:1 / \
+        bob redo:1,redid:1,row:3,seen:0 redo:1,not-undone,row:4,seen:3\t\
+        closed logs:2 alice:ok alice:undid:1 bob:redid:1 bob:not-undone\n\
     \n\
     # the first operator without a log, whatever else is wrong\n\
     close\talice:put:a bob:put:b\t\
@@ -78,6 +82,24 @@ const ROWS: &[u8] = b"\
     close\talice:put:a bob:put:b\t\
         alice undo:1,ok,row:1,seen:0 / bob put:b,ok,row:2,seen:1\t\
         mismatch:alice:1 logs:2 alice:ok bob:ok\n\
+    # a redo for an undo, and an undo for a redo: as request, and as reply\n\
+    close\talice:put:a alice:undo:1 alice:redo:1\t\
+        alice put:a,ok,row:1,seen:0 redo:1,undid:1,row:2,seen:1 redo:1,redid:1,row:3,seen:2 \
+        / bob\t\
+        mismatch:alice:2 logs:2 alice:ok alice:undid:1 alice:redid:1\n\
+    close\talice:put:a alice:undo:1 alice:redo:1\t\
+        alice put:a,ok,row:1,seen:0 undo:1,undid:1,row:2,seen:1 undo:1,redid:1,row:3,seen:2 \
+        / bob\t\
+        mismatch:alice:3 logs:2 alice:ok alice:undid:1 alice:redid:1\n\
+    close\talice:put:a alice:undo:1 alice:redo:1\t\
+        alice put:a,ok,row:1,seen:0 undo:1,undid:1,row:2,seen:1 redo:1,undid:1,row:3,seen:2 \
+        / bob\t\
+        mismatch:alice:3 logs:2 alice:ok alice:undid:1 alice:redid:1\n\
+    # a redo of another row\n\
+    close\talice:put:a alice:undo:1 alice:redo:1\t\
+        alice put:a,ok,row:1,seen:0 undo:1,undid:1,row:2,seen:1 redo:2,redid:1,row:3,seen:2 \
+        / bob\t\
+        mismatch:alice:3 logs:2 alice:ok alice:undid:1 alice:redid:1\n\
     # another reply, and another row\n\
     close\talice:put:a bob:put:b\t\
         alice put:a,static,row:1,seen:0 / bob put:b,ok,row:2,seen:1\t\

@@ -5,8 +5,8 @@
 //! | `snapshot:0` | slot 0 takes a snapshot | `taken` |
 //! | `plan:0:put:a` | slot 0 plans the step on its snapshot | `planned`; `nothing` |
 //! | `alice:commit:0` | alice commits the plan of slot 0 | `row:1`, `stale:a`, `full`; `nothing` |
-//! | `bob:put:a`, `bob:undo:1` | bob calls it | `row:1`, `full` |
-ghost use Rattle.std.specs.Prelude.{◌<◌, All, IfOk, OnOk};
+//! | `bob:put:a`, `bob:undo:1`, `bob:redo:1` | bob calls it | `row:1`, `full` |
+ghost use Rattle.std.specs.Prelude.{◌<◌, ◌≤◌, All, IfOk, OnOk};
 ghost use Rattle.shared_admin.specs.Events.{HasSlot};
 
 use history::{History, Operator, Plan};
@@ -22,7 +22,7 @@ use std::str;
 use std::test::Fail;
 
 /// Events on a history of the empty tree, and what results from each; then the rows, and how many
-/// entries the tree has. A short history has room for one row.
+/// entries the tree has. A short history has room for as many rows as the third field says.
 const ROWS: &[u8] = b"\
     # bob's call comes first; made again, alice's is refused, and an undo of bob's\n\
     # gives the first tree back\n\
@@ -53,6 +53,21 @@ const ROWS: &[u8] = b"\
     history\tbob:put:a snapshot:0 plan:0:put:a alice:commit:0\t\t\
         row:1 taken planned row:2 / bob:ok alice:exists:a / entries:1\n\
     \n\
+    # a redo puts the row back at its own place\n\
+    history\tbob:put:a bob:undo:1 bob:put:b alice:redo:1 bob:undo:3\t\t\
+        row:1 row:2 row:3 row:4 row:5 \
+        / bob:ok bob:undid:1 bob:ok alice:redid:1 bob:undid:3 / entries:1\n\
+    # it is refused if a later row looked at what the row changed\n\
+    history\tbob:put:a bob:undo:1 alice:look:a bob:redo:1 bob:undo:3 bob:redo:1 bob:redo:9\t\t\
+        row:1 row:2 row:3 row:4 row:5 row:6 row:7 \
+        / bob:ok bob:undid:1 alice:ok bob:hindered:3 bob:undid:3 bob:redid:1 \
+        bob:no-row-to-redo / entries:1\n\
+    # a plan that was made while the row was undone is stale, and one that was made before agrees\n\
+    history\tbob:put:a snapshot:0 plan:0:ask:a bob:undo:1 snapshot:1 plan:1:put:a bob:redo:1 \
+        alice:commit:1 alice:commit:0\t\t\
+        row:1 taken planned row:2 taken planned row:3 stale:a row:4 \
+        / bob:ok bob:undid:1 bob:redid:1 alice:static / entries:1\n\
+    \n\
     # slots keep a snapshot and a plan\n\
     history\talice:commit:0 plan:0:put:a\t\tnothing nothing / / entries:0\n\
     history\tsnapshot:0 alice:commit:0\t\ttaken nothing / / entries:0\n\
@@ -68,9 +83,13 @@ const ROWS: &[u8] = b"\
     # once each was committed, its slot has none\n\
     short history\tsnapshot:0 plan:0:put:b snapshot:1 plan:1:remove:a bob:put:a \
         alice:commit:1 alice:commit:0 alice:commit:0 alice:commit:1 bob:put:b bob:undo:1 \
-        snapshot:2 plan:2:put:b alice:commit:2 alice:commit:2\t\t\
-        taken planned taken planned row:1 stale:a full nothing nothing full full \
+        bob:redo:1 snapshot:2 plan:2:put:b alice:commit:2 alice:commit:2\t1\t\
+        taken planned taken planned row:1 stale:a full nothing nothing full full full \
         taken planned full nothing / bob:ok / entries:1\n\
+    short history\tbob:put:a bob:undo:1 bob:redo:1 bob:undo:1\t2\t\
+        row:1 row:2 full full / bob:ok bob:undid:1 / entries:0\n\
+    short history\tbob:put:a bob:undo:1 bob:redo:1 bob:undo:1\t3\t\
+        row:1 row:2 row:3 full / bob:ok bob:undid:1 bob:redid:1 / entries:1\n\
     ";
 
 /// The slot of a number.
@@ -81,7 +100,7 @@ fn slot(digits: &[u8]) -> u8
     if number < 16 { number as u8 } else { 0 }
 }
 
-/// The event of what an operator does: a commit, an undo, or the call of a step.
+/// The event of what an operator does: a commit, an undo, a redo, or the call of a step.
 fn event_of(alloc: Global, operator: Operator, word: &[u8]) -> Result<Event<Step>, AllocError>
     ensures { IfOk result (HasSlot {O = Step}) }
 {
@@ -91,6 +110,9 @@ fn event_of(alloc: Global, operator: Operator, word: &[u8]) -> Result<Event<Step
     }
     if is(first, b"undo") {
         return Ok(Event::Undo(operator, number(rest)));
+    }
+    if is(first, b"redo") {
+        return Ok(Event::Redo(operator, number(rest)));
     }
     Ok(Event::Call(operator, step(alloc, word)?))
 }
@@ -214,16 +236,33 @@ fn push_all(
     push_history(out, history)
 }
 
-/// A history of the empty tree, with room for one row.
-fn begun(alloc: Global) -> Result<Box<History<Step>>, AllocError> {
-    let history = History::with_limit(alloc, Tree::empty(alloc)?, 1)?;
+/// How many rows a short history has room for, by this digit.
+fn limit(digit: &[u8]) -> usize
+    ensures some { 1 ≤ result }
+    ensures few { result ≤ 9 }
+{
+    let number = number(digit);
+    if 1 <= number && number <= 9 {
+        number as usize
+    } else {
+        1
+    }
+}
+
+/// A history of the empty tree, with room for this many rows.
+fn begun(alloc: Global, limit: usize) -> Result<Box<History<Step>>, AllocError>
+    requires some { 1 ≤ limit }
+    requires few { limit ≤ 9 }
+{
+    let history = History::with_limit(alloc, Tree::empty(alloc)?, limit)?;
     Ok(Box::new(alloc, history)?)
 }
 
-/// What results from the events of a script on it.
-fn said_in_one_row(alloc: Global, script: &[u8]) -> Result<Vec<u8>, AllocError> {
+/// What results from the events of a script on a history with room for as many rows as a digit
+/// says.
+fn said_in_rows(alloc: Global, script: &[u8], digit: &[u8]) -> Result<Vec<u8>, AllocError> {
     let mut out = Vec::new(alloc);
-    let mut history = begun(alloc)?;
+    let mut history = begun(alloc, limit(digit))?;
     push_all(alloc, &mut history, script, &mut out)?;
     Ok(out)
 }
@@ -233,7 +272,7 @@ fn answer(alloc: Global, row: &Row) -> Result<Vec<u8>, AllocError> {
         return said(alloc, &row.one);
     }
     if is(&row.kind, b"short history") {
-        return said_in_one_row(alloc, &row.one);
+        return said_in_rows(alloc, &row.one, &row.two);
     }
     Vec::from_slice(alloc, b"unknown kind")
 }

@@ -27,14 +27,14 @@ fn chosen(words: &[&'static [u8]], number: u32) -> &'static [u8] {
     words.get(at).copied().unwrap_or(b"?")
 }
 
-/// Adds the word that the upper bits of a random number make: of ten, two are a snapshot, two a
-/// plan, two a commit, three a call, and one is an undo.
+/// Adds the word that the upper bits of a random number make: of thirteen, two are a snapshot, two
+/// a plan, two a commit, three a call, two an undo, and two a redo.
 fn push_word(random: u32, script: &mut Vec<u8>) -> Result<(), AllocError> {
     let bits = random >> 8;
-    let slot = chosen(&SLOTS, bits / 10);
-    let verb = chosen(&VERBS, bits / 30);
-    let unit = chosen(&UNITS, bits / 180);
-    match bits % 10 {
+    let slot = chosen(&SLOTS, bits / 13);
+    let verb = chosen(&VERBS, bits / 39);
+    let unit = chosen(&UNITS, bits / 234);
+    match bits % 13 {
         0 | 1 => push_pair(script, b"snapshot", slot),
         2 | 3 => {
             push_pair(script, b"plan", slot)?;
@@ -42,7 +42,8 @@ fn push_word(random: u32, script: &mut Vec<u8>) -> Result<(), AllocError> {
             push_pair(script, b"", unit)
         }
         4 | 5 => push_pair(script, b"alice:commit", slot),
-        9 => push_numbered(script, b"bob:undo", bits / 540 % 9),
+        9 | 10 => push_numbered(script, b"bob:undo", bits / 702 % 9),
+        11 | 12 => push_numbered(script, b"bob:redo", bits / 702 % 9),
         _ => {
             push_pair(script, b"bob", verb)?;
             push_pair(script, b"", unit)
@@ -68,6 +69,7 @@ enum Verb {
     Look,
     Ask,
     Undo,
+    Redo,
 }
 
 fn verb_of(word: &[u8]) -> Verb {
@@ -101,6 +103,11 @@ enum Said {
     NotACommand,
     AlreadyUndone(u32),
     Blocked(u32),
+    Redid(u32),
+    NoRowToRedo,
+    NoCommandToRedo,
+    NotUndone,
+    Hindered(u32),
 }
 
 /// A row: the operator, the step, and what it says.
@@ -110,7 +117,7 @@ struct PlainRow {
     verb: Verb,
     unit: u8,
     said: Said,
-    /// The row that undid it, or 0.
+    /// The row that undid it, if it is undone, or 0.
     undone_by: u32,
 }
 
@@ -122,6 +129,11 @@ impl PlainRow {
 
     fn survives(&self) -> bool {
         self.is_command() && self.undone_by == 0
+    }
+
+    /// Whether it is an accepted command that changed the slot of a unit.
+    fn changed(&self, unit: u8) -> bool {
+        self.is_command() && self.verb != Verb::Look && self.unit == unit
     }
 
     fn push(&self, out: &mut Vec<u8>) -> Result<(), AllocError> {
@@ -136,6 +148,11 @@ impl PlainRow {
             Said::NotACommand => out.extend_from_slice(b"not-a-command"),
             Said::AlreadyUndone(by) => push_numbered(out, b"already-undone", by),
             Said::Blocked(by) => push_numbered(out, b"blocked", by),
+            Said::Redid(n) => push_numbered(out, b"redid", n),
+            Said::NoRowToRedo => out.extend_from_slice(b"no-row-to-redo"),
+            Said::NoCommandToRedo => out.extend_from_slice(b"no-command-to-redo"),
+            Said::NotUndone => out.extend_from_slice(b"not-undone"),
+            Said::Hindered(by) => push_numbered(out, b"hindered", by),
         }
     }
 }
@@ -156,7 +173,7 @@ fn present(rows: &[PlainRow]) -> u8 {
             units = match row.verb {
                 Verb::Put => units | bit(row.unit),
                 Verb::Remove => units & !bit(row.unit),
-                _ => units,
+                Verb::Look | Verb::Ask | Verb::Undo | Verb::Redo => units,
             };
         }
     }
@@ -167,7 +184,7 @@ fn has(units: u8, unit: u8) -> bool {
     units & bit(unit) != 0
 }
 
-/// The first surviving command behind row `n` that looked at the slot of a unit, or 0.
+/// The first surviving command after row `n` that looked at the slot of a unit, or 0.
 fn first_later(rows: &[PlainRow], n: u32, unit: u8) -> u32 {
     let mut number: u32 = 0;
     for row in rows {
@@ -195,6 +212,64 @@ fn said_of_undo(rows: &[PlainRow], n: u32) -> Said {
         Said::Blocked(blocker)
     } else {
         Said::Undid(n)
+    }
+}
+
+/// Whether row `n` was undone when row `later` was to be made.
+fn was_undone(rows: &[PlainRow], n: u32, later: u32) -> bool {
+    let mut is_undone = false;
+    let mut number: u32 = 0;
+    for row in rows {
+        number = number.wrapping_add(1);
+        if number < later {
+            is_undone = (is_undone || row.said == Said::Undid(n)) && row.said != Said::Redid(n);
+        }
+    }
+    is_undone
+}
+
+/// The first command before row `n` that changed the slot at which row `n` looked, and that
+/// survives now but didn't when row `n` was undone, or survived then but not now; or 0.
+fn first_flipped(rows: &[PlainRow], n: u32, undone: &PlainRow) -> u32 {
+    let mut number: u32 = 0;
+    for row in rows {
+        number = number.wrapping_add(1);
+        if number < n
+            && row.changed(undone.unit)
+            && row.survives() == was_undone(rows, number, undone.undone_by)
+        {
+            return number;
+        }
+    }
+    0
+}
+
+/// The row that hinders a redo of row `n`, which is undone, or 0.
+fn hindrance(rows: &[PlainRow], n: u32, undone: &PlainRow) -> u32 {
+    let flipped = first_flipped(rows, n, undone);
+    if flipped != 0 || undone.verb == Verb::Look {
+        flipped
+    } else {
+        first_later(rows, n, undone.unit)
+    }
+}
+
+/// What a redo of row `n` says.
+fn said_of_redo(rows: &[PlainRow], n: u32) -> Said {
+    let Some(row) = rows.get((n as usize).wrapping_sub(1)) else {
+        return Said::NoRowToRedo;
+    };
+    if !row.is_command() {
+        return Said::NoCommandToRedo;
+    }
+    if row.undone_by == 0 {
+        return Said::NotUndone;
+    }
+    let hindrance = hindrance(rows, n, row);
+    if hindrance != 0 {
+        Said::Hindered(hindrance)
+    } else {
+        Said::Redid(n)
     }
 }
 
@@ -291,6 +366,14 @@ impl Plain {
         self.add(b"bob", Verb::Undo, b'?', said)
     }
 
+    fn redo(&mut self, n: u32) -> Result<(), AllocError> {
+        let said = said_of_redo(&self.rows, n);
+        if said == Said::Redid(n) {
+            mark(&mut self.rows, n, 0);
+        }
+        self.add(b"bob", Verb::Redo, b'?', said)
+    }
+
     /// What a slot keeps.
     fn kept(&self, slot: &[u8]) -> PlainSlot {
         self.slots.get(place(slot)).copied().unwrap_or(EMPTY)
@@ -336,11 +419,14 @@ impl Plain {
         }
     }
 
-    /// What bob does: an undo, or a step.
+    /// What bob does: an undo, a redo, or a step.
     fn bob(&mut self, word: &[u8]) -> Result<(), AllocError> {
         let (first, n) = parts(word);
         if is(first, b"undo") {
             return self.undo(number(n));
+        }
+        if is(first, b"redo") {
+            return self.redo(number(n));
         }
         let (verb, unit) = step_of(word);
         self.call(b"bob", verb, unit)

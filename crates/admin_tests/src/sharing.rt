@@ -5,7 +5,7 @@
 //! | `snapshot` | a snapshot is taken | `rows:0:entries:1` |
 //! | `plan:put:a` | a plan of the step is made on the snapshot | `planned` |
 //! | `alice:commit` | alice commits the plan | `row:1:ok`; `stale:a`, `no-plan` |
-//! | `bob:put:a`, `bob:undo:1` | bob calls it | `row:1:ok`, and other replies |
+//! | `bob:put:a`, `bob:undo:1`, `bob:redo:1` | bob calls it | `row:1:ok`, and other replies |
 //!
 //! A plan that is stale is kept.
 
@@ -47,6 +47,22 @@ const ROWS: &[u8] = b"\
         alice:put:a bob:look:a alice:undo:6\t\t\
         row:1:ok row:2:no-such-row row:3:undid:1 row:4:already-undone:3 row:5:not-a-command \
         row:6:ok row:7:ok row:8:blocked:7\n\
+    # a row is redone before a later one that looked elsewhere\n\
+    calls\talice:put:a alice:undo:1 alice:put:b alice:redo:1 snapshot\t\t\
+        row:1:ok row:2:undid:1 row:3:ok row:4:redid:1 rows:4:entries:3\n\
+    # a later row that looked at the same slot hinders that\n\
+    calls\talice:put:a alice:undo:1 alice:look:a alice:redo:1 snapshot\t\t\
+        row:1:ok row:2:undid:1 row:3:ok row:4:hindered:3 rows:4:entries:1\n\
+    # an earlier row hinders that as long as it isn't redone itself\n\
+    calls\talice:put:a alice:look:a alice:undo:2 alice:undo:1 alice:redo:2 alice:redo:1 \
+        alice:redo:2 alice:redo:2 alice:redo:99 alice:redo:6 snapshot\t\t\
+        row:1:ok row:2:ok row:3:undid:2 row:4:undid:1 row:5:hindered:1 row:6:redid:1 \
+        row:7:redid:2 row:8:not-undone row:9:no-row-to-redo row:10:no-command-to-redo \
+        rows:10:entries:2\n\
+    # a plan that was made while a row was undone is stale once the row is redone\n\
+    calls\tbob:put:a bob:undo:1 snapshot plan:put:a bob:redo:1 alice:commit snapshot\t\t\
+        row:1:ok row:2:undid:1 rows:2:entries:1 planned row:3:redid:1 stale:a \
+        rows:3:entries:2\n\
     \n\
     # at most sixteen operators, each once\n\
     operators\t\t\tis shared\n\
@@ -112,6 +128,26 @@ fn push_new_row(out: &mut Vec<u8>, row: &NewRow) -> Result<(), AllocError> {
     push_numbered(out, b"row", row.number)?;
     out.extend_from_slice(b":")?;
     push_reply(out, &row.reply)
+}
+
+/// An undo or a redo of the row of this number.
+#[derive(Clone, Copy)]
+enum Toggle {
+    Undo(u32),
+    Redo(u32),
+}
+
+/// Adds what an undo or a redo answers. Returns whether memory was enough for it.
+fn push_toggled(
+    out: &mut Vec<u8>,
+    toggled: &Result<NewRow, CallError>,
+) -> Result<bool, AllocError> {
+    match toggled {
+        Ok(row) => push_new_row(out, row)?,
+        Err(CallError::Full) => out.extend_from_slice(b"full")?,
+        Err(CallError::OutOfMemory) => return Ok(false),
+    }
+    Ok(true)
 }
 
 /// A plan of a step on a snapshot.
@@ -191,22 +227,62 @@ impl Bench {
         }
     }
 
-    fn undo(
+    /// How many rows there are, and how many entries the tree has.
+    fn counts(&self, alloc: Global, rt: &impl Wait) -> Result<(u32, usize), AllocError> {
+        let now = Box::new(alloc, self.admin.snapshot(rt)?)?;
+        Ok((now.front, now.tree.len()))
+    }
+
+    fn toggled(
         &self,
         rt: &impl Wait,
         alloc: Global,
         operator: Operator,
-        n: u32,
-        out: &mut Vec<u8>,
-    ) -> Result<(), AllocError> {
-        let undone = Box::new(alloc, self.admin.undo(rt, alloc, operator, n))?;
-        match &*undone {
-            Ok(row) => push_new_row(out, row),
-            Err(why) => Err(unless_full(*why)),
+        toggle: Toggle,
+    ) -> Result<NewRow, CallError> {
+        match toggle {
+            Toggle::Undo(n) => self.admin.undo(rt, alloc, operator, n),
+            Toggle::Redo(n) => self.admin.redo(rt, alloc, operator, n),
         }
     }
 
-    /// What an operator does: a commit, an undo, or the call of a step.
+    /// Adds what an undo or a redo answers, and says whether memory was enough for it.
+    fn push_toggle(
+        &self,
+        rt: &impl Wait,
+        alloc: Global,
+        operator: Operator,
+        toggle: Toggle,
+        out: &mut Vec<u8>,
+    ) -> Result<bool, AllocError> {
+        let toggled = Box::new(alloc, self.toggled(rt, alloc, operator, toggle))?;
+        push_toggled(out, &toggled)
+    }
+
+    /// An undo or a redo. If memory runs out, nothing is changed, and it is called again.
+    fn toggle(
+        &self,
+        rt: &impl Wait,
+        alloc: Global,
+        operator: Operator,
+        toggle: Toggle,
+        out: &mut Vec<u8>,
+    ) -> Result<(), AllocError> {
+        let before = self.counts(alloc, rt)?;
+        if self.push_toggle(rt, alloc, operator, toggle, out)? {
+            return Ok(());
+        }
+        if self.counts(alloc, rt)? != before {
+            return out.extend_from_slice(b"changed");
+        }
+        if self.push_toggle(rt, alloc, operator, toggle, out)? {
+            Ok(())
+        } else {
+            Err(AllocError)
+        }
+    }
+
+    /// What an operator does: a commit, an undo, a redo, or the call of a step.
     fn answer_to(
         &mut self,
         rt: &impl Wait,
@@ -220,7 +296,10 @@ impl Bench {
             return self.commit(alloc, rt, operator, out);
         }
         if is(first, b"undo") {
-            return self.undo(rt, alloc, operator, number(rest), out);
+            return self.toggle(rt, alloc, operator, Toggle::Undo(number(rest)), out);
+        }
+        if is(first, b"redo") {
+            return self.toggle(rt, alloc, operator, Toggle::Redo(number(rest)), out);
         }
         self.call(rt, alloc, operator, step(alloc, word)?, out)
     }

@@ -2,7 +2,7 @@
 //!
 //! | Word | What is done | What it answers |
 //! |---|---|---|
-//! | `put:a`, `undo:1` and the like | alice calls it | the reply of the row; `full` |
+//! | `put:a`, `undo:1`, `redo:1` and the like | alice calls it | the reply of the row; `full` |
 //! | `plan:put:a` | a plan of the step is made, on the tree as it is | `planned` |
 //! | `commit` | bob commits the plan | `row:2`; `stale:a`, `full`, `no-plan` |
 //! | `answer` | the plan is asked what it answers | `accepted` or `refused`; `no-plan` |
@@ -22,6 +22,12 @@ use sample_steps::{
     unit_at,
 };
 use std::alloc::{AllocError, Global};
+
+#[derive(Clone, Copy)]
+enum Toggle {
+    Undo,
+    Redo,
+}
 
 #[derive(Drop)]
 pub(crate) struct Bench {
@@ -95,10 +101,21 @@ impl Bench {
         }
     }
 
-    /// If memory ran out, undoes the row then.
-    fn undo_again(
+    /// Alice undoes or redoes a row.
+    fn toggle(&mut self, alloc: Global, toggle: Toggle, n: u32) -> Result<(), CallError> {
+        let alice = operator(b"alice")?;
+        match toggle {
+            Toggle::Undo => self.history.undo(alloc, alice, n)?,
+            Toggle::Redo => self.history.redo(alloc, alice, n)?,
+        };
+        Ok(())
+    }
+
+    /// If memory ran out, undoes or redoes the row then.
+    fn toggle_again(
         &mut self,
         alloc: Global,
+        toggle: Toggle,
         n: u32,
         why: CallError,
         out: &mut Vec<u8>,
@@ -106,21 +123,27 @@ impl Bench {
         if why == CallError::Full {
             return out.extend_from_slice(b"full");
         }
-        match self.history.undo(alloc, operator(b"alice")?, n) {
-            Ok(_) => self.push_last(out),
+        match self.toggle(alloc, toggle, n) {
+            Ok(()) => self.push_last(out),
             Err(_) => Err(AllocError),
         }
     }
 
-    /// Alice's undo of a row.
-    fn undo(&mut self, alloc: Global, n: u32, out: &mut Vec<u8>) -> Result<(), AllocError> {
+    /// Alice's undo or redo of a row.
+    fn answer_toggle(
+        &mut self,
+        alloc: Global,
+        toggle: Toggle,
+        n: u32,
+        out: &mut Vec<u8>,
+    ) -> Result<(), AllocError> {
         let rows = self.history.rows().len();
-        let why = match self.history.undo(alloc, operator(b"alice")?, n) {
-            Ok(_) => return self.push_last(out),
+        let why = match self.toggle(alloc, toggle, n) {
+            Ok(()) => return self.push_last(out),
             Err(why) => why,
         };
         if self.is_as_before(alloc, rows)? {
-            self.undo_again(alloc, n, why, out)
+            self.toggle_again(alloc, toggle, n, why, out)
         } else {
             out.extend_from_slice(b"changed")
         }
@@ -177,7 +200,10 @@ impl Bench {
     ) -> Result<(), AllocError> {
         let (first, rest) = parts(word);
         if is(first, b"undo") {
-            return self.undo(alloc, number(rest), out);
+            return self.answer_toggle(alloc, Toggle::Undo, number(rest), out);
+        }
+        if is(first, b"redo") {
+            return self.answer_toggle(alloc, Toggle::Redo, number(rest), out);
         }
         if is(first, b"plan") {
             return self.plan(alloc, rest, out);

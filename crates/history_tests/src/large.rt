@@ -6,7 +6,15 @@ use crate::index::agrees;
 use std::alloc::{AllocError, Global};
 use std::test::Fail;
 
-const WORDS: [&[u8]; 16] = [
+const WORDS: [&[u8]; 32] = [
+    b"put:a",
+    b"remove:a",
+    b"look:a",
+    b"ask:a",
+    b"put:b",
+    b"remove:b",
+    b"look:b",
+    b"ask:b",
     b"put:a",
     b"remove:a",
     b"look:a",
@@ -23,6 +31,14 @@ const WORDS: [&[u8]; 16] = [
     b"undo:6",
     b"undo:7",
     b"undo:8",
+    b"redo:1",
+    b"redo:2",
+    b"redo:3",
+    b"redo:4",
+    b"redo:5",
+    b"redo:6",
+    b"redo:7",
+    b"redo:8",
 ];
 
 fn next(random: u32) -> u32 {
@@ -31,14 +47,14 @@ fn next(random: u32) -> u32 {
 
 /// The word that a random number chooses.
 fn word(random: u32) -> &'static [u8] {
-    WORDS[(random >> 28) as usize]
+    WORDS[(random >> 27) as usize]
 }
 
-/// Nine random calls, and after how many of them a walk finds the same.
+/// Twelve random calls, and after how many of them a walk finds the same.
 fn play(alloc: Global, bench: &mut Bench, random: &mut u32) -> Result<u32, AllocError> {
     let mut agreed = 0u32;
     let mut said = Vec::new(alloc);
-    for _ in 0..9 {
+    for _ in 0..12 {
         *random = next(*random);
         bench.answer(alloc, word(*random), &mut said)?;
         agreed = agreed.wrapping_add(u32::from(agrees(alloc, &bench.history)?));
@@ -55,7 +71,7 @@ fn played(alloc: Global, random: &mut u32) -> Result<u32, AllocError> {
 fn what_is_looked_up_is_what_a_walk_finds(rt: HostRuntime) -> Result<(), Fail> {
     let mut random = 1;
     for _ in 0..100 {
-        assert_eq!(rt; played(rt.alloc(), &mut random)?, 9);
+        assert_eq!(rt; played(rt.alloc(), &mut random)?, 12);
     }
     Ok(())
 }

@@ -39,8 +39,15 @@ const ROWS: &[u8] = b"\
     copied reply\tnot-a-command\t\tnot-a-command\n\
     copied reply\talready-undone:2\t\talready-undone:2\n\
     copied reply\tblocked:3\t\tblocked:3\n\
+    copied reply\tredid:1\t\tredid:1\n\
+    copied reply\tno-row-to-redo\t\tno-row-to-redo\n\
+    copied reply\tno-command-to-redo\t\tno-command-to-redo\n\
+    copied reply\tnot-undone\t\tnot-undone\n\
+    copied reply\thindered:3\t\thindered:3\n\
     copied request\tput:a\tremove:a\tthe same\n\
     copied request\tundo:3\tundo:4\tthe same\n\
+    copied request\tredo:3\tredo:4\tthe same\n\
+    copied request\tredo:3\tundo:3\tthe same\n\
     copied operation\ta.service:/etc/systemd/system/a.service\t\tthe same\n\
     ";
 

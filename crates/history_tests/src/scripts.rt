@@ -1,4 +1,4 @@
-//! Scripts of calls, undos, plans and commits, and what their words answer.
+//! Scripts of calls, undos, redos, plans and commits, and what their words answer.
 
 use crate::bench::said;
 use sample_rows::{Row, unlike};
@@ -41,10 +41,36 @@ const ROWS: &[u8] = b"\
     history\tplan:put:a commit undo:1 plan:put:a commit\t\t\
         planned row:1 undid:1 planned row:3 / entries:0 to:1\n\
     \n\
-    # a full history takes no row: the operation comes back, an undo is refused too,\n\
+    # a command is redone; what is not undone, is no command or is not there is not\n\
+    history\tput:a undo:1 redo:1 redo:1 redo:0 redo:9 redo:2 undo:1 redo:1\t\t\
+        ok undid:1 redid:1 not-undone no-row-to-redo no-row-to-redo no-command-to-redo \
+        undid:1 redid:1 / entries:0 to:1\n\
+    # a later command that looked at what it changed hinders it\n\
+    history\tput:a undo:1 look:a redo:1 undo:3 redo:1\t\t\
+        ok undid:1 ok hindered:3 undid:3 redid:1 / entries:0 to:1\n\
+    # an earlier command that is undone since hinders it\n\
+    history\tput:a look:a undo:2 undo:1 redo:2 redo:1 redo:2 redo:2\t\t\
+        ok ok undid:2 undid:1 hindered:1 redid:1 redid:2 not-undone / entries:0 to:1\n\
+    # an earlier command that is redone since hinders it\n\
+    history\tput:a undo:1 look:a undo:3 redo:1 redo:3 undo:1 redo:3\t\t\
+        ok undid:1 ok undid:3 redid:1 hindered:1 undid:1 redid:3 / entries:0 to:0\n\
+    # what was undone and redone since is as it was\n\
+    history\tput:a look:a undo:2 undo:1 redo:1 redo:2 undo:1\t\t\
+        ok ok undid:2 undid:1 redid:1 redid:2 blocked:2 / entries:0 to:1\n\
+    # the first of several is named\n\
+    history\tput:b put:a look:a undo:3 undo:2 look:a redo:3 redo:2\t\t\
+        ok ok ok undid:3 undid:2 ok hindered:2 hindered:6 / entries:0 to:1\n\
+    # a row that is redone is listed again, and one that is undone says what hinders it\n\
+    history\tput:a look:a undo:2 undo:1 index redo:1 index redo:2 index\t\t\
+        ok ok undid:2 undid:1 1:unread 2:unread:hindered-by:1 3:unread 4:unread \
+        redid:1 1:read-by:1 2:unread 3:unread 4:unread 5:unread \
+        redid:2 1:read-by:1,2:blocked-by:2 2:unread 3:unread 4:unread 5:unread 6:unread \
+        / entries:0 to:1\n\
+    \n\
+    # a full history takes no row: the operation comes back, an undo and a redo are refused too,\n\
     # and nothing changes\n\
-    short history\tput:a put:b undo:0 undo:1 index\t\t\
-        ok full full full 1:read-by:1 / entries:0 to:1\n\
+    short history\tput:a put:b undo:0 undo:1 redo:1 index\t\t\
+        ok full full full full 1:read-by:1 / entries:0 to:1\n\
     # a plan comes back from a full history, and a stale one from there too\n\
     short history\tplan:put:b put:a commit answer take-apart:put:b commit\t\t\
         planned ok full accepted put:b no-plan / entries:0 to:1\n\
@@ -58,7 +84,8 @@ const ROWS: &[u8] = b"\
     history\tput:a look:a undo:2 index\t\t\
         ok ok undid:2 1:read-by:1 2:unread 3:unread / entries:0 to:1\n\
     history\tput:a look:a undo:2 undo:1 index\t\t\
-        ok ok undid:2 undid:1 1:unread 2:unread 3:unread 4:unread / entries:0 to:0\n\
+        ok ok undid:2 undid:1 1:unread 2:unread:hindered-by:1 3:unread 4:unread \
+        / entries:0 to:0\n\
     # a row that is refused or only asks never was\n\
     history\tput:a put:a ask:a remove:b index\t\t\
         ok exists:a static absent:b 1:read-by:1 2:unread 3:unread 4:unread / entries:0 to:1\n\

@@ -11,13 +11,18 @@
 //! | `not-a-command` | an undo was refused, since the row is no accepted command |
 //! | `already-undone:2` | an undo was refused, since row 2 undid the row before |
 //! | `blocked:2` | an undo was refused, since row 2 looked at what the row changed |
+//! | `redid:1` | row 1 was redone |
+//! | `no-row-to-redo` | a redo was refused, since there is no such row |
+//! | `no-command-to-redo` | a redo was refused, since the row is no accepted command |
+//! | `not-undone` | a redo was refused, since the row is not undone |
+//! | `hindered:2` | a redo was refused, since row 2 hinders it |
 //!
 //! With the operator of a row: `alice:ok`.
 
 use crate::operation::Step;
 use crate::words::{is, number, parts, slot_of, slot_path};
 use footprint::{Answer, Key, Notices, Refusal, StateWord};
-use history::{Row, RowReply, UndoRefusal};
+use history::{RedoRefusal, Row, RowReply, UndoRefusal};
 use link_tree::{TreePath, push_decimal};
 use std::alloc::{AllocError, Global};
 
@@ -80,12 +85,23 @@ fn push_undo_refusal(out: &mut Vec<u8>, refusal: UndoRefusal) -> Result<(), Allo
     }
 }
 
+fn push_redo_refusal(out: &mut Vec<u8>, refusal: RedoRefusal) -> Result<(), AllocError> {
+    match refusal {
+        RedoRefusal::NoSuchRow => out.extend_from_slice(b"no-row-to-redo"),
+        RedoRefusal::NotACommand => out.extend_from_slice(b"no-command-to-redo"),
+        RedoRefusal::NotUndone => out.extend_from_slice(b"not-undone"),
+        RedoRefusal::Hindered(n) => push_numbered(out, b"hindered", n),
+    }
+}
+
 /// Adds the word of a reply.
 pub fn push_reply(out: &mut Vec<u8>, reply: &RowReply) -> Result<(), AllocError> {
     match reply {
         RowReply::Answered(answer) => push_answer(out, answer),
         RowReply::Undid(n) => push_numbered(out, b"undid", *n),
         RowReply::UndoRefused(refusal) => push_undo_refusal(out, *refusal),
+        RowReply::Redid(n) => push_numbered(out, b"redid", *n),
+        RowReply::RedoRefused(refusal) => push_redo_refusal(out, *refusal),
     }
 }
 
@@ -95,21 +111,43 @@ pub fn push_row(out: &mut Vec<u8>, row: &Row<Step>) -> Result<(), AllocError> {
     push_reply(out, &row.reply)
 }
 
-fn undo_refusal(word: &[u8]) -> Result<UndoRefusal, AllocError> {
+/// The refusal of an undo that a word says, if it is such a word.
+fn undo_refusal(word: &[u8]) -> Option<UndoRefusal> {
     let (first, n) = parts(word);
     if is(first, b"no-such-row") {
-        return Ok(UndoRefusal::NoSuchRow);
+        return Some(UndoRefusal::NoSuchRow);
     }
     if is(first, b"not-a-command") {
-        return Ok(UndoRefusal::NotACommand);
+        return Some(UndoRefusal::NotACommand);
     }
     if is(first, b"already-undone") {
-        return Ok(UndoRefusal::AlreadyUndone(number(n)));
+        return Some(UndoRefusal::AlreadyUndone(number(n)));
     }
-    if is(first, b"blocked") {
-        return Ok(UndoRefusal::Blocked(number(n)));
+    is(first, b"blocked").then_some(UndoRefusal::Blocked(number(n)))
+}
+
+/// The refusal of a redo that a word says, if it is such a word.
+fn redo_refusal(word: &[u8]) -> Option<RedoRefusal> {
+    let (first, n) = parts(word);
+    if is(first, b"no-row-to-redo") {
+        return Some(RedoRefusal::NoSuchRow);
     }
-    Err(AllocError)
+    if is(first, b"no-command-to-redo") {
+        return Some(RedoRefusal::NotACommand);
+    }
+    if is(first, b"not-undone") {
+        return Some(RedoRefusal::NotUndone);
+    }
+    is(first, b"hindered").then_some(RedoRefusal::Hindered(number(n)))
+}
+
+/// The refusal that a word says. Fails if it says none.
+fn refusal(word: &[u8]) -> Result<RowReply, AllocError> {
+    match (undo_refusal(word), redo_refusal(word)) {
+        (Some(refusal), _) => Ok(RowReply::UndoRefused(refusal)),
+        (None, Some(refusal)) => Ok(RowReply::RedoRefused(refusal)),
+        (None, None) => Err(AllocError),
+    }
 }
 
 /// The answer of a word.
@@ -138,8 +176,11 @@ pub fn reply(alloc: Global, word: &[u8]) -> Result<RowReply, AllocError> {
     if is(first, b"undid") {
         return Ok(RowReply::Undid(number(n)));
     }
+    if is(first, b"redid") {
+        return Ok(RowReply::Redid(number(n)));
+    }
     match answer(alloc, word)? {
         Some(answer) => Ok(RowReply::Answered(answer)),
-        None => Ok(RowReply::UndoRefused(undo_refusal(word)?)),
+        None => refusal(word),
     }
 }

@@ -7,6 +7,7 @@
 //! | `look:a` | the step that only looks there, and changes nothing |
 //! | `ask:a` | the question that looks there |
 //! | `undo:1` | the undo of row 1 |
+//! | `redo:1` | the redo of row 1 |
 //!
 //! The units are a, b and c. Operators are called by their names. Other words of tests are made of
 //! these, with colons between the parts: `alice:put:a`.
@@ -84,11 +85,15 @@ pub fn step(alloc: Global, word: &[u8]) -> Result<Step, AllocError> {
     })
 }
 
-/// The request of a word: a step or an undo. Fails if the word is neither, or if memory runs out.
+/// The request of a word: a step, an undo or a redo. Fails if the word is none of these, or if
+/// memory runs out.
 pub fn request(alloc: Global, word: &[u8]) -> Result<Request<Step>, AllocError> {
     let (first, rest) = parts(word);
     if is(first, b"undo") {
         return Ok(Request::Undo(number(rest)));
+    }
+    if is(first, b"redo") {
+        return Ok(Request::Redo(number(rest)));
     }
     Ok(Request::Do(step(alloc, word)?))
 }

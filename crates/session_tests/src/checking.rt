@@ -45,8 +45,8 @@ pub(crate) fn push_closed(out: &mut Vec<u8>, closed: &Closed) -> Result<(), Allo
     }
 }
 
-/// How closing goes of a session that put a file at the slot of a and took that back, if alice had
-/// asked for what a script says; the desk may have a job left.
+/// What closing answers to a session of alice's, in which she put a file at the slot of a and undid
+/// that, if she had asked for what a script says; the desk may have a job left.
 fn closed(
     rt: &impl Wait,
     alloc: Global,

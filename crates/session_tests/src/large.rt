@@ -110,7 +110,7 @@ fn script_of_many(alloc: Global) -> Result<Vec<u8>, AllocError> {
     Ok(script)
 }
 
-/// A text of logs that begins so, with a word for each of so many rows behind.
+/// The text begins with these logs, and has a word for each of this many rows after them.
 fn assert_counts(rt: &impl Abort, text: &[u8], logs: &[u8], rows: usize) {
     assert!(rt; text.starts_with(logs));
     let words = text.split(|b| *b == b' ').count();

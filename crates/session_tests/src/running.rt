@@ -11,15 +11,18 @@ use std::sync::Wait;
 use std::test::Fail;
 use std::thread::Threads;
 
-/// Works that are run, and what the run comes to. Operators who are fed, their asks, and what comes
-/// of that.
+/// Works that are run, and what results from the run. Operators who are fed, their asks, and what
+/// results from these.
 const ROWS: &[u8] = b"\
     run\talice put:a put:a undo:1\t\tlogs:1 alice:ok alice:exists:a alice:undid:1\n\
+    run\talice put:a undo:1 redo:1 redo:1\t\t\
+        logs:1 alice:ok alice:undid:1 alice:redid:1 alice:not-undone\n\
     run\talice / bob put:b\t\tlogs:2 bob:ok\n\
     run\talice put:a / bob / alice\t\tan-operator-twice\n\
     run\talice / bob / c / d / e / f / g / h / i / j / k / l / m / n / o / p / alice put:a\t\t\
         too-many-sessions\n\
     feed\talice bob\tbob:put:a bob:put:a bob:remove:a\tlogs:2 bob:ok bob:exists:a bob:ok\n\
+    feed\talice bob\tbob:put:a bob:undo:1 bob:redo:1\tlogs:2 bob:ok bob:undid:1 bob:redid:1\n\
     feed\talice bob alice\talice:put:a\tan-operator-twice\n\
     feed\talice bob c d e f g h i j k l m n o p alice\talice:put:a\ttoo-many-sessions\n\
     ";
@@ -36,7 +39,7 @@ fn ran<R: Threads + Wait + Sync, G: Gate + Sync>(
     Ok(Box::new(alloc, ran)?)
 }
 
-/// What a run of works comes to.
+/// What results from a run of works.
 pub(crate) fn text_of_run<R: Threads + Wait + Sync, G: Gate + Sync>(
     rt: &R,
     alloc: Global,

@@ -1,7 +1,7 @@
-//! Requests by their words, and what runs come to in words.
+//! Requests by their words, and what results from runs in words.
 //!
-//! Works are those of `alice put:a undo:1 / bob put:b`: alice puts a file and takes that back,
-//! beside bob. Asks are those of `alice:put:a bob:put:b`, one after another.
+//! Works are those of `alice put:a undo:1 / bob put:b`: alice puts a file and undoes that, side by
+//! side with bob. Asks are those of `alice:put:a bob:put:b`, one after another.
 //!
 //! | Words | What they say |
 //! |---|---|
@@ -63,7 +63,7 @@ fn push_ask(alloc: Global, word: &[u8], asks: &mut Asks<Step>) -> Result<(), All
     })
 }
 
-/// The asks of a script of words, so many times; there may be none.
+/// The asks of a script of words, this many times; there may be none.
 pub(crate) fn asks(alloc: Global, script: &[u8], times: usize) -> Result<Asks<Step>, AllocError> {
     let mut asks = Asks::none(alloc);
     for _ in 0..times {
@@ -91,7 +91,7 @@ fn push_rows(
     Ok(())
 }
 
-/// What a run comes to.
+/// What results from a run.
 pub(crate) type Ran = Result<
     (History<Step>, SessionLogs<Step>),
     RunError<History<Step>, SessionLogs<Step>>,
@@ -124,7 +124,7 @@ pub(crate) fn push_fault(out: &mut Vec<u8>, fault: &CloseFault) -> Result<(), Al
     }
 }
 
-/// Adds what a run comes to.
+/// Adds what results from a run.
 pub(crate) fn push_run(out: &mut Vec<u8>, ran: &Ran) -> Result<(), AllocError> {
     match ran {
         Ok((history, logs)) => push_rows(out, history, logs),

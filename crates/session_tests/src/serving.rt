@@ -16,10 +16,11 @@ use std::sync::atomic::{AtomicU64, Ordering};
 use std::test::Fail;
 use unit_name::ample;
 
-/// What a desk says to words. What closing says of alice's session, which put a file at the slot of
-/// a and took that back, if this is what she had asked for. What her last entry says if bob meddles
-/// with each plan of hers; or if she was told of so many rows before she put a file at the slot of
-/// a and took that back.
+/// What a desk says to words. What closing says of alice's session, in which she put a file at the
+/// slot of a and undid that, if this is what she had asked for. What her last entry says: if bob
+/// meddles with each plan of hers; after the requests of a script, with two digits for each call of
+/// the gate, which are the request and the attempt; or if she had seen this many rows before she put
+/// a file at the slot of a and undid that.
 const ROWS: &[u8] = b"\
     # answers to no job, to one of another operator's, and for the second time aren't taken\n\
     desk\tissue:bob issue:alice open answer:0:bob answer:3:bob answer:1:alice answer:1:bob open \
@@ -31,6 +32,7 @@ const ROWS: &[u8] = b"\
     # another request at the first place, and at the second\n\
     asked\talice:remove:a alice:undo:1\t\tmismatch:alice:1\n\
     asked\talice:put:a alice:undo:2\t\tmismatch:alice:2\n\
+    asked\talice:put:a alice:redo:1\t\tmismatch:alice:2\n\
     # a request that has no entry, and entries without a request\n\
     asked\talice:put:a alice:undo:1 alice:put:b\t\tmismatch:alice:3\n\
     asked\talice:put:a\t\tmismatch:alice:2\n\
@@ -42,7 +44,10 @@ const ROWS: &[u8] = b"\
     \n\
     # four plans are stale, and then she calls while the lock is held\n\
     meddled\tput:a\t\trow:5:seen:0:ok attempts:1234\n\
-    # a row comes after all that she was told of\n\
+    # the gate is called once for an undo and for a redo, also for one that is refused\n\
+    gated\tput:a undo:1 redo:1\t\trow:3:seen:2:redid:1 gate:112131\n\
+    gated\tput:a undo:1 look:a redo:1\t\trow:4:seen:3:hindered:3 gate:11213141\n\
+    # a row comes after all that she had seen\n\
     told\t0\t\trow:2:seen:1:undid:1 closed\n\
     told\t9\t\trow:2:seen:1:undid:1 mismatch:alice:1\n\
     ";
@@ -64,6 +69,20 @@ struct Meddler<'a, R: Wait> {
     admin: &'a SharedAdmin<Step>,
     /// The attempts that it has seen, a digit each.
     seen: &'a AtomicU64,
+}
+
+/// Notes each call of the gate, in two digits: the session's call and the attempt.
+#[derive(Drop)]
+struct Watcher<'a> {
+    seen: &'a AtomicU64,
+}
+
+impl<'a> Gate for Watcher<'a> {
+    fn between(&self, _operator: Operator, call: u64, attempt: u8) {
+        let digits = call.wrapping_mul(10).wrapping_add(u64::from(attempt));
+        let seen = self.seen.load(Ordering::SeqCst).wrapping_mul(100);
+        self.seen.store(seen.wrapping_add(digits), Ordering::SeqCst);
+    }
 }
 
 impl<'a, R: Wait> Meddler<'a, R> {
@@ -158,7 +177,60 @@ fn push_served<R: Wait, G: Gate>(
     push_last(out, &session)
 }
 
-/// A session that was told of so many rows, and made two calls, of which the second is an undo of
+/// How many entries a session has, how many rows it has seen, and how many the history has.
+fn counts(
+    rt: &impl Wait,
+    admin: &SharedAdmin<Step>,
+    session: &Session<Step>,
+) -> Result<(usize, u32, u32), AllocError> {
+    let now = admin.snapshot(rt)?;
+    Ok((session.entries().len(), session.front(), now.front))
+}
+
+/// A call of a session, with a gate that notes its calls. If memory runs out, the session and the
+/// history are as they were, and the request is called again.
+fn call_watched(
+    rt: &impl Wait,
+    alloc: Global,
+    session: &mut Session<Step>,
+    admin: &SharedAdmin<Step>,
+    seen: &AtomicU64,
+    word: &[u8],
+    out: &mut Vec<u8>,
+) -> Result<(), AllocError> {
+    let gate = Watcher { seen };
+    let noted = seen.load(Ordering::SeqCst);
+    let before = counts(rt, admin, session)?;
+    if call(rt, alloc, session, admin, &gate, word).is_ok() {
+        return Ok(());
+    }
+    if counts(rt, admin, session)? != before {
+        return out.extend_from_slice(b"changed ");
+    }
+    seen.store(noted, Ordering::SeqCst);
+    call(rt, alloc, session, admin, &gate, word)
+}
+
+/// Adds what the last entry of alice's says after the requests of a script, and the calls of the
+/// gate.
+fn push_gated(
+    rt: &impl Wait,
+    alloc: Global,
+    script: &[u8],
+    out: &mut Vec<u8>,
+) -> Result<(), AllocError> {
+    let admin = shared(alloc, b"alice")?;
+    let seen = AtomicU64::new(0);
+    let mut session = opened(alloc, b"alice")?;
+    for word in script.split(|b| *b == b' ') {
+        call_watched(rt, alloc, &mut session, &admin, &seen, word, out)?;
+    }
+    push_last(out, &session)?;
+    out.extend_from_slice(b" gate:")?;
+    push_decimal(out, seen.load(Ordering::SeqCst) as usize)
+}
+
+/// A session that had seen this many rows, and made two calls, of which the second is an undo of
 /// the first.
 pub(crate) fn session_told(
     rt: &impl Wait,
@@ -174,7 +246,7 @@ pub(crate) fn session_told(
     Ok(session)
 }
 
-/// How closing goes with the log of one session.
+/// What closing answers to the log of one session.
 fn closed(
     alloc: Global,
     admin: Box<SharedAdmin<Step>>,
@@ -185,8 +257,8 @@ fn closed(
     Ok(Box::new(alloc, Box::into_inner(admin).close(logs))?)
 }
 
-/// Adds what the second entry says of a session that was told of so many rows, and how closing
-/// goes.
+/// Adds what the second entry says of a session that had seen this many rows, and what closing
+/// answers.
 fn push_told(
     rt: &impl Wait,
     alloc: Global,
@@ -215,6 +287,9 @@ fn push_answer(
     }
     if is(&row.kind, b"meddled") {
         return push_meddled(rt, alloc, &row.one, out);
+    }
+    if is(&row.kind, b"gated") {
+        return push_gated(rt, alloc, &row.one, out);
     }
     if is(&row.kind, b"told") {
         return push_told(rt, alloc, number(&row.one), out);

@@ -1,4 +1,4 @@
-//! Attempts at a request: plans, commits, and at last a call while the lock is held.
+//! How a request is served: plans and commits, then a call while the lock is held; undos and redos.
 ghost use Rattle.std.specs.Prelude.{◌≡◌, ◌≤◌, IfOk, IfErr};
 ghost use Rattle.history.specs.declared.row.Request.TheVariants.{Do};
 ghost use Rattle.sessions.specs.Sessions.{KeepsOperation};
@@ -21,7 +21,8 @@ pub(crate) struct Turn {
     pub(crate) call: u64,
 }
 
-/// The row of a request. A request that isn't served comes back.
+/// Serves a request, and returns its row. For an undo or a redo the gate is called once. A request
+/// that isn't served comes back.
 pub(crate) fn serve<O: Operation, R: Wait, G: Gate>(
     rt: &R,
     alloc: Global,
@@ -45,10 +46,21 @@ pub(crate) fn serve<O: Operation, R: Wait, G: Gate>(
                 }),
             }
         }
+        Request::Redo(n) => {
+            gate.between(turn.operator, turn.call, 1);
+            match admin.redo(rt, alloc, turn.operator, n) {
+                Ok(row) => Ok(row),
+                Err(why) => Err(Unserved {
+                    request: Request::Redo(n),
+                    why,
+                }),
+            }
+        }
     }
 }
 
-/// The row of an operation, planned outside the lock up to four times, and else run while it is held.
+/// Serves an operation, and returns its row: it is planned outside the lock, up to four times, and
+/// then run while the lock is held.
 fn serve_operation<O: Operation, R: Wait, G: Gate>(
     rt: &R,
     alloc: Global,
@@ -73,7 +85,7 @@ fn serve_operation<O: Operation, R: Wait, G: Gate>(
     }
 }
 
-/// What came of one attempt.
+/// What resulted from one attempt.
 #[derive(Drop)]
 pub(crate) enum Attempt<O> {
     Served(NewRow),

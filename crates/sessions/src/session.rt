@@ -44,7 +44,7 @@ impl<O> Model for Session<O> {
 }
 
 impl<O: Operation> Session<O> {
-    /// A session that has seen nothing and was told nothing. Takes no memory.
+    /// A session that has seen no rows and has no entries. Takes no memory.
     pub fn open(alloc: Global, operator: Operator) -> Session<O>
         ensures { result ≡ record { operator = operator; front = 0; entries = [] } }
     {
@@ -55,28 +55,28 @@ impl<O: Operation> Session<O> {
         }
     }
 
-    /// How many rows it has seen, or was told of.
+    /// How many rows it has seen: the number of its last row, or more if `tell` has said so since.
     pub fn front(&self) -> u32
         ensures { result ≡ self.now.front }
     {
         self.front
     }
 
-    /// Tells it that there are so many rows. That there are fewer than it has seen changes nothing.
+    /// Says that the session has seen this many rows. Fewer than it has seen change nothing.
     pub fn tell(&mut self, front: u32)
         ensures { self.new ≡ record { operator = self.old.operator; front = max self.old.front front; entries = self.old.entries } }
     {
         self.front = self.front.max(front);
     }
 
-    /// The calls that were served, in order.
+    /// An entry for each call that was served, in order.
     pub fn entries(&self) -> &[LogEntry<O>]
         ensures { result.now ≡ self.now.entries }
     {
         &self.entries
     }
 
-    /// Its log, which closing a shared history asks for. Takes no memory.
+    /// Its log, as `SharedAdmin::close` takes it. Takes no memory.
     pub fn into_log(self) -> SessionLog<O>
         ensures { result ≡ record { operator = self.operator; entries = self.entries } }
     {
@@ -91,12 +91,15 @@ impl<O: Operation> Session<O> {
         }
     }
 
-    /// Serves a request on the shared history, and adds an entry of it to the log: an operation is planned on a snapshot and committed, four
-    /// times while the plan is stale, and then run while the lock is held; an undo takes the lock at once. The gate is called before each
-    /// commit and before an undo. What the row says may be a refusal.
+    /// Serves a request on the shared history, and adds an entry for it to the log. An operation is
+    /// planned on a snapshot, the gate is called, and the plan is committed; if the plan is stale, this
+    /// is repeated, four times in all, and then the operation is run while the lock is held. For an
+    /// undo or a redo the gate is called once, as attempt 1, and then the lock is taken. The row's
+    /// reply may be a refusal.
     ///
-    /// A request that isn't served comes back, and the session is as it was: the history is full, or memory ran out. All that the entry
-    /// wants is there before the row is made, so that no row lacks its entry.
+    /// A request that isn't served comes back, and the session is as it was. The reason is `Full` (the
+    /// history has a million rows) or `OutOfMemory`. The memory for the entry is reserved before the
+    /// row is made, so that each row has its entry.
     pub fn call<R: Wait, G: Gate>(
         &mut self,
         rt: &R,
@@ -134,7 +137,7 @@ impl<O: Operation> Session<O> {
     }
 }
 
-/// What is told of a request: how many rows had been seen before, and the row that was made.
+/// The entry of a request: how many rows had been seen before, and the row that was made.
 fn entry_of<O>(request: Request<O>, seen: u32, row: NewRow) -> LogEntry<O>
     ensures { result ≡ entry_of request seen row }
 {

@@ -1,4 +1,4 @@
--- An event comes to one outcome.
+-- An event has one outcome.
 use Rattle.std.proofs.Common.{◌≡◌, ◌==◌, ℕ, Bool, true, false, MatchBool, List, [], ◌∷◌, ◌++◌, Option, Some, None, length, set, slice_get, refl, sym, ap, subst, ◌∙◌, inl, inr}
 use Rattle.std.proofs.lemmas.List.Elements.{All-head, All-tail}
 use Rattle.link_tree.specs.Trees.{Entries}
@@ -7,7 +7,7 @@ use Rattle.footprint.specs.declared.reading.Observation.{Observation}
 use Rattle.footprint.specs.Inquiry.{Inquiry}
 use Rattle.footprint.specs.Operations.{Effect}
 use Rattle.footprint.specs.Readings.{Holds, HoldsIn, IsFirstOther}
-use Rattle.history.specs.declared.row.Request.TheVariants.{Do, Undo}
+use Rattle.history.specs.declared.row.Request.TheVariants.{Do, Undo, Redo}
 use Rattle.history.specs.Logs.{Log}
 use Rattle.history.specs.Plans.{Planned}
 use Rattle.history.specs.Rows.{Call, replay, rows_after}
@@ -75,7 +75,7 @@ module _ {O : Type 0} (asks : O → Bool) (meaning : O → Inquiry Effect) where
   same_kept : (slots : Slots O) (slot : ℕ) (one two : Kept (Planned O)) → slice_get slots slot ≡ Some one → slice_get slots slot ≡ Some two → one ≡ two
   same_kept slots slot one two is also = let same : Some one ≡ Some two = sym is ∙ also in cc
 
-  -- One slot is changed in one way, if the change comes to one outcome.
+  -- One slot is changed in one way, if the change has one outcome.
   at_slot_once : (slots after later : Slots O) (slot : ℕ) (P Q : Kept (Planned O) → Kept (Planned O) → Type 0) (R : Type 0)
       → ((kept one two : Kept (Planned O)) → P kept one → Q kept two → (one ≡ two) × R) → AtSlot slots slot after P → AtSlot slots slot later Q → (after ≡ later) × R
   at_slot_once slots after later slot P Q R once (kept, then, is, after_is, does) (also, others, is_too, later_is, does_too) =
@@ -105,6 +105,9 @@ module _ {O : Type 0} (asks : O → Bool) (meaning : O → Inquiry Effect) where
       (both.0, same ∙ sym same_too, both.1)
   happens_once log new other slots after later (events.Undo operator n) reply said (same, one) (same_too, two) =
       let both = calls_once (length log.rows == log.limit) log new other (operator, Undo n) reply said one two in
+      (both.0, same ∙ sym same_too, both.1)
+  happens_once log new other slots after later (events.Redo operator n) reply said (same, one) (same_too, two) =
+      let both = calls_once (length log.rows == log.limit) log new other (operator, Redo n) reply said one two in
       (both.0, same ∙ sym same_too, both.1)
 
   plays_once : (given : List (Event O)) (log new other : Log O) (slots : Slots O) (said others : List EventReply)

@@ -7,7 +7,7 @@ use Rattle.footprint.specs.declared.key.Key.{Key}
 use Rattle.history.specs.Logs.{Log}
 use Rattle.history.specs.Plans.{Planned, planned, AgreesWith, IsStaleAt}
 use Rattle.history.specs.Rows.{Call, replay, rows_after}
-use Rattle.history.specs.declared.row.Request.TheVariants.{Do, Undo}
+use Rattle.history.specs.declared.row.Request.TheVariants.{Do, Undo, Redo}
 use Rattle.shared_admin.specs.declared.snapshot.Snapshot.{Snapshot}
 use Rattle.shared_admin.specs.declared.driving.Kept.{Kept}
 use Rattle.shared_admin.specs.declared.event.Event.{Event}
@@ -34,13 +34,15 @@ HasSlot (events.Plan slot c) = slot < 16
 HasSlot (events.Commit slot operator) = slot < 16
 HasSlot (events.Call operator c) = Unit {0}
 HasSlot (events.Undo operator n) = Unit {0}
+HasSlot (events.Redo operator n) = Unit {0}
 
 -- One slot is changed, and the others stay.
 abbrev pub AtSlot : {O : Type 0} → Slots O → ℕ → Slots O → (Kept (Planned O) → Kept (Planned O) → Type 0) → Type 0
 AtSlot {O} slots slot after Changes = (kept then : Kept (Planned O)) × (slice_get slots slot ≡ Some kept) × (after ≡ set slots slot then) × Changes kept then
 
 module _ {O : Type 0} (meaning : O → Inquiry Effect) where
-  -- A plan is made on the slot's snapshot, in place of the one that was kept; where there is no snapshot, nothing comes of it.
+  -- A plan is made on the slot's snapshot, and kept instead of the one before; if there is no snapshot,
+  -- nothing happens.
   abbrev pub PlansOn : Option Snapshot → Option (Planned O) → O → Option (Planned O) → EventReply → Type 0
   PlansOn None plan c then reply = (reply ≡ replies.Nothing) × (then ≡ plan)
   PlansOn (Some snapshot) plan c then reply = (reply ≡ replies.Planned) × (then ≡ Some (planned meaning c snapshot.tree))
@@ -63,15 +65,15 @@ module _ {O : Type 0} (asks : O → Bool) (meaning : O → Inquiry Effect) where
       MatchBool (length log.rows == log.limit) ((reply ≡ replies.Full) × (new ≡ log))
       ((reply ≡ replies.Committed (length new.rows)) × (new ≡ record { first = log.first; rows = rows_after asks meaning log.first log.rows call; limit = log.limit }))
 
-  -- A commit is a call of the plan's operation where the tree agrees with all that the plan looked at; else the plan is stale, at the
-  -- first key at which the tree differs.
+  -- A commit is a call of the plan's operation if the tree agrees with all that the plan looked at; else
+  -- the plan is stale, at the first key at which the tree differs.
   abbrev pub Commits : Log O → List ℕ → Option (Planned O) → Log O → EventReply → Type 0
   Commits log operator None new reply = (reply ≡ replies.Nothing) × (new ≡ log)
   Commits log operator (Some plan) new reply =
       (AgreesWith asks meaning log plan × Calls log (operator, Do plan.operation) new reply)
       ⊎ ((key : Key) × IsStaleAt asks meaning log plan key × (reply ≡ replies.Stale key) × (new ≡ log))
 
-  -- The plan that is committed is kept no longer, whatever came of it.
+  -- A plan that is committed is kept no longer, whether or not a row is made.
   abbrev pub TakesPlan : Log O → Kept (Planned O) → List ℕ → Log O → Kept (Planned O) → EventReply → Type 0
   TakesPlan log kept operator new then reply = Commits log operator kept.plan new reply × (then ≡ record { snapshot = kept.snapshot; plan = None })
 
@@ -82,6 +84,7 @@ module _ {O : Type 0} (asks : O → Bool) (meaning : O → Inquiry Effect) where
   Happens log slots (events.Commit slot operator) new after reply = AtSlot slots slot after (λ kept then. TakesPlan log kept operator new then reply)
   Happens log slots (events.Call operator c) new after reply = (after ≡ slots) × Calls log (operator, Do c) new reply
   Happens log slots (events.Undo operator n) new after reply = (after ≡ slots) × Calls log (operator, Undo n) new reply
+  Happens log slots (events.Redo operator n) new after reply = (after ≡ slots) × Calls log (operator, Redo n) new reply
 
   -- what events do one after another
   abbrev pub Plays : Log O → Slots O → List (Event O) → Log O → List EventReply → Type 0

@@ -8,7 +8,7 @@ use Rattle.history.specs.Rows.{row_at}
 use Rattle.history.specs.declared.plan.Commit.TheVariants as commits
 use Rattle.history.specs.declared.row.Row.{Row}
 use Rattle.history.specs.declared.row.RowReply.{RowReply}
-use Rattle.history.specs.declared.row.RowReply.TheVariants.{Answered, Undid, UndoRefused}
+use Rattle.history.specs.declared.row.RowReply.TheVariants.{Answered, Undid, UndoRefused, Redid, RedoRefused}
 use Rattle.shared_admin.specs.declared.holds.Settled.{Settled}
 use Rattle.shared_admin.specs.declared.holds.Settled.TheVariants.{Committed, Stale}
 
@@ -16,13 +16,15 @@ use Rattle.shared_admin.specs.declared.holds.Settled.TheVariants.{Committed, Sta
 abbrev pub IsReplyOf : {O : Type 0} → List (Row O) → ℕ → RowReply → Type 0
 IsReplyOf {O} rows n reply = (row : Row O) × (row_at rows n ≡ Some row) × (row.reply ≡ reply)
 
--- It is the reply of an undo.
-abbrev pub IsOfUndo : RowReply → Type 0
-IsOfUndo (Answered answer) = ⊥
-IsOfUndo (Undid n) = Unit {0}
-IsOfUndo (UndoRefused refusal) = Unit {0}
+-- It is the reply of an undo or a redo.
+abbrev pub IsOfToggle : RowReply → Type 0
+IsOfToggle (Answered answer) = ⊥
+IsOfToggle (Undid n) = Unit {0}
+IsOfToggle (UndoRefused refusal) = Unit {0}
+IsOfToggle (Redid n) = Unit {0}
+IsOfToggle (RedoRefused refusal) = Unit {0}
 
--- What becomes of a plan that is committed. The reply that is handed out with the number is that of the row.
+-- What becomes of a plan that is committed. The reply that is returned with the number is that of the row.
 abbrev pub Settles : {O : Type 0} → (O → Bool) → (O → Inquiry Effect) → Log O → List ℕ → Planned O → Log O → Settled (Planned O) → Type 0
 Settles asks meaning old operator plan new (Committed row) = IsCommit asks meaning old operator plan new (commits.Committed row.number) × IsReplyOf new.rows row.number row.reply
 Settles asks meaning old operator plan new (Stale kept at) = IsCommit asks meaning old operator plan new (commits.Stale kept at)

@@ -2,7 +2,7 @@
 ghost use Rattle.std.specs.Prelude.{◌≡◌, [], Some, All, IfOk, length, replicate};
 ghost use Rattle.history.specs.Rows.{calls_of, run};
 ghost use Rattle.history.specs.declared.history.CallError.TheVariants as errors;
-ghost use Rattle.history.specs.declared.row.Request.TheVariants.{Do, Undo};
+ghost use Rattle.history.specs.declared.row.Request.TheVariants.{Do, Undo, Redo};
 ghost use Rattle.shared_admin.specs.declared.event.EventReply.TheVariants as replies;
 ghost use Rattle.shared_admin.specs.Events.{HasSlot, nothing_kept, empty_slots, Snaps, Plans, TakesPlan, Commits, Calls, Happens, Plays, IsDriven};
 
@@ -23,10 +23,11 @@ pub struct Kept<P> {
     plan: Option<P>,
 }
 
-/// Lets events happen one after another, on a history without rows of this tree and with empty slots. Gives the history that they leave,
-/// which may have a million rows, and what came of each event, in order.
+/// Lets events happen one after another, on a history of this tree without rows and with empty
+/// slots. Returns the history after them, which may have a million rows, and the reply to each
+/// event, in order.
 ///
-/// The slots of the events are from 0 to 15. Fails only where memory runs out.
+/// The slots of the events are from 0 to 15. Fails only if memory runs out.
 pub fn drive<O: Operation>(
     alloc: Global,
     tree: Tree,
@@ -60,7 +61,7 @@ fn drive_on<O: Operation>(
     Ok(replies)
 }
 
-/// Sixteen slots that keep nothing. Fails only where memory runs out.
+/// Sixteen slots that keep nothing. Fails only if memory runs out.
 pub fn empty_slots<P: Drop>(alloc: Global) -> Result<Vec<Kept<P>>, AllocError>
     ensures { IfOk result (λ slots. slots.items ≡ replicate 16 nothing_kept) }
 {
@@ -74,9 +75,10 @@ pub fn empty_slots<P: Drop>(alloc: Global) -> Result<Vec<Kept<P>>, AllocError>
     Ok(slots)
 }
 
-/// Lets one event happen on a history and its slots, for events that come one at a time: `drive` does the same with a list of them.
+/// Lets one event happen on a history and its slots, for events that come one at a time: `drive`
+/// does the same with a list of them.
 ///
-/// There are sixteen slots, and that of the event is from 0 to 15. Fails only where memory runs out.
+/// There are sixteen slots, and that of the event is from 0 to 15. Fails only if memory runs out.
 pub fn happen<O: Operation>(
     alloc: Global,
     history: &mut History<O>,
@@ -98,6 +100,7 @@ pub fn happen<O: Operation>(
         ),
         Event::Call(operator, operation) => call(alloc, history, operator, operation),
         Event::Undo(operator, n) => undo(alloc, history, operator, n),
+        Event::Redo(operator, n) => redo(alloc, history, operator, n),
     }
 }
 
@@ -191,7 +194,22 @@ fn undo<O: Operation>(
     }
 }
 
-/// The reply to what made no row since the history is full. Want of memory is no reply.
+fn redo<O: Operation>(
+    alloc: Global,
+    history: &mut History<O>,
+    operator: Operator,
+    n: u32,
+) -> Result<EventReply, AllocError>
+    ensures { IfOk result (λ reply. Calls O.asks O.meaning history.old (operator, Redo n) history.new reply) }
+{
+    match history.redo(alloc, operator, n) {
+        Ok(n) => Ok(EventReply::Committed(n)),
+        Err(why) => no_row(why),
+    }
+}
+
+/// The reply to an event that made no row because the history is full. Out of memory is no reply:
+/// it is this function's error.
 fn no_row(why: CallError) -> Result<EventReply, AllocError>
     ensures { IfOk result (λ reply. (reply ≡ replies.Full) × (why ≡ errors.Full)) }
 {

@@ -1,24 +1,29 @@
-//! What happens to a history that is shared, and what comes of it.
+//! What happens to a history that is shared, and what results from it.
 
 use footprint::Key;
 use history::Operator;
 
-/// Something that happens to a shared history. There are sixteen slots, from 0 to 15, each of which keeps a snapshot and a plan, or none.
+/// Something that happens to a shared history. There are sixteen slots, from 0 to 15, each of which
+/// may keep a snapshot and a plan.
 #[derive(Debug, Drop)]
 pub enum Event<O> {
     /// The slot keeps a snapshot of the history as it is. A plan in the slot stays.
     Snap(u8),
-    /// The slot keeps a plan of the operation, made on its snapshot, in place of the plan that it had. Where it has no snapshot, nothing happens.
+    /// The slot keeps a plan of the operation, made on its snapshot, instead of the plan that it had.
+    /// If it has no snapshot, nothing happens.
     Plan(u8, O),
-    /// The operator commits the slot's plan, which is taken out of the slot, whatever comes of it.
+    /// The operator commits the slot's plan. The slot doesn't keep the plan, whether or not a row is
+    /// made.
     Commit(u8, Operator),
     /// The operator calls an operation on the tree as it is.
     Call(Operator, O),
     /// The operator undoes the row of this number, unless that is refused.
     Undo(Operator, u32),
+    /// The operator redoes the row of this number, which was undone, unless that is refused.
+    Redo(Operator, u32),
 }
 
-/// What came of an event.
+/// What resulted from an event.
 #[derive(Debug, Drop)]
 pub enum EventReply {
     /// A snapshot was taken.
@@ -27,7 +32,7 @@ pub enum EventReply {
     Planned,
     /// The slot had no snapshot to plan on, or no plan to commit.
     Nothing,
-    /// The row of this number was made. What was answered stands there; it may be a refusal.
+    /// The row of this number was made. The row has the answer, which may be a refusal.
     Committed(u32),
     /// The tree differs from what the plan looked at, at this key first. No row was made.
     Stale(Key),

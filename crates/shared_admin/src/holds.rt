@@ -3,9 +3,9 @@ ghost use Rattle.std.specs.Prelude.{◌≡◌, ◌<◌, ◌↔◌, IfOk, IfErr, 
 ghost use Rattle.history.specs.Plans.{AgreesWith};
 ghost use Rattle.history.specs.Rows.{rows_after, IdleStays};
 ghost use Rattle.history.specs.declared.history.CallError.TheVariants as errors;
-ghost use Rattle.history.specs.declared.row.Request.TheVariants.{Do, Undo};
+ghost use Rattle.history.specs.declared.row.Request.TheVariants.{Do, Undo, Redo};
 ghost use Rattle.history.specs.declared.row.RowReply.TheVariants as replies;
-ghost use Rattle.shared_admin.specs.Holds.{IsOfUndo, IsReplyOf, Settles};
+ghost use Rattle.shared_admin.specs.Holds.{IsOfToggle, IsReplyOf, Settles};
 
 use footprint::{Key, Operation};
 use history::{CallError, Commit, History, Operator, Plan, RowReply, Uncommitted, Unrun};
@@ -28,7 +28,8 @@ pub enum Settled<P> {
     Stale { plan: P, at: Key },
 }
 
-/// Commits a plan. The reply is copied before the row is added, so that a row that is made is always told.
+/// Commits a plan. The reply is copied before the row is added, so that a row that is made is always
+/// reported.
 pub(crate) fn commit<O: Operation>(
     history: &mut History<O>,
     operator: Operator,
@@ -54,7 +55,8 @@ pub(crate) fn commit<O: Operation>(
     }
 }
 
-/// Commits a plan to a history that has as many rows as it may have: it is stale, or makes no row.
+/// Commits a plan to a history that has as many rows as it may have: the plan is stale, or it makes no
+/// row.
 fn commit_to_full<O: Operation>(
     history: &mut History<O>,
     operator: Operator,
@@ -75,7 +77,7 @@ fn commit_to_full<O: Operation>(
     }
 }
 
-/// Commits a plan whose row is to have this reply.
+/// Commits a plan whose row will have this reply.
 fn commit_with<O: Operation>(
     history: &mut History<O>,
     operator: Operator,
@@ -132,7 +134,8 @@ pub(crate) fn call<O: Operation>(
     }
 }
 
-/// Undoes a row, unless that is refused. The reply takes no memory.
+/// Undoes a row, unless that is refused. The reply is copied once the row is added, which takes no
+/// memory.
 pub(crate) fn undo<O: Operation>(
     history: &mut History<O>,
     alloc: Global,
@@ -151,18 +154,44 @@ pub(crate) fn undo<O: Operation>(
 {
     let number = history.undo(alloc, operator, n)?;
     let rows = history.rows();
-    let reply = reply_of_undo(&rows[rows.len() - 1].reply);
+    let reply = reply_of_toggle(&rows[rows.len() - 1].reply);
     Ok(NewRow { number, reply })
 }
 
-/// The reply of an undo, again.
-fn reply_of_undo(reply: &RowReply) -> RowReply
-    requires { IsOfUndo reply.now }
+/// Redoes a row, unless that is refused. The reply is copied once the row is added, which takes no
+/// memory.
+pub(crate) fn redo<O: Operation>(
+    history: &mut History<O>,
+    alloc: Global,
+    operator: Operator,
+    n: u32,
+) -> Result<NewRow, CallError>
+    ensures first { history.new.first ≡ history.old.first }
+    ensures limit { history.new.limit ≡ history.old.limit }
+    ensures rows { OnOk result (history.new.rows ≡ rows_after O.asks O.meaning history.old.first history.old.rows (operator, Redo n)) }
+    ensures number { IfOk result (λ row. row.number ≡ length history.new.rows) }
+    ensures reply { IfOk result (λ row. IsReplyOf history.new.rows row.number row.reply) }
+    ensures idle { OnOk result (IdleStays O.asks O.meaning history.old.first history.old.rows history.new.rows) }
+    ensures err { OnErr result (history.new ≡ history.old) }
+    ensures full { IfErr result (λ why. (why ≡ errors.Full) ↔ (length history.old.rows ≡ history.old.limit)) }
+    ensures room { OnOk result (length history.old.rows < history.old.limit) }
+{
+    let number = history.redo(alloc, operator, n)?;
+    let rows = history.rows();
+    let reply = reply_of_toggle(&rows[rows.len() - 1].reply);
+    Ok(NewRow { number, reply })
+}
+
+/// A copy of the reply of an undo or a redo.
+fn reply_of_toggle(reply: &RowReply) -> RowReply
+    requires { IsOfToggle reply.now }
     ensures { result ≡ reply.now }
 {
     match reply {
         RowReply::Undid(n) => RowReply::Undid(*n),
         RowReply::UndoRefused(refusal) => RowReply::UndoRefused(*refusal),
+        RowReply::Redid(n) => RowReply::Redid(*n),
+        RowReply::RedoRefused(refusal) => RowReply::RedoRefused(*refusal),
         RowReply::Answered(_) => unreachable!(),
     }
 }

@@ -1,4 +1,4 @@
-//! One lock round a history.
+//! One lock around a history.
 ghost use Rattle.std.specs.Prelude.{◌≡◌, [], IfOk, IfErr};
 ghost use Rattle.history.specs.Rows.{run, calls_of};
 ghost use Rattle.shared_admin.specs.Closing.{IsClosed, IsFault};
@@ -18,19 +18,20 @@ use std::alloc::{AllocError, Global};
 use std::marker::Model;
 use std::sync::{Mutex, Wait};
 
-/// Why a history isn't shared, in the order in which the reasons are tried.
+/// Why a history isn't shared. The first reason that applies is reported.
 #[derive(Clone, Copy, Debug, PartialEq, Eq)]
 pub enum OpenError {
     /// There are more than sixteen operators.
     TooManySessions,
-    /// An operator is there twice.
+    /// An operator is in the list twice.
     SameOperator,
     OutOfMemory,
 }
 
-/// A history that several operators share. Each call on it takes the lock once, and what happens while it is held is one step, of which
-/// [`History`] says all. Contracts see the tree that was given and the operators; of the history they see what its type says: whenever
-/// the lock is free, its rows are legal and its tree is their replay.
+/// A history that several operators share. Each call on it takes the lock once, and what happens while
+/// it is held is one step: [`History`] says which. Contracts see the tree that was given and the
+/// operators; of the history they see what its type says: whenever the lock is free, its rows are
+/// legal and its tree is their replay.
 #[derive(Drop)]
 pub struct SharedAdmin<O: Operation> {
     first: Tree,
@@ -54,10 +55,12 @@ impl<O: Operation> Model for SharedAdmin<O> {
 }
 
 impl<O: Operation> SharedAdmin<O> {
-    /// A history without rows of a tree, which these operators share; it may have a million rows. The tree that was given is kept beside it.
+    /// A history of a tree, without rows, which these operators share; it may have a million rows. The
+    /// tree that was given is kept along with it.
     ///
-    /// At most sixteen operators, each once; there may be none. That they are too many is told first, that one is there twice next, and want
-    /// of memory last.
+    /// There are at most sixteen operators, each once; there may be none. The error is
+    /// `TooManySessions` if there are more, else `SameOperator` if one is in the list twice, else
+    /// `OutOfMemory`.
     pub fn new(alloc: Global, tree: Tree, operators: Operators) -> Result<SharedAdmin<O>, OpenError>
         ensures shared { IfOk result (λ admin. (admin ≡ record { first = tree; operators = operators }) × MayShare operators) }
         ensures unshared { IfErr result (λ why. IsUnshared operators why) }
@@ -81,14 +84,17 @@ impl<O: Operation> SharedAdmin<O> {
         })
     }
 
-    /// The history as it is now: its tree, which is shared and not copied, and how many rows there are. Fails only where memory runs out.
+    /// The history as it is now: its tree, which is shared and not copied, and how many rows there are.
+    /// Fails only if memory runs out.
     pub fn snapshot(&self, rt: &impl Wait) -> Result<Snapshot, AllocError> {
         snapshot_of(&*self.history.lock(rt))
     }
 
-    /// Commits a plan, as `History::commit` does. The new row's reply comes with its number; a plan that makes no row comes back.
+    /// Commits a plan, as `History::commit` does. The new row's number and its reply are returned; a
+    /// plan that makes no row comes back.
     ///
-    /// The error is `Full` where the tree agrees with all that the plan looked at and there are a million rows, else `OutOfMemory`.
+    /// The error is `Full` if the tree agrees with all that the plan looked at and there are a million
+    /// rows, else `OutOfMemory`. No row was made then.
     pub fn commit(
         &self,
         rt: &impl Wait,
@@ -101,10 +107,10 @@ impl<O: Operation> SharedAdmin<O> {
         holds::commit(&mut *self.history.lock(rt), operator, plan)
     }
 
-    /// Runs an operation on the tree as it is while the lock is held, as `History::call` does. The new row's reply comes with its number; an
-    /// operation that makes no row comes back.
+    /// Runs an operation on the tree as it is while the lock is held, as `History::call` does. The new
+    /// row's number and its reply are returned; an operation that makes no row comes back.
     ///
-    /// The error is `Full` where there are a million rows, else `OutOfMemory`.
+    /// The error is `Full` if there are a million rows, else `OutOfMemory`. No row was made then.
     pub fn call(
         &self,
         rt: &impl Wait,
@@ -117,9 +123,12 @@ impl<O: Operation> SharedAdmin<O> {
         holds::call(&mut *self.history.lock(rt), alloc, operator, operation)
     }
 
-    /// Undoes the row of this number, unless that is refused, as `History::undo` does. The new row's reply comes with its number.
+    /// Undoes the row of this number, unless that is refused, as `History::undo` does: its changes are
+    /// taken back. The lock is taken once. The new row's number and its reply are returned; the reply
+    /// is `Undid`, or `UndoRefused` with the reason.
     ///
-    /// The error is `Full` where there are a million rows, else `OutOfMemory`.
+    /// The error is `Full` if there are a million rows, else `OutOfMemory`. No row was made then, and
+    /// nothing is changed.
     pub fn undo(
         &self,
         rt: &impl Wait,
@@ -130,9 +139,28 @@ impl<O: Operation> SharedAdmin<O> {
         holds::undo(&mut *self.history.lock(rt), alloc, operator, n)
     }
 
-    /// Gives the history up, and says whether the run is closed: each operator has one log, which tells all of its rows in their order, each with
-    /// its request and its reply, and each made after all that the session had seen; no other log and no other row is there; and the history
-    /// begins with the tree that was given. History and logs come back in any case, as they were. Takes no memory.
+    /// Redoes the row of this number, which was undone, unless that is refused, as `History::redo` does:
+    /// its changes are made again, and it is in effect at its own place. The lock is taken once. The
+    /// new row's number and its reply are returned; the reply is `Redid`, or `RedoRefused` with the
+    /// reason.
+    ///
+    /// The error is `Full` if there are a million rows, else `OutOfMemory`. No row was made then, and
+    /// nothing is changed.
+    pub fn redo(
+        &self,
+        rt: &impl Wait,
+        alloc: Global,
+        operator: Operator,
+        n: u32,
+    ) -> Result<NewRow, CallError> {
+        holds::redo(&mut *self.history.lock(rt), alloc, operator, n)
+    }
+
+    /// Ends the sharing, and says whether the run is closed: each operator has one log, which has an
+    /// entry for each of its rows, in their order, with the row's request and reply, and each row was
+    /// made after all that the session had seen; there is no other log and no other row; and the
+    /// history begins with the tree that was given. History and logs come back in any case, as they
+    /// were. Takes no memory.
     pub fn close(
         self,
         logs: SessionLogs<O>,
