@@ -18,6 +18,7 @@ const ROWS: &[u8] = b"\
     line\ta add a b\t\tline 1: unknown verb\n\
     line\ta Enable x.service\t\tline 1: unknown verb\n\
     line\ta check x.service\t\tline 1: unknown verb\n\
+    line\ta Redo 1\t\tline 1: unknown verb\n\
     \n\
     # then arguments are counted\n\
     line\ta enable\t\tline 1: wrong arguments\n\
@@ -42,6 +43,9 @@ const ROWS: &[u8] = b"\
     line\ta remove x y\t\tline 1: wrong arguments\n\
     line\ta undo\t\tline 1: wrong arguments\n\
     line\ta undo x y\t\tline 1: wrong arguments\n\
+    line\ta redo\t\tline 1: wrong arguments\n\
+    line\ta redo 1 2\t\tline 1: wrong arguments\n\
+    line\ta redo x y\t\tline 1: wrong arguments\n\
     # those of questions\n\
     line\ta is-enabled\t\tline 1: wrong arguments\n\
     line\ta is-enabled x.service y.service\t\tline 1: wrong arguments\n\
@@ -105,6 +109,9 @@ const ROWS: &[u8] = b"\
     line\ta place /x file y\\\\0z\t\tline 1: bad text\n\
     line\ta undo x\t\tline 1: bad number\n\
     line\ta undo \\\\n\t\tline 1: bad number\n\
+    line\ta redo one\t\tline 1: bad number\n\
+    line\ta redo --runtime\t\tline 1: bad number\n\
+    line\ta redo 4294967296\t\tline 1: bad number\n\
     ";
 
 #[test]

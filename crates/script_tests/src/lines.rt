@@ -47,6 +47,6 @@ pub(crate) fn whole_call(alloc: Global, line: &[u8]) -> Result<Box<Call>, AllocE
 pub(crate) fn action(alloc: Global, line: &[u8]) -> Result<Box<Action>, AllocError> {
     match Box::into_inner(whole_call(alloc, line)?).request {
         Request::Do(action) => Ok(Box::new(alloc, action)?),
-        Request::Undo(_) => Err(AllocError),
+        Request::Undo(_) | Request::Redo(_) => Err(AllocError),
     }
 }

@@ -48,6 +48,14 @@ const ROWS: &[u8] = b"\
         -> /usr/lib/systemd/system/ssh.service\\n  \
         + /etc/systemd/system/sshd.service -> /usr/lib/systemd/system/ssh.service\\n\
         3 entries\n\
+    # a redo of the mask makes the plan stale again\n\
+    ssh.service\tsnapshot; plan alice enable ssh.service; \
+        bob mask ssh.service; bob undo 1; bob redo 1; commit\t\t\
+        taken\\nplanned\\nrow 1\\nrow 2\\nrow 3\\nstale at /etc/systemd/system/ssh.service\\n\
+        1 bob ok\\n  + /etc/systemd/system/ssh.service -> /dev/null\\n\
+        2 bob undid 1\\n  - /etc/systemd/system/ssh.service -> /dev/null\\n\
+        3 bob redid 1\\n  + /etc/systemd/system/ssh.service -> /dev/null\\n\
+        2 entries\n\
     # a plan that was stale is in its slot no longer\n\
     ssh.service\tsnapshot; plan alice enable ssh.service; bob mask ssh.service; commit; commit\t\t\
         taken\\nplanned\\nrow 1\\nstale at /etc/systemd/system/ssh.service\\nnothing\\n\
@@ -79,6 +87,7 @@ fn add_call(alloc: Global, line: &[u8], events: &mut Vec<Event<Action>>) -> Resu
     match request {
         Request::Do(action) => add(events, Event::Call(operator, action)),
         Request::Undo(n) => add(events, Event::Undo(operator, n)),
+        Request::Redo(n) => add(events, Event::Redo(operator, n)),
     }
 }
 

@@ -20,6 +20,45 @@ const ROWS: &[u8] = b"\
         - /etc/systemd/system/e.service file 0\\n\
         2 alice undid 1\\n  \
         + /etc/systemd/system/e.service file 0\\n\n\
+    # its removal is undone and redone: a redo shows the changes of its row as they are\n\
+    calls on e.service\talice unmask e.service\\nalice undo 1\\nbob redo 1\t\t\
+        1 alice ok\\n  \
+        - /etc/systemd/system/e.service file 0\\n\
+        2 alice undid 1\\n  \
+        + /etc/systemd/system/e.service file 0\\n\
+        3 bob redid 1\\n  \
+        - /etc/systemd/system/e.service file 0\\n\n\
+    # why a redo is refused\n\
+    calls on e.service\ta redo 1\\na mask x.service\\na redo 1\\nb redo 2\\na undo 2\\n\
+        b unmask x.service\\na redo 2\\na redo 5\t\t\
+        1 a refused: no row 1\\n\
+        2 a ok\\n  \
+        + /etc/systemd/system/x.service -> /dev/null\\n\
+        3 a refused: row 1 is no accepted command\\n\
+        4 b refused: row 2 is not undone\\n\
+        5 a undid 2\\n  \
+        - /etc/systemd/system/x.service -> /dev/null\\n\
+        6 b ok\\n\
+        7 a refused: row 2 is hindered by row 6\\n\
+        8 a refused: row 5 is no accepted command\\n\n\
+    # why an undo is refused, and that a redone row may be undone again\n\
+    calls on e.service\ta undo 0\\na mask x.service\\na undo 1\\na unmask x.service\\na undo 2\\n\
+        a undo 4\\na undo 4\\na redo 4\\na undo 8\\na undo 4\t\t\
+        1 a refused: no row 0\\n\
+        2 a ok\\n  \
+        + /etc/systemd/system/x.service -> /dev/null\\n\
+        3 a refused: row 1 is no accepted command\\n\
+        4 a ok\\n  \
+        - /etc/systemd/system/x.service -> /dev/null\\n\
+        5 a refused: row 2 is blocked by row 4\\n\
+        6 a undid 4\\n  \
+        + /etc/systemd/system/x.service -> /dev/null\\n\
+        7 a refused: row 4 was undone by row 6\\n\
+        8 a redid 4\\n  \
+        - /etc/systemd/system/x.service -> /dev/null\\n\
+        9 a refused: row 8 is no accepted command\\n\
+        10 a undid 4\\n  \
+        + /etc/systemd/system/x.service -> /dev/null\\n\n\
     # skipped words follow the changes: the words of Also= by both, the others by enable alone\n\
     calls on u.service\ta enable u.service\\na disable u.service\\na enable n.service\t\t\
         1 a ok\\n  \
@@ -122,12 +161,25 @@ fn undo(
     }
 }
 
+fn redo(
+    alloc: Global,
+    history: &mut History<Action>,
+    operator: Operator,
+    n: u32,
+) -> Result<u32, AllocError> {
+    match history.redo(alloc, operator, n) {
+        Ok(row) => Ok(row),
+        Err(_) => Err(AllocError),
+    }
+}
+
 /// Makes the call of a line.
 fn make(alloc: Global, history: &mut History<Action>, line: &[u8]) -> Result<u32, AllocError> {
     let Call { operator, request } = Box::into_inner(whole_call(alloc, line)?);
     match request {
         Request::Do(action) => run(alloc, history, operator, action),
         Request::Undo(n) => undo(alloc, history, operator, n),
+        Request::Redo(n) => redo(alloc, history, operator, n),
     }
 }
 

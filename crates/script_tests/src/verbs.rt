@@ -49,6 +49,8 @@ const ROWS: &[u8] = b"\
     line\ta place /a file --runtime\t\tplace file [/a][--runtime]\n\
     line\ta remove /a\t\tremove [/a]\n\
     line\ta undo 1\t\tundo 1\n\
+    line\ta redo 1\t\tredo 1\n\
+    line\ta redo 0004294967295\t\tredo 4294967295\n\
     line\t# a remove /a\t\tskipped\n\
     line\t  a   remove   /a \t\tremove [/a]\n\
     \n\
@@ -166,15 +168,19 @@ fn push_copy(alloc: Global, out: &mut Vec<u8>, action: &Action) -> Result<(), Al
     push_action(out, &copy)
 }
 
+/// A verb and the row that it names.
+fn push_row(out: &mut Vec<u8>, verb: &[u8], n: u32) -> Result<(), AllocError> {
+    out.extend_from_slice(verb)?;
+    push_decimal(out, n as usize)
+}
+
 /// What a line asks for, by a copy of its action.
 fn push_call(alloc: Global, out: &mut Vec<u8>, call: &Option<Call>) -> Result<(), AllocError> {
     match call {
         Some(call) => match &call.request {
             Request::Do(action) => push_copy(alloc, out, action),
-            Request::Undo(n) => {
-                out.extend_from_slice(b"undo ")?;
-                push_decimal(out, *n as usize)
-            }
+            Request::Undo(n) => push_row(out, b"undo ", *n),
+            Request::Redo(n) => push_row(out, b"redo ", *n),
         },
         None => out.extend_from_slice(b"skipped"),
     }

@@ -10,7 +10,7 @@ use Rattle.unit_paths.specs.declared.place.Scope.TheVariants.{Etc, Run}
 use Rattle.link_tree.specs.Inventory.{◌>>=◌}
 use Rattle.unit_script.specs.declared.action.Action.TheVariants as actions
 use Rattle.history.specs.declared.row.Request.{Request}
-use Rattle.history.specs.declared.row.Request.TheVariants.{Do, Undo}
+use Rattle.history.specs.declared.row.Request.TheVariants.{Do, Undo, Redo}
 use Rattle.unit_script.specs.declared.action.Action.{Action}
 use Rattle.unit_script.specs.declared.reason.Reason.{Reason}
 use Rattle.unit_script.specs.declared.reason.Reason.TheVariants.{UnknownVerb, WrongArguments, BadNumber}
@@ -120,7 +120,7 @@ is_reverse word = bytes_eq word (codes "--reverse")
 abbrev pub dependencies_for : (reverse : Bool) → List ℕ → Result (Request Action) Reason
 dependencies_for reverse word = name_of word >>= λ unit. Ok (Do (actions.Dependencies (record { unit = unit; reverse = reverse })))
 
--- one unit, behind the option if that is given
+-- one unit, after the option if that is given
 abbrev pub dependencies_of : List (List ℕ) → Result (Request Action) Reason
 dependencies_of [] = Err WrongArguments
 dependencies_of (word ∷ words) = if is_reverse word then of_one (dependencies_for true) words else of_one (dependencies_for false) (word ∷ words)
@@ -128,6 +128,10 @@ dependencies_of (word ∷ words) = if is_reverse word then of_one (dependencies_
 -- the undo of the row that a word names
 abbrev pub undo_row : List ℕ → Result (Request Action) Reason
 undo_row word = option_map_or (λ n. Ok (Undo n)) (number_of word) (Err BadNumber)
+
+-- the redo of the row that a word names
+abbrev pub redo_row : List ℕ → Result (Request Action) Reason
+redo_row word = option_map_or (λ n. Ok (Redo n)) (number_of word) (Err BadNumber)
 
 -- what a verb asks for with the words after it
 unfoldable pub request_of_verb : List ℕ → List (List ℕ) → Result (Request Action) Reason
@@ -148,6 +152,7 @@ request_of_verb verb words =
     else if bytes_eq verb (codes "get-default") then get_default_of words
     else if bytes_eq verb (codes "dependencies") then dependencies_of words
     else if bytes_eq verb (codes "undo") then of_one undo_row words
+    else if bytes_eq verb (codes "redo") then of_one redo_row words
     else Err UnknownVerb
 
 abbrev pub request_of : List (List ℕ) → Result (Request Action) Reason

@@ -16,12 +16,14 @@ use Rattle.footprint.specs.declared.refusal.Refusal.TheVariants.{NotFound, Maske
 use Rattle.footprint.specs.declared.refusal.Subject.{Subject}
 use Rattle.footprint.specs.declared.refusal.Subject.TheVariants.{Unit, Path}
 use Rattle.history.specs.declared.row.Request.{Request}
-use Rattle.history.specs.declared.row.Request.TheVariants.{Do, Undo}
+use Rattle.history.specs.declared.row.Request.TheVariants.{Do, Undo, Redo}
 use Rattle.history.specs.declared.row.UndoRefusal.{UndoRefusal}
 use Rattle.history.specs.declared.row.UndoRefusal.TheVariants.{NoSuchRow, NotACommand, AlreadyUndone, Blocked}
+use Rattle.history.specs.declared.row.RedoRefusal.{RedoRefusal}
+use Rattle.history.specs.declared.row.RedoRefusal.TheVariants as redos
 use Rattle.history.specs.declared.row.Row.{Row}
 use Rattle.history.specs.declared.row.RowReply.{RowReply}
-use Rattle.history.specs.declared.row.RowReply.TheVariants.{Answered, Undid, UndoRefused}
+use Rattle.history.specs.declared.row.RowReply.TheVariants.{Answered, Undid, UndoRefused, Redid, RedoRefused}
 use Rattle.history.specs.Rows.{row_at}
 use Rattle.unit_script.specs.declared.action.Action.{Action}
 use Rattle.unit_script.specs.Machine.{replay}
@@ -31,12 +33,12 @@ abbrev pub entry_text : List ℕ → List ℕ → Entry → List ℕ
 entry_text sign path (File contents) = sign ++ path ++ codes " file " ++ decimal (length contents) ++ codes "\n"
 entry_text sign path (Link target) = sign ++ path ++ codes " -> " ++ target ++ codes "\n"
 
--- a line for what stood or stands there, if anything does
+-- a line for the entry at a path, if there is one
 abbrev pub side_text : List ℕ → List ℕ → Option Entry → List ℕ
 side_text sign path None = []
 side_text sign path (Some entry) = entry_text sign path entry
 
--- the lines of what stood at a path, then of what stands there
+-- the lines of the entry that was at a path, then of the one that is there now
 abbrev pub sides_text : List ℕ → Option Entry → Option Entry → List ℕ
 sides_text path before after = side_text (codes "  - ") path before ++ side_text (codes "  + ") path after
 
@@ -101,13 +103,27 @@ name_line name = codes "  " ++ name ++ codes "\n"
 
 -- the lines of the names that are answered
 abbrev pub names_lines : RowReply → List ℕ
+names_lines (Answered (Done notices)) = []
+names_lines (Answered (State state)) = []
+names_lines (Answered (Name name)) = []
 names_lines (Answered (Names names)) = flat_map name_line names
-names_lines reply = []
+names_lines (Answered (Refused refusal)) = []
+names_lines (Undid n) = []
+names_lines (UndoRefused refusal) = []
+names_lines (Redid n) = []
+names_lines (RedoRefused refusal) = []
 
 -- the lines of the words that were skipped
 abbrev pub notices_text : RowReply → List ℕ
 notices_text (Answered (Done notices)) = notice_lines notices
-notices_text reply = []
+notices_text (Answered (State state)) = []
+notices_text (Answered (Name name)) = []
+notices_text (Answered (Names names)) = []
+notices_text (Answered (Refused refusal)) = []
+notices_text (Undid n) = []
+notices_text (UndoRefused refusal) = []
+notices_text (Redid n) = []
+notices_text (RedoRefused refusal) = []
 
 -- a number between two texts
 abbrev pub numbered : List ℕ → ℕ → List ℕ → List ℕ
@@ -123,25 +139,37 @@ undo_refusal_text n NotACommand = numbered (codes "row ") n (codes " is no accep
 undo_refusal_text n (AlreadyUndone by) = two_rows n (codes " was undone by row ") by
 undo_refusal_text n (Blocked by) = two_rows n (codes " is blocked by row ") by
 
--- the row that an undo names
+abbrev pub redo_refusal_text : ℕ → RedoRefusal → List ℕ
+redo_refusal_text n redos.NoSuchRow = numbered (codes "no row ") n []
+redo_refusal_text n redos.NotACommand = numbered (codes "row ") n (codes " is no accepted command")
+redo_refusal_text n redos.NotUndone = numbered (codes "row ") n (codes " is not undone")
+redo_refusal_text n (redos.Hindered by) = two_rows n (codes " is hindered by row ") by
+
+-- the row that an undo or a redo names; 0 for anything else
 abbrev pub number_asked : Request Action → ℕ
 number_asked (Do c) = 0
 number_asked (Undo n) = n
+number_asked (Redo n) = n
 
 abbrev pub reply_text : ℕ → RowReply → List ℕ
 reply_text n (Answered answer) = answer_text answer
 reply_text n (Undid m) = numbered (codes "undid ") m []
 reply_text n (UndoRefused refusal) = codes "refused: " ++ undo_refusal_text n refusal
+reply_text n (Redid m) = numbered (codes "redid ") m []
+reply_text n (RedoRefused refusal) = codes "refused: " ++ redo_refusal_text n refusal
 
 abbrev pub changes_at : Option (Row Action) → List Change
 changes_at None = []
 changes_at (Some row) = row.changes
 
--- what a row shows as changed: an accepted undo shows the inverse of the changes of the row that it names
+-- What a row shows as changed: an accepted undo shows the inverse of the changes of the row that it
+-- names, and an accepted redo shows these changes as they are.
 abbrev pub shown_changes : List (Row Action) → RowReply → List Change → List Change
 shown_changes rows (Answered answer) changes = changes
 shown_changes rows (Undid n) changes = inverse_of (changes_at (row_at rows n))
 shown_changes rows (UndoRefused refusal) changes = changes
+shown_changes rows (Redid n) changes = changes_at (row_at rows n)
+shown_changes rows (RedoRefused refusal) changes = changes
 
 -- the first line of a row
 abbrev pub row_line : ℕ → Row Action → List ℕ

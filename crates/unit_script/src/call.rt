@@ -3,7 +3,8 @@
 use crate::action::Action;
 use history::{Operator, Request};
 
-/// One line of a script: a command, or the undo of a row, and the operator who asks for it.
+/// One line of a script: the operator, and the command, the question, or the undo or redo of a row
+/// that the operator asks for.
 #[derive(Debug, Drop)]
 pub struct Call {
     pub operator: Operator,

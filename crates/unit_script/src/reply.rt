@@ -5,11 +5,11 @@ ghost use Rattle.std.specs.Option.{option_copied};
 ghost use Rattle.link_tree.specs.Trees.{inverse_of};
 ghost use Rattle.history.specs.declared.history.TheConstants.{MAX_ROWS};
 ghost use Rattle.history.specs.Rows.{row_at};
-ghost use Rattle.unit_script.specs.Texts.{entry_text, side_text, sides_text, change_text, subject_text, refusal_text, state_text, is_success, success_text, answer_text, name_line, names_lines, notices_text, numbered, two_rows, undo_refusal_text, number_asked, reply_text, changes_at, shown_changes, row_line, row_text, rows_text};
+ghost use Rattle.unit_script.specs.Texts.{entry_text, side_text, sides_text, change_text, subject_text, refusal_text, state_text, is_success, success_text, answer_text, name_line, names_lines, notices_text, numbered, two_rows, undo_refusal_text, redo_refusal_text, number_asked, reply_text, changes_at, shown_changes, row_line, row_text, rows_text};
 
 use crate::action::Action;
 use footprint::{Answer, Refusal, StateWord, Subject};
-use history::{Request, Row, RowReply, UndoRefusal};
+use history::{RedoRefusal, Request, Row, RowReply, UndoRefusal};
 use link_tree::{Change, Entry, TreePath, push_decimal};
 use std::alloc::AllocError;
 use unit_name::UnitName;
@@ -51,7 +51,7 @@ fn push_side(
     }
 }
 
-/// The lines of an entry that stood at a path and of the one that stands there now.
+/// The lines of the entry that was at a path, and of the one that is there now.
 fn push_sides(
     out: &mut Vec<u8>,
     path: &TreePath,
@@ -64,8 +64,9 @@ fn push_sides(
     push_side(out, b"  + ", path, after)
 }
 
-/// Appends the lines of changes: for each what stood at the path, `  - PATH -> TARGET` or `  - PATH file LENGTH`, and
-/// with a `+` what stands there now. Where memory runs out, a part of the text may have been appended.
+/// Appends the lines of changes: for each the entry that was at the path, as `  - PATH -> TARGET` or
+/// `  - PATH file LENGTH`, and with a `+` the one that is there now. If memory runs out, a part of
+/// the text may have been appended.
 pub fn push_changes(out: &mut Vec<u8>, changes: &[Change]) -> Result<(), AllocError>
     ensures { OnOk result (out.new.items ≡ out.old.items ++ flat_map change_text changes.now) }
 {
@@ -102,8 +103,8 @@ fn push_said(out: &mut Vec<u8>, subject: &[u8], said: &[u8]) -> Result<(), Alloc
     out.extend_from_slice(said)
 }
 
-/// Appends why an operation was refused, as the reply to it says behind `refused: `. Where memory runs out, a part of
-/// the text may have been appended.
+/// Appends why an operation was refused: the text after `refused: ` in the reply to it. If memory
+/// runs out, a part of the text may have been appended.
 pub fn push_refusal(out: &mut Vec<u8>, refusal: &Refusal) -> Result<(), AllocError>
     ensures { OnOk result (out.new.items ≡ out.old.items ++ refusal_text refusal.now) }
 {
@@ -192,7 +193,10 @@ fn push_names(out: &mut Vec<u8>, reply: &RowReply) -> Result<(), AllocError>
 {
     match reply {
         RowReply::Answered(Answer::Names(names)) => push_name_lines(out, names.as_slice()),
-        _ => Ok(()),
+        RowReply::Answered(Answer::Done(_) | Answer::State(_) | Answer::Name(_)) => Ok(()),
+        RowReply::Answered(Answer::Refused(_)) => Ok(()),
+        RowReply::Undid(_) | RowReply::UndoRefused(_) => Ok(()),
+        RowReply::Redid(_) | RowReply::RedoRefused(_) => Ok(()),
     }
 }
 
@@ -212,7 +216,10 @@ fn push_skipped(out: &mut Vec<u8>, reply: &RowReply) -> Result<(), AllocError>
 {
     match reply {
         RowReply::Answered(Answer::Done(notices)) => notices.push_lines(out),
-        _ => Ok(()),
+        RowReply::Answered(Answer::State(_) | Answer::Name(_) | Answer::Names(_)) => Ok(()),
+        RowReply::Answered(Answer::Refused(_)) => Ok(()),
+        RowReply::Undid(_) | RowReply::UndoRefused(_) => Ok(()),
+        RowReply::Redid(_) | RowReply::RedoRefused(_) => Ok(()),
     }
 }
 
@@ -243,12 +250,25 @@ fn push_undo_refusal(out: &mut Vec<u8>, n: u32, refusal: UndoRefusal) -> Result<
     }
 }
 
+fn push_redo_refusal(out: &mut Vec<u8>, n: u32, refusal: RedoRefusal) -> Result<(), AllocError>
+    ensures { OnOk result (out.new.items ≡ out.old.items ++ redo_refusal_text n refusal) }
+{
+    match refusal {
+        RedoRefusal::NoSuchRow => push_numbered(out, b"no row ", n, b""),
+        RedoRefusal::NotACommand => { push_numbered(out, b"row ", n, b" is no accepted command") }
+        RedoRefusal::NotUndone => push_numbered(out, b"row ", n, b" is not undone"),
+        RedoRefusal::Hindered(by) => push_two_rows(out, n, b" is hindered by row ", by),
+    }
+}
+
+/// The row that an undo or a redo names; 0 for anything else.
 fn number_asked(request: &Request<Action>) -> u32
     ensures { result ≡ number_asked request.now }
 {
     match request {
         Request::Do(_) => 0,
         Request::Undo(n) => *n,
+        Request::Redo(n) => *n,
     }
 }
 
@@ -261,6 +281,11 @@ fn push_reply(out: &mut Vec<u8>, n: u32, reply: &RowReply) -> Result<(), AllocEr
         RowReply::UndoRefused(refusal) => {
             out.extend_from_slice(b"refused: ")?;
             push_undo_refusal(out, n, *refusal)
+        }
+        RowReply::Redid(m) => push_numbered(out, b"redid ", *m, b""),
+        RowReply::RedoRefused(refusal) => {
+            out.extend_from_slice(b"refused: ")?;
+            push_redo_refusal(out, n, *refusal)
         }
     }
 }
@@ -284,22 +309,28 @@ fn row_at(rows: &[Row<Action>], n: u32) -> Option<&Row<Action>>
     rows.get(n as usize - 1)
 }
 
-/// The lines of the changes that the undo of row n made.
-fn push_undone(out: &mut Vec<u8>, rows: &[Row<Action>], n: u32) -> Result<(), AllocError>
-    ensures { OnOk result (out.new.items ≡ out.old.items ++ flat_map change_text (inverse_of (changes_at (row_at rows.now n)))) }
+/// The changes of row n, or none if there is no such row.
+fn changes_at(rows: &[Row<Action>], n: u32) -> &[Change]
+    ensures { result.now ≡ changes_at (row_at rows.now n) }
 {
     match row_at(rows, n) {
-        Some(row) => push_inverse(out, row.changes.as_slice()),
-        None => Ok(()),
+        Some(row) => row.changes.as_slice(),
+        None => &[],
     }
 }
 
+/// The lines of what a row changed. An accepted undo shows the changes of the row that it names
+/// turned round, and an accepted redo shows them as they are.
 fn push_shown(out: &mut Vec<u8>, rows: &[Row<Action>], row: &Row<Action>) -> Result<(), AllocError>
     ensures { OnOk result (out.new.items ≡ out.old.items ++ flat_map change_text (shown_changes rows.now row.now.reply row.now.changes)) }
 {
     match &row.reply {
-        RowReply::Undid(n) => push_undone(out, rows, *n),
-        _ => push_changes(out, row.changes.as_slice()),
+        RowReply::Answered(_) => push_changes(out, row.changes.as_slice()),
+        RowReply::Undid(n) => push_inverse(out, changes_at(rows, *n)),
+        RowReply::Redid(n) => push_changes(out, changes_at(rows, *n)),
+        RowReply::UndoRefused(_) | RowReply::RedoRefused(_) => {
+            push_changes(out, row.changes.as_slice())
+        }
     }
 }
 
@@ -318,9 +349,9 @@ fn push_row(
     push_skipped(out, &row.reply)
 }
 
-/// Appends the replies to all calls of a history: for each row, numbered from 1, the line `ROW OPERATOR` with the
-/// answer, the names that it answers, what it changed, and which words were skipped. Where memory runs out, a part of
-/// the text may have been appended.
+/// Appends the replies to all calls of a history: for each row, numbered from 1, the line
+/// `ROW OPERATOR` with the answer, the names that it answers, what it changed, and which words were
+/// skipped. If memory runs out, a part of the text may have been appended.
 pub fn push_rows(out: &mut Vec<u8>, rows: &[Row<Action>]) -> Result<(), AllocError>
     requires { length rows.now ≤ MAX_ROWS }
     ensures { OnOk result (out.new.items ≡ out.old.items ++ rows_text rows.now 1 rows.now) }

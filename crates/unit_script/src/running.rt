@@ -43,10 +43,15 @@ fn make(history: &mut History<Action>, alloc: Global, call: Call) -> Result<(), 
             Ok(_) => Ok(()),
             Err(_) => Err(AllocError),
         },
+        Request::Redo(n) => match history.redo(alloc, operator, n) {
+            Ok(_) => Ok(()),
+            Err(_) => Err(AllocError),
+        },
     }
 }
 
-/// The history of a script's calls, at most 1,000,000, made one after another on a tree. Fails only where memory runs out.
+/// The history of a script's calls, at most 1,000,000, made one after another on a tree. Fails only
+/// if memory runs out.
 pub fn history_of(
     alloc: Global,
     tree: Tree,
@@ -113,20 +118,22 @@ fn read_calls<S: Source>(alloc: Global, source: &mut S) -> Result<Vec<Call>, Inp
     }
 }
 
-/// What a run is given: the tree of an inventory, and the calls of the script behind it.
+/// What a run is given: the tree of an inventory, and the calls of the script after it.
 #[derive(Debug, Drop)]
 pub struct Input {
     pub tree: Tree,
     pub calls: Vec<Call>,
 }
 
-/// Reads an inventory and the script behind it, up to the end of the source. No call is made, and there may be any number of calls.
+/// Reads an inventory and the script after it, up to the end of the source. No call is made, and
+/// there may be any number of calls.
 ///
 /// # Errors
 ///
-/// The first in the order of reading: `Fault` of the inventory or of the script, as `read_inventory` and `read_script` tell it; `InventoryRead`
-/// or `ReadFault` where the source failed in the one or the other, or was interrupted 1,000 times in a row. `OutOfMemory` may come
-/// before any of them.
+/// The first in the order of reading: `Fault` of the inventory or of the script, as
+/// `read_inventory` and `read_script` report it; `InventoryRead` or `ReadFault` if the source
+/// failed in the inventory or in the script, or was interrupted 1,000 times in a row there.
+/// `OutOfMemory` may come before any of them.
 pub fn read_input<S: Source>(alloc: Global, source: &mut S) -> Result<Input, InputError>
     ensures input { (input : List ℕ) → S.left source.old ≡ Some input → GivesInput (λ given. (given.tree, given.calls.items)) result (input_of input) }
     ensures stops { IfErr result (λ e. InputStops e (S.left source.old) (S.left source.new)) }
@@ -157,13 +164,14 @@ fn text_of_replies(alloc: Global, history: &History<Action>) -> Result<Vec<u8>, 
     Ok(out)
 }
 
-/// Writes the reply to each call of a history, the line `== tree`, and the inventory of the tree that the calls leave. All memory is
-/// taken before the first byte is written: the replies' text, and a buffer.
+/// Writes the reply to each call of a history, the line `== tree`, and the inventory of the tree
+/// that the calls leave. All memory is taken before the first byte is written: the replies' text,
+/// and a buffer.
 ///
 /// # Errors
 ///
-/// `Fault` with the number of bytes that the sink took, where it failed, was interrupted 1,000 times in a row or wasn't flushed;
-/// `OutOfMemory`, and then nothing was written.
+/// `Fault` with the number of bytes that the sink took, if it failed, was interrupted 1,000 times
+/// in a row or wasn't flushed; `OutOfMemory`, and then nothing was written.
 pub fn write_history<K: Sink>(
     alloc: Global,
     history: &History<Action>,
@@ -180,13 +188,14 @@ pub fn write_history<K: Sink>(
     write_before_inventory(alloc, &replies, history.tree(), sink)
 }
 
-/// Reads an inventory and a script up to the end of the source, makes the script's calls one after another, and writes
-/// to the sink a reply to each call and the inventory of the tree that they leave. systemctl(1), "Unit File Commands".
+/// Reads an inventory and a script up to the end of the source, makes the script's calls one after
+/// another, and writes to the sink a reply to each call and the inventory of the tree that they
+/// leave. systemctl(1), "Unit File Commands".
 ///
-/// A call that is refused is no error: its reply says why, and the next call is made. All lines are read before the
-/// first call is made, and all memory is taken before the first byte is written; so but for a sink that fails, the
-/// output is written whole and flushed, or nothing is written. The process is to end next: the history is left to it,
-/// and not freed.
+/// A call that is refused is no error: its reply says why, and the next call is made. All lines are
+/// read before the first call is made, and all memory is taken before the first byte is written. So
+/// unless the sink fails, the output is written whole and flushed, or nothing is written. The
+/// process should end next: the history is not freed.
 ///
 /// # Errors
 ///
@@ -198,8 +207,8 @@ pub fn write_history<K: Sink>(
 /// - `BadCall`: the first bad line of the script, numbered from 1 after `== calls`, with its `Reason`.
 /// - `ReadFault`: the source failed in the script, or was interrupted 1,000 times in a row.
 /// - `Full`: the script has over 1,000,000 calls (`MAX_ROWS`).
-/// - `WriteFault`: the sink failed, was interrupted 1,000 times in a row or wasn't flushed, when it had taken just
-///   the first so many bytes of the output.
+/// - `WriteFault`: the sink failed, was interrupted 1,000 times in a row or wasn't flushed. It had
+///   taken the first bytes of the output, exactly as many as the fault says.
 ///
 /// `OutOfMemory` may come before any of them but `WriteFault`; nothing was written then.
 pub fn run<S: Source, K: Sink>(alloc: Global, source: &mut S, sink: &mut K) -> Result<(), RunFault>
@@ -213,7 +222,7 @@ pub fn run<S: Source, K: Sink>(alloc: Global, source: &mut S, sink: &mut K) -> R
     match history_of_input(alloc, source) {
         Ok(history) => {
             let written = write_history(alloc, &history, sink);
-            // A process gives its memory back whole: entry by entry it would take a tenth of the time.
+            // The process gives back all its memory at once; to free each entry takes a tenth of the time.
             forget(history);
             match written {
                 Ok(()) => Ok(()),

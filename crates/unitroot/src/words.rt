@@ -23,7 +23,7 @@ pub(crate) struct Words {
     pub with: Vec<String>,
 }
 
-/// What `--version` says behind the program's name.
+/// What `--version` says after the program's name.
 const VERSION: &str = "1 (as systemctl 252; inventories and scripts of unitadm 1)";
 
 /// What `--help` says at its end.
@@ -35,7 +35,7 @@ Calls:
   set-default TARGET                          get-default
   is-enabled UNIT                             dependencies [--reverse] UNIT
   place PATH link TARGET | file [TEXT]        remove PATH
-  undo ROW                                    (in scripts: row ROW of this run)
+  undo | redo ROW                             (in scripts: row ROW of this run)
 
 Status:
   0  done
@@ -43,8 +43,8 @@ Status:
   2  bad arguments
   3  a call was refused, and the root is as it was; with --keep-going the accepted calls are made
   4  something changed in the root meanwhile: what was made was taken back
-  5  half of the changes stand: they could not be taken back
-  6  the changes stand, but standard output could not be written
+  5  half of the changes are made: they could not be taken back
+  6  the changes are made, but standard output could not be written
 
 Examples:
   unitroot ./image enable ssh.service
@@ -70,14 +70,14 @@ fn with<'a>(alloc: Global) -> Arg<'a> {
         .long("with")
         .value_name("PATH")
         .action(ArgAction::Append)
-        .help("Captures what stands at this path too")
+        .help("Also captures what is at this path")
 }
 
 fn dry_run<'a>(alloc: Global) -> Arg<'a> {
     flag(
         alloc,
         "dry-run",
-        "Changes nothing: tells what would be changed",
+        "Changes nothing: reports what would be changed",
     )
 }
 
@@ -107,7 +107,7 @@ fn run<'a>(alloc: Global) -> Result<Command<'a>, AllocError> {
         .arg(flag(
             alloc,
             "keep-going",
-            "Makes the accepted calls where others were refused, in place of none",
+            "Makes the accepted calls even if others were refused, instead of none",
         ))?
         .arg(vendor(alloc))?
         .arg(with(alloc))
