@@ -48,7 +48,7 @@ def closure(names, lines):
 
 def share(file, to):
     """Links a file that was built, or copies it to another disk. A crate has gigabytes of them, and
-    the toolchain writes each anew instead of changing it."""
+    the toolchain writes a new file instead of changing one."""
     try:
         os.link(file, to)
     except OSError:

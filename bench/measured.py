@@ -6,7 +6,7 @@ from typing import NamedTuple
 # A smoke run shows whether a bench still works: one turn on the smallest size. This is read before
 # the arguments are parsed, since the benches choose their sizes with it when they are loaded.
 SMOKE = "--smoke" in sys.argv[1:]
-# A line of results says what was measured, and behind a colon the numbers.
+# A line of results says what was measured, and after a colon the numbers.
 RESULT = re.compile(r".*: .*\d")
 
 

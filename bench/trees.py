@@ -24,7 +24,7 @@ def names(what, count):
 
 
 def tree(size, chance):
-    """A tree of about so many entries.
+    """A tree of about `size` entries.
 
     Half of them are unit files of 200 to 4,000 bytes, each with WantedBy=multi-user.target: a
     quarter of the files are in /opt, the others in /usr/lib/systemd/system. The other half are
