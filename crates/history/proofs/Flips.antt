@@ -22,7 +22,7 @@ pub record IsOther (reply : RowReply) (at n : ℕ) (by : Option ℕ) (last : ℕ
 pub record IsToggle (reply : RowReply) (at n : ℕ) (by : Option ℕ) (last : ℕ) : Type 0 where
   pub names_it : toggled reply ≡ Some n
   pub last_is : toggle_then (toggled reply) at n last ≡ at
-  -- it tells whether the row was undone before
+  -- it says whether the row was undone before
   pub tells : (reply ≡ Undid n → by ≡ None) → (reply ≡ Redid n → is_some by ≡ true) → was_undone reply ≡ is_some by
 
 reply_cases : (reply : RowReply) (at n : ℕ) (by : Option ℕ) (last : ℕ) → IsOther reply at n by last ⊎ IsToggle reply at n by last
@@ -83,7 +83,7 @@ sooner_less test u (Some k) was link least = elim (cases_Bool ((nat_lt k least &
     ]
 
 module _ {O : Type 0} where
-  -- One of these rows toggles row k for the first time since row u, and tells that it was undone
+  -- One of these rows toggles row k for the first time since row u, and says that it was undone
   -- before or that it wasn't.
   abbrev pub Finds : (u : ℕ) → List (Row O) → (links : List ℕ) → (k : ℕ) → (was : Bool) → Type 0
   Finds u [] links k was = ⊥
@@ -257,7 +257,7 @@ module _ {O : Type 0} (asks : O → Bool) (rows : List (Row O)) (links : List �
       let number : suc j ≡ 1 + j = omega arith in
       (j, number, (row.0, get_take_out (n - 1) rows j row.0 (omega (arith, lt)) row.1, ap (λ i. row_test i row.0) (sym number) ∙ holds))
 
-  -- and the other way round
+  -- and the reverse
   of_passes : (j : ℕ) → Passes row_test (take (n - 1) rows) 1 j
       → (test (is_some (undoer_before rows u (1 + j))) (1 + j) ≡ true) × Finds u (drop (u - 1) rows) (drop (u - 1) links) (1 + j) (is_some (undoer_before rows u (1 + j))) × (1 + j < n)
   of_passes j (row, is, holds) =

@@ -1,4 +1,4 @@
--- The rows as they stood at earlier moments, and that each of their survivors answers in the replay
+-- The rows as they were at earlier moments, and that each of their survivors answers in the replay
 -- of that moment as its row says.
 use Rattle.std.proofs.Common.{◌≡◌, ◌+◌, ◌-◌, ◌<◌, ◌≤◌, ◌==◌, ℕ, zero, suc, Bool, true, false, cond, List, [], ◌∷◌, ◌++◌, Option, Some, None, slice_get, take, length, length-append, refl, sym, ap, subst, ◌∙◌, arith, inl, inr}
 use Rattle.std.proofs.Math.Seq.{take-length}
@@ -20,7 +20,7 @@ use Rattle.history.proofs.Restored.{remark, free_redo, answers_again, restored, 
 use Rattle.history.proofs.Marks.{undoer-push, undoer-mark, undoer-toggled, names_undone, names_redone, marks-after, no_rows}
 
 module _ {O : Type 0} where
-  -- the rows as they stood when there were v of them
+  -- the rows as they were when there were v of them
   abbrev pub rows_then : List (Row O) → ℕ → List (Row O)
   rows_then rows v = remark (undoer (take v rows)) (take v rows) 1
 
@@ -57,7 +57,7 @@ module _ {O : Type 0} where
       ∙ ap (λ (rs : List (Row O)). r ∷ rs) (remark-same marks rows (at + 1)
       (λ k row is. let number : at + 1 + k ≡ at + suc k = omega arith in ap marks number ∙ same (suc k) row is))
 
-  -- the rows as they stand
+  -- the rows as they are
   then-now : (rows : List (Row O)) → MarksAgree rows → rows_then rows (length rows) ≡ rows
   then-now rows marked =
       ap (λ (rs : List (Row O)). remark (undoer rs) rs 1) (take-length rows)

@@ -58,7 +58,7 @@ module _ {O : Type 0} {asks : O → Bool} {meaning : O → Inquiry Effect} (laws
       last : Row O
       last = row_of_redo operator n (Redid n)
 
-      -- what is to be shown of the new rows
+      -- what must be shown of the new rows
       Is : List (Row O) → Type 0
       Is new = (row_at new n ≡ Some (record row { undone_by = None })) × (replay asks meaning first new ≡ after_changes row.changes (replay asks meaning first rows)) × AnswersAlike asks meaning first new
 

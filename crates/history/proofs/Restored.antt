@@ -151,7 +151,7 @@ module _ {O : Type 0} {asks : O → Bool} {meaning : O → Inquiry Effect} (laws
         agree_over (keys_of reading) t u (after_changes cs u) agree free
     row_alike row (Some c) (Some m) (Some l) t u agree here there off = agree
 
-    -- THE VIEW: what the keys of a reading see in the replay depends only on those commands that
+    -- The view: what the keys of a reading see in the replay depends only on those commands that
     -- touch one of them, so where none of these has flipped, they see what they saw.
     pub seen_alike : (rows : List (Row O)) (at : ℕ) (t u : Entries) → AgreeOn (keys_of reading) t u → AnswersAlike asks meaning t rows → AnswersAlike asks meaning u (remark marks rows at)
         → first_flipped asks marks reading rows at ≡ None → AgreeOn (keys_of reading) (replay asks meaning t rows) (replay asks meaning u (remark marks rows at))
@@ -194,7 +194,7 @@ module _ {O : Type 0} {asks : O → Bool} {meaning : O → Inquiry Effect} (laws
         rest.2,
       )
 
-  -- THE RETURN: where a command answers at its place as it did, and no later survivor looked at
+  -- The return: if a command answers at its place as it did, and no later survivor looked at
   -- what it changed, making its changes in the tree gives the replay with it, and every survivor
   -- answers as it did.
   pub restored : (rows : List (Row O)) (t : Entries) (k at : ℕ) (row : Row O) (c : O) (by : ℕ) → AnswersAlike asks meaning t rows → slice_get rows k ≡ Some row

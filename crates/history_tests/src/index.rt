@@ -137,7 +137,7 @@ fn is_seen(changed: &Row<Step>, by: &Row<Step>) -> bool {
 }
 
 /// The first row that hinders a redo of row n, which row u undid: an earlier command that is undone
-/// now and was not just before row u, or the other way round, and changed what row n looked at; or a
+/// now and was not just before row u, or the reverse, and changed what row n looked at; or a
 /// later survivor that looked at what row n changed.
 fn walked_hindrance(rows: &[Row<Step>], n: u32, undone: &Row<Step>) -> Option<u32> {
     let u = undone.undone_by? as usize;
