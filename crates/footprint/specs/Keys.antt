@@ -6,24 +6,14 @@ use Rattle.std.specs.FinMap as map
 use Rattle.link_tree.specs.declared.entry.Entry.{Entry}
 use Rattle.link_tree.specs.declared.change.Change.{Change}
 use Rattle.unit_paths.specs.declared.place.Scope.{Scope}
-use Rattle.unit_paths.specs.declared.slot.Slot.{Slot}
-use Rattle.unit_paths.specs.declared.slot.Slot.TheVariants as slots
 use Rattle.unit_paths.specs.Slots.{slot_of, is_slot}
+use Rattle.unit_paths.specs.Kinds.{is_preset, is_dependency}
 use Rattle.link_tree.specs.Trees.{Entries}
 use Rattle.footprint.specs.declared.key.Key.{Key}
 use Rattle.footprint.specs.declared.key.Key.TheVariants.{Cell, Marked, Presets, Links}
 use Rattle.footprint.specs.declared.reading.Seen.{Seen}
 use Rattle.footprint.specs.declared.reading.Seen.TheVariants as seens
 use Rattle.link_tree.specs.Links.{belongs}
-
-abbrev pub is_preset : Option Slot → Bool
-is_preset (Some (slots.Preset place)) = true
-is_preset slot = false
-
-abbrev pub is_dependency : Option Slot → Bool
-is_dependency (Some (slots.Wants place)) = true
-is_dependency (Some (slots.Requires place)) = true
-is_dependency slot = false
 
 abbrev pub is_cell : Key → Bool
 is_cell (Cell path) = true
@@ -91,8 +81,8 @@ abbrev pub is_marked : Scope → (name path : List ℕ) → Option Entry → Boo
 is_marked scope name path None = false
 is_marked scope name path (Some entry) = belongs scope name path entry
 
--- A change touches the cell of its path, the names in a scope to which its entry before or after belongs, the presets where
--- its path is one of theirs, and the links where it is that of a dependency.
+-- A change touches the cell of its path, the names in a scope to which its entry before or after belongs, the presets if
+-- its path is one of their slots, and the links if it is the slot of a dependency.
 abbrev pub touches : Change → Key → Bool
 touches change (Cell path) = bytes_eq change.path path
 touches change (Marked scope name) = is_marked scope name change.path change.before || is_marked scope name change.path change.after

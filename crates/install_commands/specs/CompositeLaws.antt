@@ -1,7 +1,8 @@
 -- Laws of reenabling and of presets, each the contract of a public function: systemctl(1), "reenable", "preset".
 use Rattle.std.specs.Prelude.{◌≡◌, ℕ, Bool, ◌↔◌, ◌⊎◌, true, false, List, [], ◌∷◌, ◌++◌, All, Contains, Some, Ok, Err}
 use Rattle.unit_file.specs.Listed.{is_template_name}
-use Rattle.unit_paths.specs.Slots.{slot_of, is_unit_slot}
+use Rattle.unit_paths.specs.Slots.{slot_of}
+use Rattle.unit_paths.specs.Kinds.{is_unit_slot}
 use Rattle.unit_paths.specs.declared.place.Place.{Place}
 use Rattle.link_tree.specs.declared.entry.Entry.{Entry}
 use Rattle.link_tree.specs.declared.entry.Entry.TheVariants.{Link}
@@ -83,8 +84,8 @@ GivesUnit given [] unit = unit ≡ given
 GivesUnit given (first ∷ instances) unit =
     ((is_template_name given ≡ false) × (unit ≡ given)) ⊎ ((is_template_name given ≡ true) × (instance : List ℕ) × Contains (first ∷ instances) instance × (put_in given (Some instance) ≡ Some unit))
 
--- Those that are disabled are those of the given units that count and are to be disabled by what the preset files of the first tree say;
--- those that are enabled are given by the others that count.
+-- Disabled are those of the given units that count and that the preset files of the first tree disable; enabled are those that are
+-- given by the ones that count and that these files enable. So a unit that they ignore is neither.
 abbrev pub PresetJudges : Type 0
 PresetJudges = (preset : Preset) (t : Entries) (judged : Judged) → ((preset_judges preset).conclusion t ≡ Ok judged)
     → ((unit : List ℕ) → Contains judged.disabled unit ↔ (Contains preset.units unit × Counts t unit × (verdict (rules_of t) unit ≡ verdicts.Disable)))

@@ -14,7 +14,7 @@ use Rattle.install_section.specs.declared.section.Section.{Section}
 use Rattle.install_section.specs.Sections.{section_of, is_empty}
 use Rattle.preset_rules.specs.declared.rule.Rule.{Rule}
 use Rattle.preset_rules.specs.declared.rule.Verdict.{Verdict}
-use Rattle.preset_rules.specs.declared.rule.Verdict.TheVariants.{Enable, Disable}
+use Rattle.preset_rules.specs.declared.rule.Verdict.TheVariants.{Enable, Disable, Ignore}
 use Rattle.preset_rules.specs.Files.{policy_of}
 use Rattle.preset_rules.specs.Verdicts.{verdict}
 use Rattle.footprint.specs.declared.answer.Answer.TheVariants.{Refused}
@@ -54,7 +54,7 @@ counting_behind names (unit ∷ units) = do
   here ← counts unit
   going_on (λ here. counting_behind (if here then names ++ unit ∷ [] else names) units) here
 
--- what is told of an instance that is listed for a template, and makes no name of a unit
+-- the notice of an instance that is listed for a template, and makes no name of a unit
 abbrev pub bad_instance : (template instance : List ℕ) → Notice
 bad_instance template instance = record { unit = template; key = notice_keys.Preset; word = instance; reason = BadName }
 
@@ -74,7 +74,7 @@ abbrev pub with_all_listed : (template : List ℕ) → Judged → (instances : L
 with_all_listed template judged [] = judged
 with_all_listed template judged (instance ∷ instances) = with_all_listed template (with_listed template instance judged (put_in template (Some instance))) instances
 
--- A unit is to be enabled; a template with these instances in its place, where there are any.
+-- A unit that the presets enable; if there are instances, each of them is enabled instead of a template.
 abbrev pub with_enabled : (unit : List ℕ) → Judged → (instances : List (List ℕ)) → Judged
 with_enabled unit judged [] = with_one unit judged
 with_enabled unit judged (instance ∷ instances) = if is_template_name unit then with_all_listed unit judged (instance ∷ instances) else with_one unit judged
@@ -82,6 +82,7 @@ with_enabled unit judged (instance ∷ instances) = if is_template_name unit the
 -- by what the presets say of it
 abbrev pub with_unit : (unit : List ℕ) → Judged → Verdict → Judged
 with_unit unit judged Disable = with_disabled unit judged
+with_unit unit judged Ignore = judged
 with_unit unit judged (Enable instances) = with_enabled unit judged instances
 
 abbrev pub judged_by : List Rule → (units : List (List ℕ)) → Judged → Judged

@@ -1,7 +1,8 @@
 -- Reenabling units: systemctl(1), "reenable".
 use Rattle.std.specs.Prelude.{ℕ, if◌then◌else◌, List, [], ◌∷◌, ◌++◌, map as list_map, Result, false}
 use Rattle.unit_paths.specs.declared.place.Scope.{Scope}
-use Rattle.unit_paths.specs.Slots.{slot_of, is_unit_slot}
+use Rattle.unit_paths.specs.Slots.{slot_of}
+use Rattle.unit_paths.specs.Kinds.{is_unit_slot}
 use Rattle.load_path.specs.declared.finding.Found.{Found}
 use Rattle.load_path.specs.declared.finding.Found.TheVariants.{Unit}
 use Rattle.load_path.specs.Find.{find}

@@ -11,7 +11,7 @@ use Rattle.link_tree.specs.Trees.{path_cmp}
 use Rattle.load_path.specs.Search.{Search, over, giving, ◌>>=◌}
 use Rattle.install_section.specs.declared.section.Section.{Section}
 use Rattle.install_section.specs.declared.wish.LinkKey.{LinkKey}
-use Rattle.install_section.specs.declared.wish.LinkKey.TheVariants.{WantedBy, RequiredBy, Alias}
+use Rattle.install_section.specs.declared.wish.LinkKey.TheVariants.{WantedBy, RequiredBy, UpheldBy, Alias}
 use Rattle.install_section.specs.declared.wish.Wish.{Wish}
 use Rattle.install_section.specs.declared.wish.Wish.TheVariants.{Link, Skip, NoInstance}
 use Rattle.install_section.specs.declared.wants.Wants.{Wants}
@@ -55,7 +55,7 @@ with_list place skip unit section key wants = with_words place skip unit (identi
 abbrev pub with_section : Place → (skip : Bool) → (unit : List ℕ) → Wants → Option Section → Wants
 with_section place skip unit wants None = wants
 with_section place skip unit wants (Some section) =
-    with_list place skip unit section Alias (with_list place skip unit section RequiredBy (with_list place skip unit section WantedBy wants))
+    with_list place skip unit section Alias (with_list place skip unit section UpheldBy (with_list place skip unit section RequiredBy (with_list place skip unit section WantedBy wants)))
 
 -- unit after unit
 abbrev pub all_wants : Place → (skip : Bool) → (units : List (List ℕ)) → Wants → Search Wants

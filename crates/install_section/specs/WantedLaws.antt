@@ -11,13 +11,13 @@ use Rattle.unit_file.specs.Notices.{notice_line}
 use Rattle.unit_paths.specs.declared.place.Place.{Place}
 use Rattle.unit_paths.specs.declared.place.Scope.{Scope}
 use Rattle.unit_paths.specs.declared.slot.Dependency.{Dependency}
-use Rattle.unit_paths.specs.declared.slot.Dependency.TheVariants.{Wants, Requires}
+use Rattle.unit_paths.specs.declared.slot.Dependency.TheVariants.{Wants, Requires, Upholds}
 use Rattle.unit_paths.specs.Places.{scope_place}
 use Rattle.unit_paths.specs.Slots.{unit_slot, dependency_slot}
 use Rattle.link_tree.specs.Trees.{Entries, path_cmp}
 use Rattle.install_section.specs.declared.section.Section.{Section}
 use Rattle.install_section.specs.declared.wish.LinkKey.{LinkKey}
-use Rattle.install_section.specs.declared.wish.LinkKey.TheVariants.{WantedBy, RequiredBy, Alias}
+use Rattle.install_section.specs.declared.wish.LinkKey.TheVariants.{WantedBy, RequiredBy, UpheldBy, Alias}
 use Rattle.install_section.specs.declared.wish.Wish.TheVariants.{Skip}
 use Rattle.install_section.specs.declared.wants.Wanted.{Wanted}
 use Rattle.install_section.specs.declared.wants.WantedFault.TheVariants.{NeedsInstance, Clash}
@@ -34,8 +34,9 @@ HasWord t unit key word section = ((section_of unit).conclusion t ≡ Some secti
 abbrev pub key_of : Dependency → LinkKey
 key_of Wants = WantedBy
 key_of Requires = RequiredBy
+key_of Upholds = UpheldBy
 
--- A unit's section says that another wants or requires it.
+-- A unit's section says that another wants, requires or upholds it.
 abbrev pub IsListedBy : Entries → (unit : List ℕ) → Section → Dependency → (by : List ℕ) → Type 0
 IsListedBy t unit section dependency by = (word : List ℕ) × HasWord t unit (key_of dependency) word section × (named_by (identity_in unit section) word ≡ Ok by)
 

@@ -1,5 +1,5 @@
--- Which link a word of an [Install] section asks for: systemd.unit(5), "[Install] Section Options", `WantedBy=`, `RequiredBy=` and
--- `Alias=`; "Description", on aliases and templates.
+-- Which link a word of an [Install] section asks for: systemd.unit(5), "[Install] Section Options", `WantedBy=`, `RequiredBy=`,
+-- `UpheldBy=` and `Alias=`; "Description", on aliases and templates.
 use Rattle.std.specs.Prelude.{ℕ, Bool, true, false, not, ◌&&◌, if◌then◌else◌, List, Option, Some, None, Result, Ok, Err}
 use Rattle.std.specs.Str.{bytes_eq}
 use Rattle.unit_name.specs.declared.kind.Kind.{Kind}
@@ -16,11 +16,11 @@ use Rattle.unit_file.specs.declared.notice.Reason.TheVariants.{BadName, BadAlias
 use Rattle.unit_file.specs.Listed.{listed_name}
 use Rattle.unit_paths.specs.declared.place.Place.{Place}
 use Rattle.unit_paths.specs.declared.slot.Dependency.{Dependency}
-use Rattle.unit_paths.specs.declared.slot.Dependency.TheVariants.{Wants, Requires}
+use Rattle.unit_paths.specs.declared.slot.Dependency.TheVariants.{Wants, Requires, Upholds}
 use Rattle.unit_paths.specs.Slots.{unit_slot, dependency_slot}
 use Rattle.load_path.specs.RealNames.{is_same_type, put_in}
 use Rattle.install_section.specs.declared.wish.LinkKey.{LinkKey}
-use Rattle.install_section.specs.declared.wish.LinkKey.TheVariants.{WantedBy, RequiredBy, Alias}
+use Rattle.install_section.specs.declared.wish.LinkKey.TheVariants.{WantedBy, RequiredBy, UpheldBy, Alias}
 use Rattle.install_section.specs.declared.wish.Wish.{Wish}
 use Rattle.install_section.specs.declared.wish.Wish.TheVariants.{Link, Skip, NoInstance}
 use Rattle.install_section.specs.Words.{named_by}
@@ -29,7 +29,7 @@ abbrev pub listed_under : Place → Dependency → (by : List ℕ) → (name : O
 listed_under place dependency by (Some name) = Link (dependency_slot place dependency by name)
 listed_under place dependency by None = NoInstance
 
--- a word of `WantedBy=` or `RequiredBy=`
+-- a word of `WantedBy=`, `RequiredBy=` or `UpheldBy=`
 abbrev pub listing : Place → Dependency → (unit identity : List ℕ) → Result (List ℕ) Reason → Wish
 listing place dependency unit identity (Ok by) = listed_under place dependency by (listed_name by unit identity)
 listing place dependency unit identity (Err reason) = Skip reason
@@ -73,16 +73,19 @@ aliasing place unit (Err reason) = Skip reason
 abbrev pub wish : Place → LinkKey → (unit identity word : List ℕ) → Wish
 wish place WantedBy unit identity word = listing place Wants unit identity (named_by identity word)
 wish place RequiredBy unit identity word = listing place Requires unit identity (named_by identity word)
+wish place UpheldBy unit identity word = listing place Upholds unit identity (named_by identity word)
 wish place Alias unit identity word = aliasing place unit (named_by identity word)
 
 -- the words of the list
 abbrev pub words_for : LinkKey → InstallText → List (List ℕ)
 words_for WantedBy text = text.wanted_by
 words_for RequiredBy text = text.required_by
+words_for UpheldBy text = text.upheld_by
 words_for Alias text = text.alias
 
--- under which key they stand
+-- the key under which they are written
 abbrev pub notice_key : LinkKey → NoticeKey
 notice_key WantedBy = keys.WantedBy
 notice_key RequiredBy = keys.RequiredBy
+notice_key UpheldBy = keys.UpheldBy
 notice_key Alias = keys.Alias

@@ -9,33 +9,29 @@ use Rattle.unit_name.specs.Name.{instance_of}
 use Rattle.link_tree.specs.declared.entry.Entry.{Entry}
 use Rattle.link_tree.specs.declared.entry.Entry.TheVariants.{File, Link}
 use Rattle.unit_paths.specs.declared.place.Scope.{Scope}
-use Rattle.unit_paths.specs.declared.place.Scope.TheVariants as scopes
-use Rattle.unit_paths.specs.declared.place.Place.{Place}
-use Rattle.unit_paths.specs.declared.place.Place.TheVariants as places
+use Rattle.unit_paths.specs.declared.place.Scope.TheVariants.{Etc, Run}
 use Rattle.unit_paths.specs.declared.slot.Slot.{Slot}
-use Rattle.unit_paths.specs.declared.slot.Slot.TheVariants as slots
 use Rattle.unit_paths.specs.Paths.{is_slash, name_at}
 use Rattle.unit_paths.specs.Canonical.{is_null_target}
 use Rattle.unit_paths.specs.Slots.{slot_of}
+use Rattle.unit_paths.specs.Kinds.{scope_of}
 
 -- whether an entry at a path is a link to /dev/null
 abbrev pub is_null_link : List ℕ → Entry → Bool
 is_null_link path (File contents) = false
 is_null_link path (Link target) = is_null_target path target
 
--- the directory of units of a scope
-abbrev pub is_place_of : Scope → Place → Bool
-is_place_of scopes.Etc places.Etc = true
-is_place_of scopes.Run places.Run = true
-is_place_of scope place = false
+-- whether a scope is this one
+abbrev pub is_scope : Scope → Option Scope → Bool
+is_scope scope None = false
+is_scope Etc (Some Etc) = true
+is_scope Etc (Some Run) = false
+is_scope Run (Some Etc) = false
+is_scope Run (Some Run) = true
 
 -- the slots of units and of dependencies in a scope
 abbrev pub is_of_scope : Scope → Option Slot → Bool
-is_of_scope scope (Some (slots.Unit place)) = is_place_of scope place
-is_of_scope scope (Some (slots.Wants place)) = is_place_of scope place
-is_of_scope scope (Some (slots.Requires place)) = is_place_of scope place
-is_of_scope scope (Some (slots.Preset place)) = false
-is_of_scope scope None = false
+is_of_scope scope slot = is_scope scope (scope_of slot)
 
 abbrev pub is_instance : Kind → Bool
 is_instance Plain = false

@@ -1,15 +1,14 @@
 -- Which preset files count, and what they say: systemd.preset(5), "Description" and "Preset File Format".
-use Rattle.std.specs.Prelude.{ℕ, Bool, true, false, ◌&&◌, List, [], ◌∷◌, ◌++◌, map as list_map, Option, Some, None}
+use Rattle.std.specs.Prelude.{ℕ, Bool, ◌&&◌, List, [], ◌∷◌, ◌++◌, map as list_map, Option, Some, None}
 use Rattle.std.specs.List.{filter}
 use Rattle.std.specs.Str.{bytes_eq}
 use Rattle.std.specs.FinMap as map
 use Rattle.unit_paths.specs.declared.place.Place.{Place}
 use Rattle.unit_paths.specs.declared.place.Place.TheVariants.{Etc, Run, Vendor}
-use Rattle.unit_paths.specs.declared.slot.Slot.{Slot}
-use Rattle.unit_paths.specs.declared.slot.Slot.TheVariants as slots
 use Rattle.unit_paths.specs.Places.{preset_directory}
 use Rattle.unit_paths.specs.Paths.{parent, name_at}
 use Rattle.unit_paths.specs.Slots.{slot_of}
+use Rattle.unit_paths.specs.Kinds.{is_preset}
 use Rattle.link_tree.specs.Trees.{path_cmp, Entries}
 use Rattle.link_tree.specs.declared.entry.Entry.{Entry}
 use Rattle.link_tree.specs.declared.entry.Entry.TheVariants as entries
@@ -20,11 +19,7 @@ use Rattle.load_path.specs.declared.following.End.TheVariants as ends
 use Rattle.preset_rules.specs.declared.rule.Rule.{Rule}
 use Rattle.preset_rules.specs.Lines.{rules_of}
 
-abbrev pub is_preset : Option Slot → Bool
-is_preset (Some (slots.Preset place)) = true
-is_preset slot = false
-
--- what stands at the preset slots of a tree
+-- the entries at the preset slots of a tree
 unfoldable pub presets_of : Entries → Entries
 presets_of t = map.retain_keys t (λ path. is_preset (slot_of path))
 
@@ -46,7 +41,7 @@ Winners = map.FinMap path_cmp (List ℕ)
 unfoldable pub winners : Entries → Winners
 winners presets = map.from_entries (in_order (map.keys presets))
 
--- what stands where a link leads
+-- what the entry at the end of a link says
 abbrev pub rules_in : Option Entry → List Rule
 rules_in None = []
 rules_in (Some (entries.File contents)) = rules_of contents

@@ -8,7 +8,7 @@ use Rattle.unit_file.specs.Lines.{is_blank, stripped}
 use Rattle.unit_file.specs.Install.{is_empty, words}
 use Rattle.unit_file.specs.Listed.{is_template_name}
 use Rattle.preset_rules.specs.declared.rule.Rule.{Rule}
-use Rattle.preset_rules.specs.declared.rule.Rule.TheVariants.{Enable, Disable}
+use Rattle.preset_rules.specs.declared.rule.Rule.TheVariants.{Enable, Disable, Ignore}
 
 -- a first word, and what follows it without the blanks around that
 abbrev pub cut_at : List ℕ → Option ℕ → List ℕ × List ℕ
@@ -34,14 +34,19 @@ enable_rule rest = let cut = first_word rest in if is_empty cut.0 then None else
 abbrev pub disable_rule : List ℕ → Option Rule
 disable_rule rest = if is_empty rest then None else Some (Disable rest)
 
+-- "ignore", and a pattern in the same way
+abbrev pub ignore_rule : List ℕ → Option Rule
+ignore_rule rest = if is_empty rest then None else Some (Ignore rest)
+
 abbrev pub rule_from : (word rest : List ℕ) → Option Rule
 rule_from word rest =
     if bytes_eq word (codes "enable") then enable_rule rest
     else if bytes_eq word (codes "disable") then disable_rule rest
+    else if bytes_eq word (codes "ignore") then ignore_rule rest
     else None
 
--- The rule of a line, without the blanks at its ends. Any other line is ignored: an empty one and one that begins with # or ;
--- are such, as neither begins with one of the two words.
+-- The rule of a line, without the blanks at its ends. Any other line says nothing: an empty one, and one that begins with # or ;,
+-- since neither begins with one of the three words.
 unfoldable pub rule_of : List ℕ → Option Rule
 rule_of line = let cut = first_word (stripped line) in rule_from cut.0 cut.1
 

@@ -8,7 +8,7 @@ use Rattle.unit_name.specs.declared.kind.Kind.TheVariants.{Instance}
 use Rattle.unit_name.specs.Name.{instance_of, template_of}
 use Rattle.unit_name.specs.Parts.{kind_of}
 use Rattle.preset_rules.specs.declared.rule.Rule.{Rule}
-use Rattle.preset_rules.specs.declared.rule.Rule.TheVariants.{Enable, Disable}
+use Rattle.preset_rules.specs.declared.rule.Rule.TheVariants.{Enable, Disable, Ignore}
 use Rattle.preset_rules.specs.declared.rule.Verdict.{Verdict}
 use Rattle.preset_rules.specs.declared.rule.Verdict.TheVariants as verdicts
 use Rattle.preset_rules.specs.Patterns.{is_matched}
@@ -31,13 +31,15 @@ applies_with name pattern (instance ∷ instances) = bytes_eq pattern name || is
 
 unfoldable pub applies : (name : List ℕ) → Rule → Bool
 applies name (Disable pattern) = is_matched pattern name
+applies name (Ignore pattern) = is_matched pattern name
 applies name (Enable pattern instances) = applies_with name pattern instances
 
 -- What a rule says of a name to which it applies. Instances are those that a template is to be enabled with.
 unfoldable pub given : (name : List ℕ) → Rule → Verdict
 given name (Disable pattern) = verdicts.Disable
+given name (Ignore pattern) = verdicts.Ignore
 given name (Enable pattern instances) = if bytes_eq pattern name then verdicts.Enable instances else verdicts.Enable []
 
--- The first rule that applies decides; where none does, a unit is enabled.
+-- The first rule that applies decides; if none does, a unit is enabled.
 unfoldable pub verdict : List Rule → (name : List ℕ) → Verdict
 verdict rules name = option_map_or (given name) (find (applies name) rules) (verdicts.Enable [])

@@ -10,20 +10,16 @@ use Rattle.link_tree.specs.declared.entry.Entry.TheVariants.{File, Link}
 use Rattle.link_tree.specs.declared.change.Change.{Change}
 use Rattle.unit_paths.specs.declared.place.Scope.{Scope}
 use Rattle.unit_paths.specs.declared.place.Scope.TheVariants as scopes
-use Rattle.unit_paths.specs.declared.place.Place.{Place}
-use Rattle.unit_paths.specs.declared.place.Place.TheVariants as places
-use Rattle.unit_paths.specs.declared.slot.Slot.{Slot}
-use Rattle.unit_paths.specs.declared.slot.Slot.TheVariants as slots
 use Rattle.unit_paths.specs.Paths.{is_slash}
 use Rattle.unit_paths.specs.Canonical.{is_null_target}
 use Rattle.unit_paths.specs.Paths.{name_at}
 use Rattle.unit_paths.specs.Slots.{slot_of}
+use Rattle.unit_paths.specs.Kinds.{is_preset, is_dependency, scope_of}
 use Rattle.footprint.specs.declared.key.Key.{Key}
 use Rattle.footprint.specs.declared.key.Key.TheVariants.{Cell, Marked, Presets, Links}
 use Rattle.footprint.specs.declared.reading.Observation.{Observation}
 use Rattle.readers.specs.declared.readers.Readers.{Readers}
 use Rattle.link_tree.specs.Links.{is_instance}
-use Rattle.footprint.specs.Keys.{is_preset, is_dependency}
 use Rattle.footprint.specs.Order.{key_cmp}
 use Rattle.readers.specs.Numbers.{Lists, has, lists}
 
@@ -54,19 +50,6 @@ IsUnlisted reading n old new = (key : Key) (i : ℕ) → reads new key i ≡ (no
 -- Under each key the same rows are listed as before.
 abbrev pub AreAlike : Readers → Readers → Type 0
 AreAlike old new = (key : Key) (i : ℕ) → reads new key i ≡ reads old key i
-
--- the scope of a directory of units, and of a slot of a unit or of a dependency
-abbrev pub scope_of_place : Place → Option Scope
-scope_of_place places.Etc = Some scopes.Etc
-scope_of_place places.Run = Some scopes.Run
-scope_of_place place = None
-
-abbrev pub scope_of : Option Slot → Option Scope
-scope_of (Some (slots.Unit place)) = scope_of_place place
-scope_of (Some (slots.Wants place)) = scope_of_place place
-scope_of (Some (slots.Requires place)) = scope_of_place place
-scope_of (Some (slots.Preset place)) = None
-scope_of None = None
 
 -- whether a row is listed under a link's file name, or under the last part of its target, unless that is the name of an instance
 abbrev pub is_named_in : Lists → (name last : List ℕ) → ℕ → Bool

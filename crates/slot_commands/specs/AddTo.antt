@@ -7,6 +7,7 @@ use Rattle.unit_file.specs.Reading.{text_of}
 use Rattle.link_tree.specs.declared.entry.Entry.{Entry}
 use Rattle.link_tree.specs.declared.entry.Entry.TheVariants.{File, Link}
 use Rattle.unit_paths.specs.declared.slot.Dependency.{Dependency}
+use Rattle.unit_paths.specs.declared.slot.Dependency.TheVariants as dependencies
 use Rattle.unit_paths.specs.declared.place.Place.{Place}
 use Rattle.unit_paths.specs.Slots.{dependency_slot}
 use Rattle.unit_paths.specs.Places.{scope_place}
@@ -19,8 +20,15 @@ use Rattle.footprint.specs.Operations.{Effect}
 use Rattle.footprint.specs.Rules.{link_at, LeadsAs}
 use Rattle.footprint.specs.Steps.{Step, refuse, ruled, each_in_turn, ◌>>=◌}
 use Rattle.slot_commands.specs.declared.add_to.AddTo.{AddTo}
+use Rattle.slot_commands.specs.declared.add_to.AddedDependency.{AddedDependency}
+use Rattle.slot_commands.specs.declared.add_to.AddedDependency.TheVariants.{Wants, Requires}
 use Rattle.slot_commands.specs.Effects.{Keeps, AddsOnly}
 use Rattle.footprint.specs.Units.{with_unit, IsFound}
+
+-- what a command adds, among all dependencies
+abbrev pub as_dependency : AddedDependency → Dependency
+as_dependency Wants = dependencies.Wants
+as_dependency Requires = dependencies.Requires
 
 -- the DefaultInstance= of a unit, by what is at its file's path: systemd.unit(5), "[Install] Section Options"
 abbrev pub default_of : Option Entry → Option (List ℕ)
@@ -52,7 +60,7 @@ add_units place dependency units by = each_in_turn (add_unit place dependency by
 
 -- the target is looked up first, and its own name is that of the directory
 abbrev pub add_steps : AddTo → Step
-add_steps add = with_unit add.target (λ real file. add_units (scope_place add.scope) add.dependency add.units real)
+add_steps add = with_unit add.target (λ real file. add_units (scope_place add.scope) (as_dependency add.dependency) add.units real)
 
 -- What the command asks of a tree, and what effect that has.
 abbrev pub add_meaning : AddTo → Inquiry Effect
@@ -70,12 +78,12 @@ IsListedBetween t u by unit name file = (m : Entries) × Keeps t m × Keeps m u 
 abbrev pub IsNewDependency : AddTo → (by : List ℕ) → (t u : Entries) → List ℕ → Entry → Type 0
 IsNewDependency add by t u path entry =
     (unit name file : List ℕ) × Contains add.units unit × IsListedBetween t u by unit name file
-    × (path ≡ dependency_slot (scope_place add.scope) add.dependency by name) × (entry ≡ Link file)
+    × (path ≡ dependency_slot (scope_place add.scope) (as_dependency add.dependency) by name) × (entry ≡ Link file)
 
 -- A unit was found, and a link under the name by which it is listed leads to its file.
 abbrev pub IsAdded : AddTo → (by : List ℕ) → (t u : Entries) → (unit : List ℕ) → Type 0
 IsAdded add by t u unit =
-    (name file : List ℕ) × IsListedBetween t u by unit name file × LeadsAs u (dependency_slot (scope_place add.scope) add.dependency by name) file
+    (name file : List ℕ) × IsListedBetween t u by unit name file × LeadsAs u (dependency_slot (scope_place add.scope) (as_dependency add.dependency) by name) file
 
 -- The target is found, all that was there stays, links to the units fill empty slots in its one directory, and each unit has such a
 -- link then.

@@ -5,7 +5,8 @@ use Rattle.unit_name.specs.Name.{is_unit_name}
 use Rattle.link_tree.specs.declared.entry.Entry.{Entry}
 use Rattle.link_tree.specs.declared.entry.Entry.TheVariants.{Link}
 use Rattle.unit_paths.specs.declared.place.Place.{Place}
-use Rattle.unit_paths.specs.Slots.{unit_slot, slot_of, is_unit_slot}
+use Rattle.unit_paths.specs.Slots.{unit_slot, slot_of}
+use Rattle.unit_paths.specs.Kinds.{is_unit_slot}
 use Rattle.unit_paths.specs.Places.{scope_place}
 use Rattle.unit_paths.specs.Paths.{name_at}
 use Rattle.link_tree.specs.Trees.{Entries, after_changes}

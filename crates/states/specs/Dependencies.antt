@@ -1,4 +1,4 @@
--- What units depend on, by links: systemctl(1), "list-dependencies"; systemd.unit(5), "Description", on .wants/ and .requires/.
+-- What units depend on, by links: systemctl(1), "list-dependencies"; systemd.unit(5), "Description", on .wants/, .requires/ and .upholds/.
 use Rattle.std.specs.Prelude.{ℕ, zero, suc, ◌-◌, Bool, false, not, ◌&&◌, if◌then◌else◌, List, [], ◌∷◌, ◌++◌, length, take, map as list_map, filter_map, flat_map, Option, Some, None}
 use Rattle.std.specs.Option.{option_map}
 use Rattle.std.specs.Str.{bytes_eq}
@@ -7,12 +7,11 @@ use Rattle.unit_name.specs.declared.kind.Kind.{Kind}
 use Rattle.unit_name.specs.declared.kind.Kind.TheVariants.{Template, Instance}
 use Rattle.unit_name.specs.Parts.{kind_of}
 use Rattle.unit_name.specs.Name.{is_unit_name, instance_of, template_of}
-use Rattle.unit_paths.specs.declared.slot.Dependency.TheVariants.{Wants, Requires}
 use Rattle.unit_paths.specs.declared.slot.Slot.{Slot}
-use Rattle.unit_paths.specs.declared.slot.Slot.TheVariants as slots
 use Rattle.unit_paths.specs.Canonical.{is_null_target}
 use Rattle.unit_paths.specs.Paths.{name_at, parent_of}
 use Rattle.unit_paths.specs.Slots.{slot_of, dependency_ending}
+use Rattle.unit_paths.specs.Kinds.{dependency_of}
 use Rattle.link_tree.specs.declared.entry.Entry.{Entry}
 use Rattle.link_tree.specs.declared.entry.Entry.TheVariants.{File, Link}
 use Rattle.link_tree.specs.Trees.{Entries, path_cmp}
@@ -25,13 +24,11 @@ use Rattle.states.specs.declared.step.Step.{Step}
 use Rattle.states.specs.declared.dependencies.Dependencies.{Dependencies}
 use Rattle.states.specs.Questions.{asked}
 
--- how the names of the directories end in which a slot of dependencies lies
+-- how the name of the directory ends that contains a slot of a dependency
 abbrev pub ending_of : Option Slot → Option (List ℕ)
-ending_of (Some (slots.Wants place)) = Some (dependency_ending Wants)
-ending_of (Some (slots.Requires place)) = Some (dependency_ending Requires)
-ending_of other = None
+ending_of slot = option_map dependency_ending (dependency_of slot)
 
--- from one unit to another, where both texts are names
+-- from one unit to another, if both texts are names
 abbrev pub named_step : (from to : List ℕ) → Option Step
 named_step from to = if is_unit_name from && is_unit_name to then Some (record { from = from; to = to }) else None
 
@@ -45,7 +42,7 @@ abbrev pub is_other_link : (path : List ℕ) → Entry → Bool
 is_other_link path (File contents) = false
 is_other_link path (Link target) = not (is_null_target path target)
 
--- from the unit OF to the unit NAME by a link at DIR/OF.wants/NAME or DIR/OF.requires/NAME
+-- from the unit OF to the unit NAME by a link at DIR/OF.wants/NAME, DIR/OF.requires/NAME or DIR/OF.upholds/NAME
 unfoldable pub step_at : (path : List ℕ) → Entry → Option Step
 step_at path entry = if is_other_link path entry then step_from (parent_of path) (ending_of (slot_of path)) (name_at path) else None
 

@@ -8,7 +8,8 @@ use Rattle.unit_paths.specs.declared.place.Place.TheVariants as places
 use Rattle.unit_paths.specs.declared.place.Scope.{Scope}
 use Rattle.unit_paths.specs.declared.place.Scope.TheVariants.{Etc, Run}
 use Rattle.unit_paths.specs.Places.{scope_place}
-use Rattle.unit_paths.specs.Slots.{slot_of, unit_slot, is_unit_slot}
+use Rattle.unit_paths.specs.Slots.{slot_of, unit_slot}
+use Rattle.unit_paths.specs.Kinds.{is_unit_slot}
 use Rattle.link_tree.specs.Trees.{Entries}
 use Rattle.load_path.specs.declared.finding.Found.{Found}
 use Rattle.load_path.specs.declared.finding.Found.TheVariants as founds
@@ -39,7 +40,7 @@ is_enabled_in scope unit links = has_other (unit_slot (scope_place scope) unit) 
 
 -- whether a section names units, but asks for no link
 abbrev pub asks_for_none : Section → Bool
-asks_for_none section = length section.text.alias == 0 && length section.text.wanted_by == 0 && length section.text.required_by == 0
+asks_for_none section = length section.text.alias == 0 && length section.text.wanted_by == 0 && length section.text.required_by == 0 && length section.text.upheld_by == 0
 
 -- by what the lists of a section hold
 abbrev pub by_lists : Option Section → StateWord

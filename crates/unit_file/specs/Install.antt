@@ -48,7 +48,7 @@ words value = filter (λ word. not (is_empty word)) (slice_split is_blank value)
 abbrev pub list_of : List (List ℕ) → List (List ℕ)
 list_of values = flat_map words (after_last is_empty values)
 
--- the last value, valid or not; none where it is empty
+-- the last value, valid or not; none if it is empty
 abbrev pub last_value : List (List ℕ) → Option (List ℕ)
 last_value values = option_and_then (λ value. if is_empty value then None else Some value) (last_or None values)
 
@@ -57,6 +57,7 @@ unfoldable pub install_text : List (List ℕ) → InstallText
 install_text lines = record {
   wanted_by = list_of (values (codes "WantedBy") lines);
   required_by = list_of (values (codes "RequiredBy") lines);
+  upheld_by = list_of (values (codes "UpheldBy") lines);
   alias = list_of (values (codes "Alias") lines);
   also = flat_map words (values (codes "Also") lines);
   default_instance = last_value (values (codes "DefaultInstance") lines);

@@ -1,4 +1,4 @@
--- What is told of a word that was skipped, and the notices of an operation.
+-- What is reported of a word that was skipped, and the notices of an operation.
 use Rattle.std.specs.Prelude.{◌≡◌, ℕ, List, ◌++◌, All, codes}
 use Rattle.std.specs.List.{concat}
 use Rattle.std.specs.Ordering.{nat_cmp}
@@ -15,6 +15,7 @@ abbrev pub key_text : NoticeKey → List ℕ
 key_text keys.Also = codes "Also"
 key_text keys.WantedBy = codes "WantedBy"
 key_text keys.RequiredBy = codes "RequiredBy"
+key_text keys.UpheldBy = codes "UpheldBy"
 key_text keys.Alias = codes "Alias"
 key_text keys.Preset = codes "Preset"
 
@@ -27,7 +28,7 @@ reason_text reasons.Masked = codes "masked"
 reason_text reasons.Dangling = codes "dangling"
 reason_text reasons.IsAlias = codes "is an alias"
 
--- the line that tells a notice
+-- the line of a notice
 abbrev pub notice_line : Notice → List ℕ
 notice_line notice = codes "  ! " ++ notice.unit ++ codes ": " ++ key_text notice.key ++ codes " " ++ notice.word ++ codes ": " ++ reason_text notice.reason ++ codes "\n"
 
@@ -38,11 +39,11 @@ line_cmp = slice_cmp nat_cmp
 abbrev pub NoticeMap : Type 0
 NoticeMap = map.FinMap line_cmp Notice
 
--- Each notice stands at its own line.
+-- Each notice has its own line as its key.
 abbrev pub AreAtTheirLines : NoticeMap → Type 0
 AreAtTheirLines notices = All (λ e. e.0 ≡ notice_line e.1) (map.entries notices)
 
--- notices with one more, in place of one that has the same line
+-- notices with one more, instead of one that has the same line
 abbrev pub with_notice : NoticeMap → Notice → NoticeMap
 with_notice notices notice = map.insert notices (notice_line notice) notice
 

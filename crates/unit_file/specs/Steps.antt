@@ -18,6 +18,7 @@ unfoldable pub with_assignment : InstallText → List ℕ → List ℕ → Insta
 with_assignment text key value = record {
   wanted_by = (if bytes_eq key (codes "WantedBy") then with_value text.wanted_by value else text.wanted_by);
   required_by = (if bytes_eq key (codes "RequiredBy") then with_value text.required_by value else text.required_by);
+  upheld_by = (if bytes_eq key (codes "UpheldBy") then with_value text.upheld_by value else text.upheld_by);
   alias = (if bytes_eq key (codes "Alias") then with_value text.alias value else text.alias);
   also = (if bytes_eq key (codes "Also") then with_words text.also value else text.also);
   default_instance = (if bytes_eq key (codes "DefaultInstance") then unless_empty value else text.default_instance);
@@ -39,4 +40,4 @@ text_after inside text line =
     else text
 
 abbrev pub nothing : InstallText
-nothing = record { wanted_by = []; required_by = []; alias = []; also = []; default_instance = None }
+nothing = record { wanted_by = []; required_by = []; upheld_by = []; alias = []; also = []; default_instance = None }

@@ -1,5 +1,5 @@
 -- The directories of units and presets.
-use Rattle.std.specs.Prelude.{ℕ, List, [], ◌∷◌, ◌++◌, Option, codes}
+use Rattle.std.specs.Prelude.{ℕ, List, [], ◌∷◌, ◌++◌, Option, Some, None, codes}
 use Rattle.std.specs.List.{find}
 use Rattle.std.specs.Str.{bytes_eq}
 use Rattle.unit_paths.specs.declared.place.Scope.{Scope}
@@ -38,3 +38,10 @@ preset_place_of dir = find (λ place. bytes_eq dir (preset_directory place)) pre
 abbrev pub scope_place : Scope → Place
 scope_place scopes.Etc = Etc
 scope_place scopes.Run = Run
+
+-- the scope whose commands place links in a directory of units, if there is one
+abbrev pub scope_of_place : Place → Option Scope
+scope_of_place Etc = Some scopes.Etc
+scope_of_place Run = Some scopes.Run
+scope_of_place Local = None
+scope_of_place Vendor = None

@@ -1,5 +1,5 @@
 -- Slots: the paths at which commands place entries.
-use Rattle.std.specs.Prelude.{ℕ, ◌-◌, Bool, true, false, not, ◌&&◌, nat_eq, if◌then◌else◌, List, ◌∷◌, ◌++◌, length, take, Option, Some, None, is_some, codes}
+use Rattle.std.specs.Prelude.{ℕ, ◌-◌, Bool, not, ◌&&◌, nat_eq, if◌then◌else◌, List, ◌∷◌, ◌++◌, length, take, Option, Some, None, is_some, codes}
 use Rattle.std.specs.List.{ends_with}
 use Rattle.std.specs.Str.{bytes_eq}
 use Rattle.unit_name.specs.Name.{is_unit_name}
@@ -12,7 +12,7 @@ use Rattle.unit_paths.specs.declared.slot.Slot.{Slot}
 use Rattle.unit_paths.specs.declared.slot.Slot.TheVariants as slots
 use Prim.Native.Char.{code}
 
--- DIR/NAME: where a unit's file or link stands in a directory
+-- DIR/NAME: the path of a unit's file or link in a directory
 abbrev pub unit_slot : Place → List ℕ → List ℕ
 unit_slot place name = unit_directory place ++ code "/" ∷ name
 
@@ -20,8 +20,9 @@ unit_slot place name = unit_directory place ++ code "/" ∷ name
 unfoldable pub dependency_ending : Dependency → List ℕ
 dependency_ending dependencies.Wants = codes ".wants"
 dependency_ending dependencies.Requires = codes ".requires"
+dependency_ending dependencies.Upholds = codes ".upholds"
 
--- DIR/OF.wants/NAME or DIR/OF.requires/NAME: where the link stands by which a unit depends on another
+-- DIR/OF.wants/NAME, DIR/OF.requires/NAME or DIR/OF.upholds/NAME: the path of the link by which a unit depends on another
 abbrev pub dependency_slot : Place → Dependency → (of name : List ℕ) → List ℕ
 dependency_slot place dependency of name = unit_slot place (of ++ dependency_ending dependency) ++ code "/" ∷ name
 
@@ -29,19 +30,21 @@ dependency_slot place dependency of name = unit_slot place (of ++ dependency_end
 abbrev pub slot_of_dependency : Place → Dependency → Slot
 slot_of_dependency place dependencies.Wants = slots.Wants place
 slot_of_dependency place dependencies.Requires = slots.Requires place
+slot_of_dependency place dependencies.Upholds = slots.Upholds place
 
 -- the name of a dependency directory: a unit's name and the ending
 unfoldable pub is_dependency_directory : List ℕ → List ℕ → Bool
 is_dependency_directory ending name = ends_with nat_eq name ending && is_unit_name (take (length name - length ending) name)
 
--- which slots stand in the dependency directory of this name, if it is one
+-- which slots the dependency directory of this name contains, if it is one
 unfoldable pub dependency_directory_slots : Place → List ℕ → Option Slot
 dependency_directory_slots place name =
     if is_dependency_directory (codes ".wants") name then Some (slots.Wants place)
     else if is_dependency_directory (codes ".requires") name then Some (slots.Requires place)
+    else if is_dependency_directory (codes ".upholds") name then Some (slots.Upholds place)
     else None
 
--- the same, where the directory above is one of units
+-- the same, if the directory above is one of units
 abbrev pub dependency_slots_in : Option Place → List ℕ → Option Slot
 dependency_slots_in None name = None
 dependency_slots_in (Some place) name = dependency_directory_slots place name
@@ -52,7 +55,7 @@ first_directory (Some place) preset other = Some (slots.Unit place)
 first_directory None (Some place) other = Some (slots.Preset place)
 first_directory None None other = other
 
--- which slots stand in a directory, if any can
+-- which slots a directory contains, if it can contain any
 unfoldable pub slots_in : List ℕ → Option Slot
 slots_in dir = first_directory (place_of dir) (preset_place_of dir) (dependency_slots_in (place_of (parent dir)) (name_at dir))
 
@@ -65,22 +68,18 @@ abbrev pub is_name_for : Slot → List ℕ → Bool
 is_name_for (slots.Unit place) name = is_unit_name name
 is_name_for (slots.Wants place) name = is_unit_name name
 is_name_for (slots.Requires place) name = is_unit_name name
+is_name_for (slots.Upholds place) name = is_unit_name name
 is_name_for (slots.Preset place) name = is_preset_name name
 
--- the slot, where the name is right for it
+-- the slot, if the name is right for it
 abbrev pub named_slot : Option Slot → List ℕ → Option Slot
 named_slot None name = None
 named_slot (Some slot) name = if is_name_for slot name then Some slot else None
 
--- Which slot a path is: DIR/NAME, DIR/OF.wants/NAME and DIR/OF.requires/NAME with the names of units,
+-- Which slot a path is: DIR/NAME, DIR/OF.wants/NAME, DIR/OF.requires/NAME and DIR/OF.upholds/NAME with the names of units,
 -- or FILE.preset in a directory of presets.
 unfoldable pub slot_of : List ℕ → Option Slot
 slot_of path = named_slot (slots_in (parent path)) (name_at path)
-
--- whether that is the slot of a unit, in one of the four directories of units
-abbrev pub is_unit_slot : Option Slot → Bool
-is_unit_slot (Some (slots.Unit place)) = true
-is_unit_slot other = false
 
 abbrev pub is_slot : List ℕ → Bool
 is_slot path = is_some (slot_of path)

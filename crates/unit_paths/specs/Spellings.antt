@@ -14,7 +14,7 @@ use Prim.Native.Char.{code}
 abbrev pub IsUnitSlot : List ℕ → Place → Type 0
 IsUnitSlot path place = (name : List ℕ) × (is_unit_name name ≡ true) × (path ≡ unit_slot place name)
 
--- DIR/OF.wants/NAME or DIR/OF.requires/NAME
+-- DIR/OF.wants/NAME, DIR/OF.requires/NAME or DIR/OF.upholds/NAME
 abbrev pub IsDependencySlot : List ℕ → Place → Dependency → Type 0
 IsDependencySlot path place dependency = (of name : List ℕ) × (is_unit_name of ≡ true) × (is_unit_name name ≡ true) × (path ≡ dependency_slot place dependency of name)
 
@@ -27,8 +27,9 @@ abbrev pub IsSpelled : List ℕ → Slot → Type 0
 IsSpelled path (slots.Unit place) = IsUnitSlot path place
 IsSpelled path (slots.Wants place) = IsDependencySlot path place dependencies.Wants
 IsSpelled path (slots.Requires place) = IsDependencySlot path place dependencies.Requires
+IsSpelled path (slots.Upholds place) = IsDependencySlot path place dependencies.Upholds
 IsSpelled path (slots.Preset place) = IsPresetSlot path place
 
--- A path is a slot exactly where it is spelled so.
+-- A path is a slot exactly if it is spelled so.
 abbrev pub SlotsAreSpelled : Type 0
 SlotsAreSpelled = (path : List ℕ) (slot : Slot) → (slot_of path ≡ Some slot) ↔ IsSpelled path slot

@@ -3,8 +3,8 @@ use Rattle.std.specs.Prelude.{ℕ, Bool, true, false, if◌then◌else◌, List,
 use Rattle.std.specs.Str.{bytes_eq}
 use Rattle.std.specs.Option.{option_map_or}
 use Rattle.link_tree.specs.declared.entry.Entry.{Entry}
-use Rattle.unit_paths.specs.declared.slot.Dependency.{Dependency}
-use Rattle.unit_paths.specs.declared.slot.Dependency.TheVariants.{Wants, Requires}
+use Rattle.slot_commands.specs.declared.add_to.AddedDependency.{AddedDependency}
+use Rattle.slot_commands.specs.declared.add_to.AddedDependency.TheVariants.{Wants, Requires}
 use Rattle.unit_paths.specs.declared.place.Scope.{Scope}
 use Rattle.unit_paths.specs.declared.place.Scope.TheVariants.{Etc, Run}
 use Rattle.link_tree.specs.Inventory.{◌>>=◌}
@@ -57,7 +57,7 @@ abbrev pub link_units_of : List (List ℕ) → Result (Request Action) Reason
 link_units_of words = given_paths (arguments_of words) >>= λ paths. Ok (Do (actions.LinkUnits (record { scope = scope_of words; paths = paths })))
 
 -- the units that a target is to depend on, of which one at least is given
-abbrev pub add_units : Scope → Dependency → List ℕ → List (List ℕ) → Result (Request Action) Reason
+abbrev pub add_units : Scope → AddedDependency → List ℕ → List (List ℕ) → Result (Request Action) Reason
 add_units scope dependency target [] = Err WrongArguments
 add_units scope dependency target (unit ∷ units) = do
   target ← name_of target
@@ -65,11 +65,11 @@ add_units scope dependency target (unit ∷ units) = do
   Ok (Do (actions.AddTo (record { scope = scope; dependency = dependency; target = target; units = units })))
 
 -- a target, and the units that it is to depend on
-abbrev pub add_arguments : Scope → Dependency → List (List ℕ) → Result (Request Action) Reason
+abbrev pub add_arguments : Scope → AddedDependency → List (List ℕ) → Result (Request Action) Reason
 add_arguments scope dependency [] = Err WrongArguments
 add_arguments scope dependency (target ∷ units) = add_units scope dependency target units
 
-abbrev pub add_to_of : Dependency → List (List ℕ) → Result (Request Action) Reason
+abbrev pub add_to_of : AddedDependency → List (List ℕ) → Result (Request Action) Reason
 add_to_of dependency words = add_arguments (scope_of words) dependency (arguments_of words)
 
 abbrev pub set_default_to : List ℕ → Result (Request Action) Reason
