@@ -20,7 +20,8 @@ use Rattle.link_tree.proofs.Maps.{all_standing, all_listed}
 use Rattle.footprint.specs.declared.key.Key.{Key}
 use Rattle.footprint.specs.declared.key.Key.TheVariants.{Cell, Marked, Presets, Links}
 use Rattle.link_tree.specs.Links.{is_of_scope, is_named, belongs}
-use Rattle.footprint.specs.Keys.{is_preset, is_dependency, is_cell, selects, any_selects, those, shows, shown, part, StandAtSlots}
+use Rattle.footprint.specs.Keys.{is_cell, selects, any_selects, those, shows, shown, part, StandAtSlots}
+use Rattle.unit_paths.specs.Kinds.{is_preset, is_dependency}
 use Rattle.footprint.specs.KeyLaws.{get-part, get-those, part_is}
 use Rattle.footprint.proofs.Those.{Standing, shown_there, shown_chosen, some_is, gathered, gathered_those}
 use Rattle.footprint.specs.Seeing.{AllSelected, AllStand}

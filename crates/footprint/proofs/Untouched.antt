@@ -14,7 +14,8 @@ use Rattle.link_tree.proofs.Changed.{same_tree, same_bytes, other_bytes, after_a
 use Rattle.footprint.specs.declared.key.Key.{Key}
 use Rattle.footprint.specs.declared.key.Key.TheVariants.{Cell, Marked, Presets, Links}
 use Rattle.footprint.specs.Inquiry.{Inquiry}
-use Rattle.footprint.specs.Keys.{shows, shown, is_marked, is_preset, is_dependency, touches, Agree, AgreeOn, Untouched}
+use Rattle.footprint.specs.Keys.{shows, shown, is_marked, touches, Agree, AgreeOn, Untouched}
+use Rattle.unit_paths.specs.Kinds.{is_preset, is_dependency}
 use Rattle.footprint.specs.KeyLaws.{AgreeAt, agree_from, is_changed, unchanged, at_changed}
 use Rattle.footprint.specs.Operations.{Effect, outcome_of, OperationLaws}
 use Rattle.footprint.proofs.Outcomes.{outcome_agrees}

@@ -1,7 +1,6 @@
 //! What an operation looks at.
 ghost use Rattle.std.specs.Prelude.{◌≡◌, IfOk};
-ghost use Rattle.unit_paths.specs.Slots.{slot_of};
-ghost use Rattle.footprint.specs.Keys.{is_cell, is_preset, is_dependency, selects};
+ghost use Rattle.footprint.specs.Keys.{is_cell, selects};
 ghost use Rattle.footprint.specs.Order.{rank};
 ghost use Rattle.footprint.specs.Seeing.{is_marked, walks};
 
@@ -9,17 +8,18 @@ use link_tree::{Entry, Scope, Slot, TreePath, belongs};
 use std::alloc::AllocError;
 use unit_name::UnitName;
 
-/// What an operation looks at in a tree; together its keys are its footprint. In a reading cells stand first, in byte order of their paths, then the links that
-/// belong to names, those of `/etc` first, in byte order of the names, then `Presets`, then `Links`.
+/// What an operation looks at in a tree; together its keys are its footprint. In a reading, cells are
+/// first, in byte order of their paths, then the links that belong to names, those of `/etc` first, in
+/// byte order of the names, then `Presets`, then `Links`.
 #[derive(Debug, Drop)]
 pub enum Key {
-    /// What stands at a path.
+    /// The entry at a path.
     Cell(TreePath),
     /// The links of a scope that belong to a name.
     Marked(Scope, UnitName),
-    /// What stands at the slots of presets.
+    /// The entries at the slots of presets.
     Presets,
-    /// What stands at the slots of dependencies.
+    /// The entries at the slots of dependencies: in `.wants`, `.requires` and `.upholds` directories.
     Links,
 }
 
@@ -36,7 +36,7 @@ impl Default for Key {
 }
 
 impl Key {
-    /// A copy of the key. Fails only where memory runs out.
+    /// A copy of the key. Fails only if memory runs out.
     pub fn copy(&self) -> Result<Key, AllocError>
         ensures { IfOk result (λ key. key ≡ self.now) }
     {
@@ -48,7 +48,7 @@ impl Key {
         }
     }
 
-    /// Whether it looks at what stands at a path.
+    /// Whether it looks at the entry at a path.
     pub(crate) fn is_cell(&self) -> bool
         ensures { result ≡ is_cell self.now }
     {
@@ -62,14 +62,14 @@ impl Key {
         matches!(self, Key::Marked(..))
     }
 
-    /// Whether all entries are gone through for it.
+    /// Whether all entries are walked over for it.
     pub(crate) fn walks(&self) -> bool
         ensures { result ≡ walks self.now }
     {
         matches!(self, Key::Presets | Key::Links)
     }
 
-    /// Where keys of its kind come among others.
+    /// The position of keys of its kind among others.
     pub(crate) fn rank(&self) -> u8
         ensures { result ≡ rank self.now }
     {
@@ -81,29 +81,15 @@ impl Key {
         }
     }
 
-    /// Whether it looks at an entry that stands at a path.
+    /// Whether it looks at an entry, by its path.
     pub(crate) fn selects(&self, path: &TreePath, entry: &Entry) -> bool
         ensures { result ≡ selects self.now path.now entry.now }
     {
         match self {
             Key::Cell(cell) => path.text() == cell.text(),
             Key::Marked(scope, name) => belongs(*scope, name, path, entry),
-            Key::Presets => is_preset(path),
-            Key::Links => is_dependency(path),
+            Key::Presets => Slot::is_of_preset(path),
+            Key::Links => Slot::is_of_dependency(path),
         }
     }
-}
-
-/// Whether a path is a slot of presets.
-pub(crate) fn is_preset(path: &TreePath) -> bool
-    ensures { result ≡ is_preset (slot_of path.now) }
-{
-    matches!(Slot::of(path), Some(Slot::Preset(_)))
-}
-
-/// Whether a path is a slot of dependencies.
-pub(crate) fn is_dependency(path: &TreePath) -> bool
-    ensures { result ≡ is_dependency (slot_of path.now) }
-{
-    matches!(Slot::of(path), Some(Slot::Wants(_) | Slot::Requires(_)))
 }

@@ -2,13 +2,14 @@
 ghost use Rattle.std.specs.Prelude.{◌≡◌};
 ghost use Rattle.footprint.specs.Keys.{is_marked, touches};
 
-use crate::key::{Key, is_dependency, is_preset};
-use link_tree::{Change, Entry, Scope, TreePath, belongs};
+use crate::key::Key;
+use link_tree::{Change, Entry, Scope, Slot, TreePath, belongs};
 use unit_name::UnitName;
 
-/// Whether a change touches what a key looks at: the cell of its path, the names in a scope to which its entry before or after
-/// belongs, the presets or the dependencies where its path is one of theirs. What a change doesn't touch a key sees as before; an
-/// undo is refused where a later reading has a key that its changes touch. Takes no memory.
+/// Whether a change touches what a key looks at: the cell of its path, the names in a scope to which
+/// its entry before or after belongs, the presets or the dependencies if its path is one of their
+/// slots. A key sees the same before and after a change that doesn't touch it. An undo is refused if a
+/// later reading has a key that its changes touch. Takes no memory.
 pub fn touches(change: &Change, key: &Key) -> bool
     ensures { result ≡ touches change.now key.now }
 {
@@ -18,8 +19,8 @@ pub fn touches(change: &Change, key: &Key) -> bool
             is_marked(*scope, name, &change.path, &change.before)
                 || is_marked(*scope, name, &change.path, &change.after)
         }
-        Key::Presets => is_preset(&change.path),
-        Key::Links => is_dependency(&change.path),
+        Key::Presets => Slot::is_of_preset(&change.path),
+        Key::Links => Slot::is_of_dependency(&change.path),
     }
 }
 

@@ -35,7 +35,9 @@ impl<O: Operation> Request<O> {
             (Request::Do(one), Request::Do(other)) => one.same(other),
             (Request::Undo(one), Request::Undo(other)) => one == other,
             (Request::Redo(one), Request::Redo(other)) => one == other,
-            _ => false,
+            (Request::Do(_), Request::Undo(_) | Request::Redo(_))
+            | (Request::Undo(_), Request::Do(_) | Request::Redo(_))
+            | (Request::Redo(_), Request::Do(_) | Request::Undo(_)) => false,
         }
     }
 }
@@ -104,7 +106,41 @@ impl RowReply {
             (RowReply::UndoRefused(one), RowReply::UndoRefused(other)) => one == other,
             (RowReply::Redid(one), RowReply::Redid(other)) => one == other,
             (RowReply::RedoRefused(one), RowReply::RedoRefused(other)) => one == other,
-            _ => false,
+            (
+                RowReply::Answered(_),
+                RowReply::Undid(_)
+                | RowReply::UndoRefused(_)
+                | RowReply::Redid(_)
+                | RowReply::RedoRefused(_),
+            )
+            | (
+                RowReply::Undid(_),
+                RowReply::Answered(_)
+                | RowReply::UndoRefused(_)
+                | RowReply::Redid(_)
+                | RowReply::RedoRefused(_),
+            )
+            | (
+                RowReply::UndoRefused(_),
+                RowReply::Answered(_)
+                | RowReply::Undid(_)
+                | RowReply::Redid(_)
+                | RowReply::RedoRefused(_),
+            )
+            | (
+                RowReply::Redid(_),
+                RowReply::Answered(_)
+                | RowReply::Undid(_)
+                | RowReply::UndoRefused(_)
+                | RowReply::RedoRefused(_),
+            )
+            | (
+                RowReply::RedoRefused(_),
+                RowReply::Answered(_)
+                | RowReply::Undid(_)
+                | RowReply::UndoRefused(_)
+                | RowReply::Redid(_),
+            ) => false,
         }
     }
 }
@@ -166,11 +202,15 @@ impl<O: Operation> Row<O> {
     pub fn is_command(&self) -> bool
         ensures { result ≡ is_some (accepted O.asks self.now.request self.now.reply) }
     {
-        match (&self.request, &self.reply) {
-            (Request::Do(operation), RowReply::Answered(answer)) => {
-                !(operation.asks_only() || is_refused(answer))
-            }
-            _ => false,
+        match &self.request {
+            Request::Do(operation) => match &self.reply {
+                RowReply::Answered(answer) => !(operation.asks_only() || is_refused(answer)),
+                RowReply::Undid(_)
+                | RowReply::UndoRefused(_)
+                | RowReply::Redid(_)
+                | RowReply::RedoRefused(_) => false,
+            },
+            Request::Undo(_) | Request::Redo(_) => false,
         }
     }
 

@@ -59,7 +59,13 @@ fn toggled(reply: &RowReply) -> Option<u32>
 fn was_undone(reply: &RowReply) -> bool
     ensures { result ≡ was_undone reply.now }
 {
-    matches!(reply, RowReply::Redid(_))
+    match reply {
+        RowReply::Redid(_) => true,
+        RowReply::Answered(_)
+        | RowReply::Undid(_)
+        | RowReply::UndoRefused(_)
+        | RowReply::RedoRefused(_) => false,
+    }
 }
 
 /// Whether a row is a command that is undone now and was not, or is not now and was.

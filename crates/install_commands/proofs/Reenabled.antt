@@ -3,7 +3,8 @@ use Rattle.std.proofs.Common.{◌≡◌, ℕ, true, false, cond, List, [], ◌�
 use Rattle.std.specs.FinMap as map
 use Rattle.std.proofs.lemmas.Bool.{cases_Bool, false≢true}
 use Rattle.std.proofs.lemmas.List.Elements.{Contains-append_left, Contains-append_right, Contains-append_cases}
-use Rattle.unit_paths.specs.Slots.{slot_of, is_unit_slot}
+use Rattle.unit_paths.specs.Slots.{slot_of}
+use Rattle.unit_paths.specs.Kinds.{is_unit_slot}
 use Rattle.unit_paths.specs.declared.place.Scope.{Scope}
 use Rattle.link_tree.specs.declared.entry.Entry.{Entry}
 use Rattle.link_tree.specs.declared.entry.Entry.TheVariants.{Link}

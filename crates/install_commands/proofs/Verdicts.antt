@@ -5,8 +5,6 @@ use Rattle.std.proofs.lemmas.Bool.{cases_Bool}
 use Rattle.std.proofs.lemmas.List.{append_assoc, append-nil}
 use Rattle.std.proofs.lemmas.List.Elements.{All-nil, All-cons, All-head, All-tail, Contains-append_left, Contains-push, Contains-push_cases}
 use Rattle.unit_file.specs.Listed.{is_template_name}
-use Rattle.unit_paths.specs.declared.slot.Slot.{Slot}
-use Rattle.unit_paths.specs.declared.slot.Slot.TheVariants as slots
 use Rattle.unit_paths.specs.Slots.{slot_of}
 use Rattle.link_tree.specs.declared.entry.Entry.{Entry}
 use Rattle.link_tree.specs.Trees.{Entries}
@@ -16,7 +14,6 @@ use Rattle.install_section.proofs.Least.{is_first, is_later, first_or_later, non
 use Rattle.preset_rules.specs.declared.rule.Rule.{Rule}
 use Rattle.preset_rules.specs.declared.rule.Verdict.{Verdict}
 use Rattle.preset_rules.specs.declared.rule.Verdict.TheVariants as verdicts
-use Rattle.preset_rules.specs.Files as files
 use Rattle.preset_rules.specs.Files.{presets_of, policy_of}
 use Rattle.preset_rules.specs.Verdicts.{verdict}
 use Rattle.preset_rules.proofs.Agreeing.{presets_decide}
@@ -24,7 +21,8 @@ use Rattle.preset_rules.proofs.WinnersFound.{get-presets}
 use Rattle.footprint.specs.declared.key.Key.TheVariants.{Presets}
 use Rattle.footprint.specs.declared.refusal.Refusal.{Refusal}
 use Rattle.footprint.specs.Inquiry.{giving}
-use Rattle.footprint.specs.Keys.{is_preset, part, shown}
+use Rattle.footprint.specs.Keys.{part, shown}
+use Rattle.unit_paths.specs.Kinds.{is_preset}
 use Rattle.footprint.specs.KeyLaws.{get-part}
 use Rattle.install_commands.specs.declared.judging.Judged.{Judged}
 use Rattle.install_commands.specs.declared.preset.Preset.{Preset}
@@ -33,19 +31,12 @@ use Rattle.install_commands.specs.CompositeLaws.{rules_of, Counts, GivesUnit, Is
 use Rattle.install_commands.specs.Preset.{counts, counting_behind, with_one, with_disabled, with_listed, with_all_listed, with_enabled, with_unit, judged_by, none_judged, units_judged, preset_judges}
 
 -- what a preset looks at are the preset slots
-same_slots : (slot : Option Slot) → is_preset slot ≡ files.is_preset slot
-same_slots None = refl
-same_slots (Some (slots.Unit place)) = refl
-same_slots (Some (slots.Wants place)) = refl
-same_slots (Some (slots.Requires place)) = refl
-same_slots (Some (slots.Preset place)) = refl
-
 presets_part : (t : Entries) → part Presets t ≡ presets_of t
 presets_part t = same_tree _ _ (λ path. get-part Presets t path ∙ by_entry path (map.get t path) ∙ sym (get-presets t path))
   where
-    by_entry : (path : List ℕ) (there : Option Entry) → shown Presets path there ≡ cond (files.is_preset (slot_of path)) there None
-    by_entry path None = elim (cases_Bool (files.is_preset (slot_of path))) [ inl is ↦ sym (ap (λ b. cond b None None) is) | inr not ↦ sym (ap (λ b. cond b None None) not) ]
-    by_entry path (Some entry) = ap (λ b. cond b (Some entry) None) (same_slots (slot_of path))
+    by_entry : (path : List ℕ) (there : Option Entry) → shown Presets path there ≡ cond (is_preset (slot_of path)) there None
+    by_entry path None = elim (cases_Bool (is_preset (slot_of path))) [ inl is ↦ sym (ap (λ b. cond b None None) is) | inr not ↦ sym (ap (λ b. cond b None None) not) ]
+    by_entry path (Some entry) = refl
 
 pub same_rules : (t : Entries) → (policy_of (part Presets t)).conclusion t ≡ rules_of t
 same_rules t = ap (λ policy. policy.conclusion t) (ap policy_of (presets_part t) ∙ presets_decide t)
@@ -238,6 +229,16 @@ module _ (rules : List Rule) where
       ]
     ],
   )
+  one_disabled first units judged unit verdicts.Ignore is = (
+    λ so. elim so [ inl old ↦ inl old | inr later ↦ inr (is_later first units unit later.0, later.1) ],
+    λ so. elim so [
+      | inl old ↦ inl old
+      | inr new ↦ elim (first_or_later first units unit new.0.0 new.0.1 new.0.2) [
+        | inl own ↦ (let both : verdicts.Disable ≡ verdicts.Ignore = sym new.1 ∙ ap (verdict rules) own ∙ is in cc)
+        | inr later ↦ inr (later, new.1)
+      ]
+    ],
+  )
   one_disabled first units judged unit (verdicts.Enable instances) is =
       let same = enabled_disabled first instances judged in (
         λ so. elim so [
@@ -271,6 +272,16 @@ module _ (rules : List Rule) where
       | inl old ↦ inl old
       | inr new ↦ elim (first_or_later first units new.0 new.1.0 new.1.1 new.1.2) [
         | inl own ↦ (let both : verdicts.Enable new.2 ≡ verdicts.Disable = sym new.3 ∙ ap (verdict rules) own ∙ is in cc)
+        | inr later ↦ inr (new.0, later, new.2, new.3, new.4)
+      ]
+    ],
+  )
+  one_enabled first units judged unit verdicts.Ignore is = (
+    λ so. elim so [ inl old ↦ inl old | inr later ↦ inr (later_given first units unit later) ],
+    λ so. elim so [
+      | inl old ↦ inl old
+      | inr new ↦ elim (first_or_later first units new.0 new.1.0 new.1.1 new.1.2) [
+        | inl own ↦ (let both : verdicts.Enable new.2 ≡ verdicts.Ignore = sym new.3 ∙ ap (verdict rules) own ∙ is in cc)
         | inr later ↦ inr (new.0, later, new.2, new.3, new.4)
       ]
     ],

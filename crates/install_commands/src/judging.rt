@@ -14,7 +14,8 @@ use std::alloc::{AllocError, Global};
 use unit_file::{Notice, NoticeKey, Reason, Word};
 use unit_name::{Kind, UnitName};
 
-/// Which units are to be disabled and which enabled, with what is told of instances that no unit can have.
+/// Which units a preset disables and which it enables, with notices of instances that no unit can
+/// have.
 #[derive(Debug, Drop)]
 pub(crate) struct Judged {
     pub disabled: Units,
@@ -22,7 +23,7 @@ pub(crate) struct Judged {
     pub notices: Notices,
 }
 
-/// What is told of an instance that is listed for a template, and makes no name of a unit.
+/// The notice of an instance that is listed for a template, and makes no name of a unit.
 fn bad_instance(template: &UnitName, instance: &Word) -> Result<Notice, AllocError>
     ensures { IfOk result (λ notice. notice ≡ presets.bad_instance template.now instance.now) }
 {
@@ -101,7 +102,8 @@ impl Judged {
         Ok(judged)
     }
 
-    /// A unit is to be enabled; a template with these instances in its place, where there are any.
+    /// With a unit that is enabled; if there are instances, each of them is enabled instead of a
+    /// template.
     fn with_enabled(
         self,
         alloc: Global,
@@ -119,7 +121,7 @@ impl Judged {
         }
     }
 
-    /// A unit is to be enabled or disabled, by what the rules say of it.
+    /// With a unit that is enabled, disabled or left as it is, by what the rules say of it.
     fn with_unit(
         self,
         alloc: Global,
@@ -131,6 +133,7 @@ impl Judged {
         match verdict {
             Verdict::Enable(instances) => self.with_enabled(alloc, unit, instances),
             Verdict::Disable => self.with_disabled(unit),
+            Verdict::Ignore => Ok(self),
         }
     }
 

@@ -17,7 +17,7 @@ use Rattle.link_tree.proofs.Changed.{same_bytes, is_at}
 use Rattle.link_tree.proofs.Shapes.{same_key}
 use Rattle.install_section.specs.declared.section.Section.{Section}
 use Rattle.install_section.specs.declared.wish.LinkKey.{LinkKey}
-use Rattle.install_section.specs.declared.wish.LinkKey.TheVariants.{WantedBy, RequiredBy, Alias}
+use Rattle.install_section.specs.declared.wish.LinkKey.TheVariants.{WantedBy, RequiredBy, UpheldBy, Alias}
 use Rattle.install_section.specs.declared.wish.Wish.{Wish}
 use Rattle.install_section.specs.declared.wish.Wish.TheVariants.{Link, Skip, NoInstance}
 use Rattle.install_section.specs.declared.wants.Wants.{Wants}
@@ -290,19 +290,25 @@ module _ (place : Place) (skip : Bool) where
       λ P key w s. words_stand P unit (identity_in unit section) section.file key (words_for key section.text) w s in
       let one = with_list place skip unit section WantedBy w in
       let two = with_list place skip unit section RequiredBy one in
-      stands_as (Or (Or (Or P (Of WantedBy)) (Of RequiredBy)) (Of Alias)) (Or P (SectionAsks unit section)) (with_section place skip unit w (Some section))
+      let three = with_list place skip unit section UpheldBy two in
+      let listed = Or (Or (Or P (Of WantedBy)) (Of RequiredBy)) (Of UpheldBy) in
+      stands_as (Or listed (Of Alias)) (Or P (SectionAsks unit section)) (with_section place skip unit w (Some section))
       (λ a q. elim q [
-        | inl q ↦ (elim q [ inl q ↦ (elim q [ inl p ↦ inl p | inr of ↦ inr (WantedBy, of) ]) | inr of ↦ inr (RequiredBy, of) ])
+        | inl q ↦ (elim q [
+          | inl q ↦ (elim q [ inl q ↦ (elim q [ inl p ↦ inl p | inr of ↦ inr (WantedBy, of) ]) | inr of ↦ inr (RequiredBy, of) ])
+          | inr of ↦ inr (UpheldBy, of)
+        ])
         | inr of ↦ inr (Alias, of)
       ])
-      (λ a q. elim q [ inl p ↦ inl (inl (inl p)) | inr of ↦ by_key a of.0 of.1 ])
-      (add (Or (Or P (Of WantedBy)) (Of RequiredBy)) Alias two (add (Or P (Of WantedBy)) RequiredBy one (add P WantedBy w s)))
+      (λ a q. elim q [ inl p ↦ inl (inl (inl (inl p))) | inr of ↦ by_key a of.0 of.1 ])
+      (add listed Alias three (add (Or (Or P (Of WantedBy)) (Of RequiredBy)) UpheldBy two (add (Or P (Of WantedBy)) RequiredBy one (add P WantedBy w s))))
     where
       by_key : (a : Asked) (key : LinkKey) → WordsAsk unit (identity_in unit section) section.file key (words_for key section.text) a
-          → Or (Or (Or P (WordsAsk unit (identity_in unit section) section.file WantedBy (words_for WantedBy section.text))) (WordsAsk unit (identity_in unit section) section.file RequiredBy (words_for RequiredBy section.text)))
-          (WordsAsk unit (identity_in unit section) section.file Alias (words_for Alias section.text)) a
-      by_key a WantedBy of = inl (inl (inr of))
-      by_key a RequiredBy of = inl (inr of)
+          → Or (Or (Or (Or P (WordsAsk unit (identity_in unit section) section.file WantedBy (words_for WantedBy section.text))) (WordsAsk unit (identity_in unit section) section.file RequiredBy (words_for RequiredBy section.text)))
+          (WordsAsk unit (identity_in unit section) section.file UpheldBy (words_for UpheldBy section.text))) (WordsAsk unit (identity_in unit section) section.file Alias (words_for Alias section.text)) a
+      by_key a WantedBy of = inl (inl (inl (inr of)))
+      by_key a RequiredBy of = inl (inl (inr of))
+      by_key a UpheldBy of = inl (inr of)
       by_key a Alias of = inr of
 
   module _ (t : Entries) where

@@ -25,7 +25,7 @@ use Rattle.link_tree.specs.Trees.{Entries, path_cmp}
 use Rattle.link_tree.proofs.Changed.{same_bytes}
 use Rattle.install_section.specs.declared.section.Section.{Section}
 use Rattle.install_section.specs.declared.wish.LinkKey.{LinkKey}
-use Rattle.install_section.specs.declared.wish.LinkKey.TheVariants.{WantedBy, RequiredBy, Alias}
+use Rattle.install_section.specs.declared.wish.LinkKey.TheVariants.{WantedBy, RequiredBy, UpheldBy, Alias}
 use Rattle.install_section.specs.declared.wish.Wish.{Wish}
 use Rattle.install_section.specs.declared.wish.Wish.TheVariants.{Link, Skip, NoInstance}
 use Rattle.install_section.specs.declared.wants.Wants.{Wants}
@@ -171,6 +171,7 @@ module _ (place : Place) (skip : Bool) (t : Entries) (unit : List ℕ) where
     ruled_by : (key : LinkKey) → Contains (words_for key section.text) word → wish place key unit (identity_in unit section) word ≡ Link path → Ruled path file
     ruled_by WantedBy here its = by_dependency dependencies.Wants here its
     ruled_by RequiredBy here its = by_dependency dependencies.Requires here its
+    ruled_by UpheldBy here its = by_dependency dependencies.Upholds here its
     ruled_by Alias here its =
         let its = aliasing_link place unit (named_by (identity_in unit section) word) path its in
         inr (inr (section, word, its.0, its.1, (is, here), its.2, its.3, its.4, its.5, at))
@@ -199,6 +200,7 @@ module _ (place : Place) (skip : Bool) (t : Entries) (unit : List ℕ) where
       → wish place (key_of dependency) unit (identity_in unit section) word ≡ listing place dependency unit (identity_in unit section) (named_by (identity_in unit section) word)
   wish_of dependencies.Wants section word = refl
   wish_of dependencies.Requires section word = refl
+  wish_of dependencies.Upholds section word = refl
 
   listed_wish : (dependency : Dependency) (section : Section) (word by : List ℕ) (name : Option (List ℕ)) → named_by (identity_in unit section) word ≡ Ok by → listed_name by unit (identity_in unit section) ≡ name
       → wish place (key_of dependency) unit (identity_in unit section) word ≡ listed_under place dependency by name
@@ -227,6 +229,7 @@ module _ (place : Place) (skip : Bool) (t : Entries) (unit : List ℕ) where
       → wish place key unit (identity_in unit section) word ≡ NoInstance → LacksInstance t unit
   lacks_word section is word WantedBy here its = lacks_by section is word dependencies.Wants here its
   lacks_word section is word RequiredBy here its = lacks_by section is word dependencies.Requires here its
+  lacks_word section is word UpheldBy here its = lacks_by section is word dependencies.Upholds here its
   lacks_word section is word Alias here its = absurd (aliasing_some place unit (named_by (identity_in unit section) word) its)
 
   lacks : (u : List ℕ) → UnitAsks place skip t unit (AsksInstance u) → (skip ≡ false) × (u ≡ unit) × LacksInstance t unit

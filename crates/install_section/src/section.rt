@@ -14,14 +14,15 @@ use unit_name::UnitName;
 /// A unit's [Install] section.
 #[derive(Debug, Drop)]
 pub struct Section {
-    /// Where the unit's file stands.
+    /// The path of the unit's file.
     pub file: TreePath,
     /// What the section asks for.
     pub text: InstallText,
 }
 
 impl Section {
-    /// Whether it names no unit and asks for no link: the lists of `Also=`, `Alias=`, `WantedBy=` and `RequiredBy=` are empty.
+    /// Whether it names no unit and asks for no link: the lists of `Also=`, `Alias=`, `WantedBy=`,
+    /// `RequiredBy=` and `UpheldBy=` are empty.
     pub fn is_empty(&self) -> bool
         ensures { result ≡ is_empty self.now }
     {
@@ -30,6 +31,7 @@ impl Section {
             && text.alias.is_empty()
             && text.wanted_by.is_empty()
             && text.required_by.is_empty()
+            && text.upheld_by.is_empty()
     }
 
     /// The name with which the words of a unit's section are expanded.
@@ -40,8 +42,9 @@ impl Section {
     }
 }
 
-/// Looks a unit up, and reads its [Install] section: `None` where the name is no unit's. The paths that are looked at are added to
-/// these, and are those by which the unit is found. Fails only where memory runs out, and then some of them may have been added.
+/// Looks a unit up, and reads its [Install] section: `None` if the name is no unit's. The paths that
+/// are looked at are added to `cells`; the unit is found by them alone. Fails only if memory runs out,
+/// and then some of them may have been added.
 ///
 /// systemd.unit(5), "[Install] Section Options".
 #[tactic(auto, unfolding(crate::specs::Sections::section_of))]
@@ -87,7 +90,8 @@ fn text_at(
     text_in(alloc, tree.get(file))
 }
 
-/// What stands at a file's path asks for. It has no line that is too long, since a file has no more bytes than such a line.
+/// What the entry at a file's path asks for. It has no line that is too long, since a file has no
+/// more bytes than such a line.
 fn text_in(alloc: Global, entry: Option<&Entry>) -> Result<InstallText, AllocError>
     ensures { IfOk result (λ text. text ≡ text_of (bytes_in (option_copied entry.entry))) }
 {
@@ -98,7 +102,7 @@ fn text_in(alloc: Global, entry: Option<&Entry>) -> Result<InstallText, AllocErr
     }
 }
 
-/// The bytes of a file; none where no file stands.
+/// The bytes of a file; none if there is no file.
 fn bytes_in(entry: Option<&Entry>) -> &[u8]
     ensures bytes { result.now ≡ bytes_in (option_copied entry.entry) }
     ensures few { length result.now ≤ 1048576 }

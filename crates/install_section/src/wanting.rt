@@ -25,22 +25,25 @@ use std::alloc::{AllocError, Global};
 use unit_file::{Notices, Reason, Word};
 use unit_name::UnitName;
 
-/// The links that units want in a scope when they are enabled, each to the unit's file: systemd.unit(5), "[Install] Section Options",
-/// `WantedBy=`, `RequiredBy=` and `Alias=`. The words are expanded with the unit's identity.
+/// The links that units want in a scope when they are enabled, each to the unit's file:
+/// systemd.unit(5), "[Install] Section Options", `WantedBy=`, `RequiredBy=`, `UpheldBy=` and
+/// `Alias=`. The words are expanded with the unit's identity.
 ///
-/// - A unit X in `WantedBy=` or `RequiredBy=` gets a link in `X.wants/` or `X.requires/`, under the name of the unit; but of a template
-///   that isn't listed by a template itself, its default instance is linked.
-/// - A word of `Alias=` gets a link under that name, where it is another name of the unit's type and kind, with the same instance, and
-///   not of a type without aliases: mount, automount, swap and slice. For an instance a template means its own instance.
+/// - A unit X in `WantedBy=`, `RequiredBy=` or `UpheldBy=` gets a link in `X.wants/`, `X.requires/` or
+///   `X.upholds/`, under the name of the unit. If the unit is a template and X is none, its default
+///   instance is linked instead.
+/// - A word of `Alias=` gets a link under that name, if it is another name of the unit's type and
+///   kind, with the same instance, and not of a type without aliases: mount, automount, swap and
+///   slice. For an instance a template means its own instance.
 ///
-/// A word with a bad specifier or that is no unit's name, and a broken rule of aliases, gives a notice in place of a link. With `skip`
-/// a word that would need an instance which the template doesn't have asks for nothing, without a notice. A name that is no unit's
-/// wants nothing.
+/// A word with a bad specifier, one that is no unit's name, and one that breaks a rule of aliases
+/// results in a notice instead of a link. With `skip`, a word that would need an instance which the
+/// template doesn't have asks for nothing, without a notice. A name that is no unit's wants nothing.
 ///
 /// # Errors
 ///
-/// `NeedsInstance` with the least such template, unless `skip`; then `Clash` with the least path that is wanted with two targets, where
-/// equal targets are one. Want of memory.
+/// `NeedsInstance` with the least such template, unless `skip`; then `Clash` with the least path that
+/// is wanted with two targets, where equal targets are one. `OutOfMemory` if memory runs out.
 pub fn wanted(
     alloc: Global,
     tree: &Tree,
@@ -58,8 +61,8 @@ pub fn wanted(
     }
 }
 
-/// The same as `wanted`, with the paths that are looked at added to these, as often as they are looked at. The outer error is want of
-/// memory alone.
+/// The same as `wanted`, with the paths that are looked at added to `cells`, as often as they are
+/// looked at. The outer error is only that memory runs out.
 #[tactic(auto, unfolding(crate::specs::Wanted::wanted))]
 pub fn wanted_into(
     alloc: Global,
@@ -95,7 +98,8 @@ impl Wants {
         }
     }
 
-    /// A link is wanted at a slot, to a file. The first target stays, and the least path with another is noted.
+    /// A link is wanted at a slot, to a file. The first target stays, and the least path with another
+    /// one is noted.
     fn add_link(&mut self, path: TreePath, file: &TreePath) -> Result<(), AllocError>
         requires { is_slot path ≡ true }
         ensures { OnOk result (self.new ≡ with_link path file.now self.old (map.get self.old.links path)) }
@@ -217,6 +221,15 @@ impl Wants {
             &identity,
             section,
             LinkKey::RequiredBy,
+        )?;
+        self.add_list(
+            alloc,
+            place,
+            skip,
+            unit,
+            &identity,
+            section,
+            LinkKey::UpheldBy,
         )?;
         self.add_list(alloc, place, skip, unit, &identity, section, LinkKey::Alias)
     }

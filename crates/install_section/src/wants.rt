@@ -25,7 +25,8 @@ pub(crate) struct Wants {
 #[derive(Debug, Drop)]
 pub struct Wanted {
     pub links: Links,
-    /// A notice for each word of `WantedBy=`, `RequiredBy=` and `Alias=` that asks for no link.
+    /// A notice for each word of `WantedBy=`, `RequiredBy=`, `UpheldBy=` and `Alias=` that asks for no
+    /// link.
     pub notices: Notices,
 }
 

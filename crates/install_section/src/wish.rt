@@ -20,6 +20,7 @@ use unit_name::{Kind, UnitName, UnitType};
 pub(crate) enum LinkKey {
     WantedBy,
     RequiredBy,
+    UpheldBy,
     Alias,
 }
 
@@ -31,17 +32,19 @@ impl LinkKey {
         match self {
             LinkKey::WantedBy => text.wanted_by.as_slice(),
             LinkKey::RequiredBy => text.required_by.as_slice(),
+            LinkKey::UpheldBy => text.upheld_by.as_slice(),
             LinkKey::Alias => text.alias.as_slice(),
         }
     }
 
-    /// Under which key they stand.
+    /// The key under which they are written.
     pub fn notice_key(self) -> NoticeKey
         ensures { result ≡ notice_key self }
     {
         match self {
             LinkKey::WantedBy => NoticeKey::WantedBy,
             LinkKey::RequiredBy => NoticeKey::RequiredBy,
+            LinkKey::UpheldBy => NoticeKey::UpheldBy,
             LinkKey::Alias => NoticeKey::Alias,
         }
     }
@@ -54,7 +57,7 @@ pub(crate) enum Wish {
     Link(TreePath),
     /// Nothing: the word is skipped.
     Skip(Reason),
-    /// A link to the default instance of the template, which has none.
+    /// A link to the default instance of the template, but it has none.
     NoInstance,
 }
 
@@ -74,11 +77,12 @@ pub(crate) fn wish_of(
     match key {
         LinkKey::WantedBy => listing(alloc, place, Dependency::Wants, unit, identity, named),
         LinkKey::RequiredBy => listing(alloc, place, Dependency::Requires, unit, identity, named),
+        LinkKey::UpheldBy => listing(alloc, place, Dependency::Upholds, unit, identity, named),
         LinkKey::Alias => aliasing(alloc, place, unit, named),
     }
 }
 
-/// What a word of `WantedBy=` or `RequiredBy=` asks for.
+/// What a word of `WantedBy=`, `RequiredBy=` or `UpheldBy=` asks for.
 fn listing(
     alloc: Global,
     place: Place,

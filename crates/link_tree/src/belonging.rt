@@ -9,24 +9,20 @@ ghost use Rattle.link_tree.specs.Belonging.{may_belong};
 
 use crate::entry::{Entry, is_null_link};
 use unit_name::{Kind, UnitName, kind_in};
-use unit_paths::{Place, Scope, Slot, Target, TreePath, is_null_target};
+use unit_paths::{Scope, Slot, Target, TreePath, is_null_target};
 
 /// Whether a path is the slot of a unit or of a dependency in the scope.
 fn is_of_scope(scope: Scope, path: &TreePath) -> bool
     ensures { result ≡ is_of_scope scope (slot_of path.now) }
 {
-    match Slot::of(path) {
-        Some(Slot::Unit(place) | Slot::Wants(place) | Slot::Requires(place)) => {
-            matches!(
-                (scope, place),
-                (Scope::Etc, Place::Etc) | (Scope::Run, Place::Run)
-            )
-        }
-        _ => false,
+    match (scope, Slot::scope_of(path)) {
+        (Scope::Etc, Some(Scope::Etc)) | (Scope::Run, Some(Scope::Run)) => true,
+        (Scope::Etc, Some(Scope::Run)) | (Scope::Run, Some(Scope::Etc)) => false,
+        (Scope::Etc | Scope::Run, None) => false,
     }
 }
 
-/// What of a target stands after its last slash, or all where there is none.
+/// What follows the last slash of a target, or all of it if there is none.
 pub fn last_part(target: &[u8]) -> &[u8]
     ensures { result.now ≡ after_last is_slash target.now }
 {
@@ -38,7 +34,7 @@ pub fn last_part(target: &[u8]) -> &[u8]
     target
 }
 
-/// Whether what stands at a path is a link of the scope, and none to `/dev/null`.
+/// Whether the entry at a path is a link of the scope, and none to `/dev/null`.
 pub(crate) fn may_belong(scope: Scope, path: &TreePath, entry: Option<&Entry>) -> bool
     ensures { result ≡ may_belong scope path.now (option_copied entry.entry) }
 {
@@ -56,8 +52,9 @@ fn is_named(name: &[u8], path: &TreePath, target: &Target) -> bool
         || (kind_in(name) != Kind::Instance && last_part(target.text()) == name)
 }
 
-/// Whether what stands at a path is a link of the scope that belongs to a name, as `systemctl disable` removes it: its own file name is the name; or,
-/// where that is no instance's, its target ends with the name after its last slash. A link to `/dev/null` belongs to none, nor does a file.
+/// Whether the entry at a path is a link of the scope that belongs to a name, as `systemctl disable`
+/// removes it: its own file name is the name; or the name is no instance's, and what follows the last
+/// slash of the link's target is the name. A link to `/dev/null` belongs to no name, nor does a file.
 pub fn belongs(scope: Scope, name: &UnitName, path: &TreePath, entry: &Entry) -> bool
     ensures { result ≡ belongs scope name.now path.now entry.now }
 {
@@ -71,7 +68,7 @@ pub(crate) fn text_belongs(scope: Scope, name: &[u8], path: &TreePath, entry: &E
 {
     match entry {
         Entry::File(_) => false,
-        // (of all entries that are gone through, most have another name, and that is told fastest)
+        // (most of the entries that are walked over have another name, and that is the fastest test)
         Entry::Link(target) if !is_named(name, path, target) => false,
         Entry::Link(_) => is_of_scope(scope, path) && !is_null_link(path, entry),
     }

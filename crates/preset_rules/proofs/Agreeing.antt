@@ -15,7 +15,8 @@ use Rattle.preset_rules.specs.declared.rule.Rule.{Rule}
 use Rattle.preset_rules.specs.declared.rule.Rule.TheVariants.{Disable}
 use Rattle.preset_rules.specs.declared.rule.Verdict.{Verdict}
 use Rattle.preset_rules.specs.declared.rule.Verdict.TheVariants as verdicts
-use Rattle.preset_rules.specs.Files.{is_preset, presets_of, policy_of, rules_from, winners}
+use Rattle.preset_rules.specs.Files.{presets_of, policy_of, rules_from, winners}
+use Rattle.unit_paths.specs.Kinds.{is_preset}
 use Rattle.preset_rules.specs.Verdicts.{applies, given, verdict}
 use Rattle.preset_rules.specs.Laws.{PoliciesAgree, PresetsDecide, FirstRuleDecides, NoRulesEnable, LastRuleDecides, NoneApplies, IsSaid}
 use Rattle.preset_rules.proofs.WinnersFound.{get-presets}

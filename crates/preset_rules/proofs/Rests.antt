@@ -15,7 +15,8 @@ use Rattle.load_path.specs.Search.{Search, over}
 use Rattle.preset_rules.specs.declared.rule.Rule.{Rule}
 use Rattle.preset_rules.specs.declared.rule.Verdict.{Verdict}
 use Rattle.preset_rules.specs.declared.rule.Verdict.TheVariants as verdicts
-use Rattle.preset_rules.specs.Files.{is_preset, presets_of, policy_of, rules_from, in_order, winners}
+use Rattle.preset_rules.specs.Files.{presets_of, policy_of, rules_from, in_order, winners}
+use Rattle.unit_paths.specs.Kinds.{is_preset}
 use Rattle.preset_rules.specs.Lines.{rules_of, rule_of, first_word}
 use Rattle.preset_rules.specs.Patterns.{Matches}
 use Rattle.preset_rules.specs.Patterns.Matches.{AtEnd, AnyBytes}

@@ -22,7 +22,8 @@ use Rattle.unit_paths.specs.Places.{preset_directory, unit_directory}
 use Rattle.unit_paths.specs.Paths.{parent, name_at, is_slash}
 use Rattle.unit_paths.specs.Slots.{slot_of}
 use Rattle.unit_paths.proofs.Slashes.{last_slash, parent-none}
-use Rattle.preset_rules.specs.Files.{is_preset, presets_of, is_in, named_in, in_order, Winners, winners}
+use Rattle.preset_rules.specs.Files.{presets_of, is_in, named_in, in_order, Winners, winners}
+use Rattle.unit_paths.specs.Kinds.{is_preset}
 use Rattle.preset_rules.specs.WinnerSteps.{with_path}
 
 -- an entry with its path

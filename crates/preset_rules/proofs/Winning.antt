@@ -14,7 +14,8 @@ use Rattle.unit_paths.specs.declared.place.Place.TheVariants.{Etc, Run, Vendor}
 use Rattle.unit_paths.specs.Places.{preset_directory}
 use Rattle.unit_paths.specs.Paths.{parent}
 use Rattle.unit_paths.specs.Slots.{slot_of}
-use Rattle.preset_rules.specs.Files.{is_preset, presets_of, named_in, winners}
+use Rattle.preset_rules.specs.Files.{presets_of, named_in, winners}
+use Rattle.unit_paths.specs.Kinds.{is_preset}
 use Rattle.preset_rules.specs.FileLaws.{Stands, NoneStands, IsWinner, FirstDirectoryWins}
 use Rattle.preset_rules.proofs.WinnersFound.{Standing, found_is, found_if, get-presets, get-winners, has_path, only_some}
 

@@ -12,7 +12,7 @@ use crate::rule::{Instances, Rule, Verdict};
 use std::alloc::{AllocError, Global};
 use unit_name::{Kind, UnitName};
 
-/// What rules say of a unit: the first that applies decides, and where none does the unit is to be enabled.
+/// What rules say of a unit: the first that applies decides, and if none does, the unit is enabled.
 #[tactic(auto, unfolding(crate::specs::Verdicts::verdict))]
 pub(crate) fn verdict(alloc: Global, rules: &[Rule], name: &UnitName) -> Result<Verdict, AllocError>
     ensures { IfOk result (λ said. said ≡ verdict rules.now name.now) }
@@ -54,6 +54,7 @@ impl Rule {
     {
         match self {
             Rule::Disable { pattern } => pattern_matches(pattern.bytes(), name.text()),
+            Rule::Ignore { pattern } => pattern_matches(pattern.bytes(), name.text()),
             Rule::Enable { pattern, instances } => {
                 if instances.is_empty() {
                     pattern_matches(pattern.bytes(), name.text())
@@ -72,6 +73,7 @@ impl Rule {
     {
         match self {
             Rule::Disable { .. } => Ok(Verdict::Disable),
+            Rule::Ignore { .. } => Ok(Verdict::Ignore),
             Rule::Enable { pattern, instances } => {
                 if pattern.bytes() == name.text() {
                     Ok(Verdict::Enable(instances.copy()?))

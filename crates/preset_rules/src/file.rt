@@ -2,8 +2,7 @@
 ghost use Rattle.std.specs.Prelude.{◌≡◌, ◌++◌, Some, OnOk};
 ghost use Rattle.std.specs.Option.{option_copied};
 ghost use Rattle.std.specs.FinMap as map;
-ghost use Rattle.unit_paths.specs.Slots.{slot_of};
-ghost use Rattle.preset_rules.specs.Files.{is_preset, presets_of, rules_in, rules_behind, rules_at};
+ghost use Rattle.preset_rules.specs.Files.{presets_of, rules_in, rules_behind, rules_at};
 ghost use Rattle.preset_rules.specs.Gathering.{Gathers};
 
 use crate::line::push_rules;
@@ -12,20 +11,11 @@ use link_tree::{Entry, Slot, Tree, TreePart, TreePath};
 use load_path::{Cells, End, follow_entry_into};
 use std::alloc::{AllocError, Global};
 
-pub(crate) fn is_preset(path: &TreePath) -> bool
-    ensures { result ≡ is_preset (slot_of path.now) }
-{
-    match Slot::of(path) {
-        Some(Slot::Preset(_)) => true,
-        _ => false,
-    }
-}
-
-/// What stands at a preset slot.
+/// The entry at a preset slot; `None` if there is none, or if the path is no preset slot.
 fn preset_at<'a>(presets: &'a TreePart, path: &TreePath) -> Option<&'a Entry>
     ensures { option_copied result ≡ map.get (presets_of presets.now) path.now }
 {
-    if is_preset(path) {
+    if Slot::is_of_preset(path) {
         presets.get(path)
     } else {
         None
@@ -68,7 +58,7 @@ fn read_entry(
     }
 }
 
-/// The same where a link has led here. What isn't a file counts as an empty one.
+/// The same for the end of a link. What isn't a file counts as an empty one.
 fn read_end(
     alloc: Global,
     tree: &Tree,

@@ -3,7 +3,7 @@ ghost use Rattle.std.specs.Prelude.{◌≡◌, ◌<◌, ◌++◌, not, true, fal
 ghost use Rattle.std.specs.List.{position};
 ghost use Rattle.unit_file.specs.Lines.{is_blank, stripped};
 ghost use Rattle.unit_file.specs.Install.{words, is_empty};
-ghost use Rattle.preset_rules.specs.Lines.{cut_at, first_word, names_template, with_instances, enable_rule, disable_rule, rule_from, rule_of, with_rule, rules_of};
+ghost use Rattle.preset_rules.specs.Lines.{cut_at, first_word, names_template, with_instances, enable_rule, disable_rule, ignore_rule, rule_from, rule_of, with_rule, rules_of};
 
 use crate::rule::{Instances, Rule};
 use bstr::ByteSlice;
@@ -93,6 +93,17 @@ fn disable_rule(alloc: Global, rest: &[u8]) -> Result<Option<Rule>, AllocError>
     Ok(Some(Rule::Disable { pattern }))
 }
 
+/// The rule of a line that begins with `ignore`, by the rest of it.
+fn ignore_rule(alloc: Global, rest: &[u8]) -> Result<Option<Rule>, AllocError>
+    ensures { IfOk result (λ rule. rule ≡ ignore_rule rest.now) }
+{
+    if rest.is_empty() {
+        return Ok(None);
+    }
+    let pattern = Word::from_slice(alloc, rest)?;
+    Ok(Some(Rule::Ignore { pattern }))
+}
+
 /// The rule of a line, if it has one.
 #[tactic(auto, unfolding(crate::specs::Lines::rule_of))]
 fn rule_of(alloc: Global, line: &[u8]) -> Result<Option<Rule>, AllocError>
@@ -103,6 +114,8 @@ fn rule_of(alloc: Global, line: &[u8]) -> Result<Option<Rule>, AllocError>
         enable_rule(alloc, rest)
     } else if word == b"disable".as_slice() {
         disable_rule(alloc, rest)
+    } else if word == b"ignore".as_slice() {
+        ignore_rule(alloc, rest)
     } else {
         Ok(None)
     }

@@ -55,7 +55,7 @@ impl Instances {
         self.names.is_empty()
     }
 
-    /// An equal list. The only error is want of memory.
+    /// An equal list. The only error is that memory runs out.
     pub fn copy(&self) -> Result<Instances, AllocError>
         ensures { IfOk result (λ copy. copy ≡ self.now) }
     {
@@ -74,18 +74,23 @@ impl Instances {
 /// What a line says.
 #[derive(Debug, Drop)]
 pub enum Rule {
-    /// The units that the pattern matches are enabled. With instances, the pattern names a template, which is to be enabled with
-    /// these.
+    /// The units that the pattern matches are enabled. With instances, the pattern names a template,
+    /// which is enabled with these.
     Enable { pattern: Word, instances: Instances },
     /// The units that the pattern matches are disabled.
     Disable { pattern: Word },
+    /// The units that the pattern matches are left as they are.
+    Ignore { pattern: Word },
 }
 
-/// What is to be done with a unit.
+/// What a preset does with a unit: systemd.preset(5), "Preset File Format".
 #[derive(Debug, Drop)]
 pub enum Verdict {
-    /// It is to be enabled; a template with these instances in its place, where there are any. They are as they are written, and may
-    /// be such as no unit can have.
+    /// It is enabled; if there are instances, each of them is enabled instead of the template. They
+    /// are as they are written, and may be such that no unit can have them.
     Enable(Instances),
+    /// It is disabled.
     Disable,
+    /// It is left as it is.
+    Ignore,
 }

@@ -6,14 +6,15 @@ ghost use Rattle.unit_paths.specs.Places.{preset_directory};
 ghost use Rattle.unit_paths.specs.Paths.{name_at};
 ghost use Rattle.unit_paths.specs.Slots.{slot_of};
 ghost use Rattle.link_tree.specs.Trees.{path_cmp};
-ghost use Rattle.preset_rules.specs.Files.{is_preset, is_in, presets_of, named_in, winners, rules_from};
+ghost use Rattle.preset_rules.specs.Files.{is_in, presets_of, named_in, winners, rules_from};
+ghost use Rattle.unit_paths.specs.Kinds.{is_preset};
 ghost use Rattle.preset_rules.specs.WinnerSteps.{with_path};
 ghost use Rattle.preset_rules.specs.Gathering.{Gathers};
 
-use crate::file::{is_preset, read_slot};
+use crate::file::read_slot;
 use crate::file_name::FileName;
 use crate::rule::Rule;
-use link_tree::{Place, Tree, TreePart, TreePath};
+use link_tree::{Place, Slot, Tree, TreePart, TreePath};
 use load_path::Cells;
 use std::alloc::{AllocError, Global};
 use std::collections::BTreeMap;
@@ -125,5 +126,5 @@ impl Winners {
 fn is_in(place: Place, path: &TreePath) -> bool
     ensures { result ≡ is_in place path.now }
 {
-    path.directory() == place.preset_directory().as_bytes() && is_preset(path)
+    path.directory() == place.preset_directory().as_bytes() && Slot::is_of_preset(path)
 }

@@ -13,10 +13,6 @@ use Rattle.link_tree.specs.declared.entry.Entry.TheVariants.{File, Link}
 use Rattle.link_tree.specs.declared.change.Change.{Change}
 use Rattle.unit_paths.specs.declared.place.Scope.{Scope}
 use Rattle.unit_paths.specs.declared.place.Scope.TheVariants.{Etc, Run}
-use Rattle.unit_paths.specs.declared.place.Place.{Place}
-use Rattle.unit_paths.specs.declared.place.Place.TheVariants as places
-use Rattle.unit_paths.specs.declared.slot.Slot.{Slot}
-use Rattle.unit_paths.specs.declared.slot.Slot.TheVariants as slots
 use Rattle.unit_paths.specs.Paths.{is_slash}
 use Rattle.unit_paths.specs.Canonical.{is_null_target}
 use Rattle.unit_paths.specs.Paths.{name_at}
@@ -27,9 +23,11 @@ use Rattle.footprint.specs.declared.key.Key.{Key}
 use Rattle.footprint.specs.declared.key.Key.TheVariants.{Cell, Marked, Presets, Links}
 use Rattle.footprint.specs.declared.reading.Observation.{Observation}
 use Rattle.readers.specs.declared.readers.Readers.{Readers}
-use Rattle.link_tree.specs.Links.{is_instance, is_place_of, is_of_scope, belongs}
-use Rattle.footprint.specs.Keys.{is_preset, is_dependency, is_marked, touches}
-use Rattle.readers.specs.Readers.{reads, is_key, is_read, scope_of_place, scope_of, is_marked_of, is_marked_in, is_touched_in}
+use Rattle.link_tree.specs.Links.{is_instance, is_scope, belongs}
+use Rattle.footprint.specs.Keys.{is_marked, touches}
+use Rattle.unit_paths.specs.Kinds.{is_preset, is_dependency}
+use Rattle.readers.specs.Readers.{reads, is_key, is_read, is_marked_of, is_marked_in, is_touched_in}
+use Rattle.unit_paths.specs.Kinds.{scope_of}
 use Rattle.readers.proofs.Listings.{same_text, text_itself}
 
 -- a test of keys, for the names of a link
@@ -177,11 +175,6 @@ or_false : (b : Bool) → (b || false) ≡ b
 or_false true = refl
 or_false false = refl
 
-abbrev is_in : Scope → Option Scope → Bool
-is_in Etc (Some Etc) = true
-is_in Run (Some Run) = true
-is_in s o = false
-
 -- whether a name is a link's file name, or the last part of its target
 abbrev is_of : (name last key : List ℕ) → Bool
 is_of name last key = bytes_eq name key || (not (is_instance (kind_of (instance_of key))) && bytes_eq last key)
@@ -197,36 +190,15 @@ one_named name last key s same =
     x : List ℕ → Bool
     x t = not (is_instance (kind_of (instance_of t)))
 
-one_etc : (name last key : List ℕ) (o : Option Scope) → named_of (λ k. is_key k (Marked Etc key)) o name last ≡ (is_in Etc o && is_of name last key)
+one_etc : (name last key : List ℕ) (o : Option Scope) → named_of (λ k. is_key k (Marked Etc key)) o name last ≡ (is_scope Etc o && is_of name last key)
 one_etc name last key None = refl
 one_etc name last key (Some Etc) = one_named name last key Etc (λ t. same_test t key)
 one_etc name last key (Some Run) = and_false (not (is_instance (kind_of (instance_of last))))
 
-one_run : (name last key : List ℕ) (o : Option Scope) → named_of (λ k. is_key k (Marked Run key)) o name last ≡ (is_in Run o && is_of name last key)
+one_run : (name last key : List ℕ) (o : Option Scope) → named_of (λ k. is_key k (Marked Run key)) o name last ≡ (is_scope Run o && is_of name last key)
 one_run name last key None = refl
 one_run name last key (Some Etc) = and_false (not (is_instance (kind_of (instance_of last))))
 one_run name last key (Some Run) = one_named name last key Run (λ t. same_test t key)
-
-in_place : (s : Scope) (place : Place) → is_place_of s place ≡ is_in s (scope_of_place place)
-in_place Etc places.Etc = refl
-in_place Etc places.Run = refl
-in_place Etc places.Local = refl
-in_place Etc places.Vendor = refl
-in_place Run places.Etc = refl
-in_place Run places.Run = refl
-in_place Run places.Local = refl
-in_place Run places.Vendor = refl
-
-none_in : (s : Scope) → false ≡ is_in s None
-none_in Etc = refl
-none_in Run = refl
-
-in_scope : (s : Scope) (slot : Option Slot) → is_of_scope s slot ≡ is_in s (scope_of slot)
-in_scope s (Some (slots.Unit place)) = in_place s place
-in_scope s (Some (slots.Wants place)) = in_place s place
-in_scope s (Some (slots.Requires place)) = in_place s place
-in_scope s (Some (slots.Preset place)) = none_in s
-in_scope s None = none_in s
 
 turn : (a b c : Bool) → (not a && (b && c)) ≡ ((b && not a) && c)
 turn true true c = refl
@@ -235,7 +207,7 @@ turn false true c = refl
 turn false false c = refl
 
 one_marked : (s : Scope) (key path : List ℕ) (entry : Option Entry)
-    → ((name last : List ℕ) (o : Option Scope) → named_of (λ k. is_key k (Marked s key)) o name last ≡ (is_in s o && is_of name last key))
+    → ((name last : List ℕ) (o : Option Scope) → named_of (λ k. is_key k (Marked s key)) o name last ≡ (is_scope s o && is_of name last key))
     → marked (λ k. is_key k (Marked s key)) path entry ≡ is_marked s key path entry
 unfolding belongs
 one_marked s key path None one = refl
@@ -244,8 +216,7 @@ one_marked s key path (Some (Link target)) one =
     let null = is_null_target path target in
     let of = is_of (name_at path) (after_last is_slash target) key in
     ap (λ b. not null && b) (one (name_at path) (after_last is_slash target) (scope_of (slot_of path)))
-    ∙ turn null (is_in s (scope_of (slot_of path))) of
-    ∙ ap (λ b. (b && not null) && of) (sym (in_scope s (slot_of path)))
+    ∙ turn null (is_scope s (scope_of (slot_of path))) of
 
 both_marked : (f : Key → Bool) (change : Change) (b a : Bool) → f (Cell change.path) ≡ false → f Presets ≡ false → f Links ≡ false
     → marked f change.path change.before ≡ b → marked f change.path change.after ≡ a → touched f change ≡ (b || a)

@@ -5,16 +5,17 @@ ghost use Rattle.std.specs.Ordering.{nat_cmp};
 ghost use Rattle.std.specs.BTreeMap.{is_at};
 ghost use Rattle.unit_paths.specs.Slots.{slot_of};
 ghost use Rattle.footprint.specs.declared.key.Key.{Key};
-ghost use Rattle.footprint.specs.Keys.{is_preset, is_dependency};
+ghost use Rattle.unit_paths.specs.Kinds.{is_preset, is_dependency};
 ghost use Rattle.readers.specs.Numbers.{has, IsNext, AreAllAfter};
-ghost use Rattle.readers.specs.Readers.{reads, is_key, is_read, IsListed, IsUnlisted, scope_of, is_named_in, is_marked_of, is_marked_in, is_touched_in};
+ghost use Rattle.readers.specs.Readers.{reads, is_key, is_read, IsListed, IsUnlisted, is_named_in, is_marked_of, is_marked_in, is_touched_in};
+ghost use Rattle.unit_paths.specs.Kinds.{scope_of};
 
 use crate::numbers::{Listed, Numbers};
 use footprint::{Key, Observation, Reading};
 use link_tree::{Change, Entry, last_part};
 use std::alloc::{AllocError, Global};
 use unit_name::{Kind, kind_in};
-use unit_paths::{Place, Scope, Slot, TreePath, is_null_target};
+use unit_paths::{Scope, Slot, TreePath, is_null_target};
 
 /// An index of the rows of a history by the keys that they looked at. Each row is listed under each key of its reading: a cell under its path, the
 /// links that belong to a name under the name, apart for each scope; the presets and the links of dependencies are one key each. So the rows that
@@ -26,34 +27,6 @@ pub struct Readers {
     run: Listed,
     presets: Numbers,
     links: Numbers,
-}
-
-/// The scope in which a path is the slot of a unit or of a dependency.
-fn scope_of(path: &TreePath) -> Option<Scope>
-    ensures { result ≡ scope_of (slot_of path.now) }
-{
-    match Slot::of(path) {
-        Some(Slot::Unit(place) | Slot::Wants(place) | Slot::Requires(place)) => match place {
-            Place::Etc => Some(Scope::Etc),
-            Place::Run => Some(Scope::Run),
-            _ => None,
-        },
-        _ => None,
-    }
-}
-
-/// Whether a path is a slot of presets.
-fn is_preset(path: &TreePath) -> bool
-    ensures { result ≡ is_preset (slot_of path.now) }
-{
-    matches!(Slot::of(path), Some(Slot::Preset(_)))
-}
-
-/// Whether a path is a slot of dependencies.
-fn is_dependency(path: &TreePath) -> bool
-    ensures { result ≡ is_dependency (slot_of path.now) }
-{
-    matches!(Slot::of(path), Some(Slot::Wants(_) | Slot::Requires(_)))
 }
 
 /// The lesser of two numbers, or the one that there is.
@@ -178,7 +151,7 @@ impl Readers {
                     None
                 } else {
                     self.marked_of(
-                        scope_of(path),
+                        Slot::scope_of(path),
                         path.file_name(),
                         last_part(target.text()),
                         n,
@@ -192,7 +165,7 @@ impl Readers {
     fn presets_after(&self, path: &TreePath, n: u32) -> Option<u32>
         ensures { IsNext (λ i. is_preset (slot_of path.now) && has self.now.presets i) n result }
     {
-        if is_preset(path) {
+        if Slot::is_of_preset(path) {
             self.presets.after(n)
         } else {
             None
@@ -203,7 +176,7 @@ impl Readers {
     fn links_after(&self, path: &TreePath, n: u32) -> Option<u32>
         ensures { IsNext (λ i. is_dependency (slot_of path.now) && has self.now.links i) n result }
     {
-        if is_dependency(path) {
+        if Slot::is_of_dependency(path) {
             self.links.after(n)
         } else {
             None

@@ -2,13 +2,13 @@
 
 use crate::identity::{Identity, found_under};
 use crate::making::{enter_made, put_under, sync_here};
-use crate::names::{is_for_dependencies, is_of_dependency, may_go_astray, spot_of, text_of};
+use crate::names::{is_for_dependencies, may_go_astray, spot_of, text_of};
 use crate::reading::look_under;
 use crate::root::{Reached, Root};
 use crate::trouble::{Hindrance, Trouble, at, changed, hindered};
 use crate::way::Way;
 use disk::{Found, Listing};
-use link_tree::{Change, Entry, PathError, Target, TreePath, canonical};
+use link_tree::{Change, Entry, PathError, Slot, Target, TreePath, canonical};
 use std::alloc::Global;
 use std::collections::{BTreeMap, BTreeSet};
 use std::fs::DirEntry;
@@ -253,7 +253,7 @@ impl<'a> RootFiles<'a> {
             return Err(changed(self.rt.alloc(), spot.directory));
         }
         sync_here(self.rt, spot.directory)?;
-        if is_of_dependency(path)
+        if Slot::is_of_dependency(path)
             && let Some(directory) = path.copy()?.into_parent()
         {
             self.take_if_empty(&directory)?;

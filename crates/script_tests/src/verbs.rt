@@ -4,9 +4,9 @@ use crate::lines::call;
 use byte_streams::ReadError;
 use footprint::{Operation, Units};
 use history::Request;
-use link_tree::{Dependency, Entry, Scope, push_decimal};
+use link_tree::{Entry, Scope, push_decimal};
 use sample_rows::{Row, unlike};
-use slot_commands::{AddTo, PlaceEntry};
+use slot_commands::{AddTo, AddedDependency, PlaceEntry};
 use states::Dependencies;
 use std::alloc::{AllocError, Global};
 use std::str;
@@ -87,8 +87,8 @@ fn push_scope(out: &mut Vec<u8>, what: &[u8], scope: Scope) -> Result<(), AllocE
 
 fn push_add(out: &mut Vec<u8>, add: &AddTo) -> Result<(), AllocError> {
     match add.dependency {
-        Dependency::Wants => push_scope(out, b"add-wants", add.scope)?,
-        Dependency::Requires => push_scope(out, b"add-requires", add.scope)?,
+        AddedDependency::Wants => push_scope(out, b"add-wants", add.scope)?,
+        AddedDependency::Requires => push_scope(out, b"add-requires", add.scope)?,
     }
     push_word(out, add.target.text())?;
     push_units(out, &add.units)

@@ -11,7 +11,8 @@ use Rattle.link_tree.specs.declared.entry.Entry.TheVariants.{File, Link}
 use Rattle.unit_paths.specs.declared.place.Place.{Place}
 use Rattle.unit_paths.specs.declared.slot.Dependency.{Dependency}
 use Rattle.unit_paths.specs.Canonical.{canonical}
-use Rattle.unit_paths.specs.Slots.{unit_slot, dependency_slot, slot_of, is_unit_slot}
+use Rattle.unit_paths.specs.Slots.{unit_slot, dependency_slot, slot_of}
+use Rattle.unit_paths.specs.Kinds.{is_unit_slot}
 use Rattle.unit_paths.specs.Places.{scope_place}
 use Rattle.unit_paths.specs.Paths.{name_at}
 use Rattle.link_tree.specs.Trees.{Entries, set_entry, after_changes}
@@ -32,7 +33,7 @@ use Rattle.footprint.specs.Rules.{is_same_path, leads_alike, link_at, relink_at,
 use Rattle.slot_commands.specs.LinkUnits.{link_file, link_end, link_unit, IsLinked, FilesAreLinked}
 use Rattle.footprint.specs.Units.{found_unit, IsFound}
 use Rattle.unit_file.specs.Listed.{is_template_name}
-use Rattle.slot_commands.specs.AddTo.{default_of, name_listed, add_listed, add_file, add_unit, add_units, IsListedBetween, DependenciesAreAdded}
+use Rattle.slot_commands.specs.AddTo.{as_dependency, default_of, name_listed, add_listed, add_file, add_unit, add_units, IsListedBetween, DependenciesAreAdded}
 use Rattle.slot_commands.specs.SetDefault.{default_slot, is_target_type, default_file, DefaultIsSet}
 use Rattle.slot_commands.specs.Effects.{Keeps, AddsOnly}
 use Rattle.footprint.proofs.Turns.{left_by, leaves, goes_on, in_turn, all_turns}
@@ -255,12 +256,13 @@ module _ (name : List ℕ) (t : Entries) (on : (real file : List ℕ) → Step) 
 pub dependencies_are_added : DependenciesAreAdded
 dependencies_are_added = λ add t done.
     let place = scope_place add.scope in
-    let on : List ℕ → List ℕ → Step = λ real file. add_units place add.dependency add.units real in
+    let dependency = as_dependency add.dependency in
+    let on : List ℕ → List ℕ → Step = λ real file. add_units place dependency add.units real in
     let unit = was_found add.target t on ((find add.target).conclusion t) refl done in
     let by = unit.0 in
     let ruling = ruling_of add.target t on ((find add.target).conclusion t) in
-    let left : left_by ((add_units place add.dependency add.units by).conclusion t) t ≡ Ok (after_changes (effect t map.empty ruling).changes t) = ap (λ v. left_by v t) (sym unit.3) ∙ left_tree t ruling done in
-    let all = every t (add_unit place add.dependency by) (IsNewListing t place add.dependency by) (IsListing t place add.dependency by) (new_kept t place add.dependency by) (listing_kept t place add.dependency by) (one_listed t place add.dependency by) add.units (after_changes (effect t map.empty ruling).changes t) (sym (all_turns (add_unit place add.dependency by) add.units t) ∙ left) in
+    let left : left_by ((add_units place dependency add.units by).conclusion t) t ≡ Ok (after_changes (effect t map.empty ruling).changes t) = ap (λ v. left_by v t) (sym unit.3) ∙ left_tree t ruling done in
+    let all = every t (add_unit place dependency by) (IsNewListing t place dependency by) (IsListing t place dependency by) (new_kept t place dependency by) (listing_kept t place dependency by) (one_listed t place dependency by) add.units (after_changes (effect t map.empty ruling).changes t) (sym (all_turns (add_unit place dependency by) add.units t) ∙ left) in
     record {
       by = by;
       file = unit.1;

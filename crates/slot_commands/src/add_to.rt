@@ -1,9 +1,9 @@
-//! add-wants and add-requires.
+//! `add-wants` and `add-requires`.
 ghost use Rattle.std.specs.Prelude.{◌≡◌, IfOk};
 ghost use Rattle.unit_file.specs.Identity.{identity_of};
 ghost use Rattle.unit_file.specs.Reading.{text_of};
 ghost use Rattle.unit_paths.specs.Places.{scope_place};
-ghost use Rattle.slot_commands.specs.AddTo.{default_of, name_listed, add_file, add_unit, add_units, add_steps};
+ghost use Rattle.slot_commands.specs.AddTo.{as_dependency, default_of, name_listed, add_file, add_unit, add_units, add_steps};
 ghost use Rattle.transaction.specs.Runs.{Runs, taking};
 
 use footprint::{Operation, Outcome, Refusal, Units, link_at};
@@ -15,6 +15,26 @@ use unit_file::{
 };
 use unit_name::UnitName;
 
+/// The dependencies that a command adds by hand: systemctl(1), `add-wants` and `add-requires`. There is
+/// no such command for `Upholds=`, which only `enable` makes, by `UpheldBy=`.
+#[derive(Clone, Copy, Debug, PartialEq, Eq)]
+pub enum AddedDependency {
+    Wants,
+    Requires,
+}
+
+impl AddedDependency {
+    /// The same among all dependencies.
+    pub fn as_dependency(self) -> Dependency
+        ensures { result ≡ as_dependency self }
+    {
+        match self {
+            AddedDependency::Wants => Dependency::Wants,
+            AddedDependency::Requires => Dependency::Requires,
+        }
+    }
+}
+
 /// systemctl(1), `add-wants` and `add-requires`: the target wants or requires each unit from now
 /// on, by a link in the target's directory of the scope, which has the target's own name. The
 /// target is looked up first, and then the units, one after another, each in the tree that the
@@ -25,7 +45,7 @@ use unit_name::UnitName;
 #[derive(Debug, Drop)]
 pub struct AddTo {
     pub scope: Scope,
-    pub dependency: Dependency,
+    pub dependency: AddedDependency,
     pub target: UnitName,
     pub units: Units,
 }
@@ -87,14 +107,14 @@ impl AddTo {
         file: &TreePath,
         txn: &mut Transaction<'_>,
     ) -> Result<(), Stop>
-        ensures { Runs (taking (add_file (scope_place self.now.scope) self.now.dependency by.now real file.now)) txn.old txn.new result }
+        ensures { Runs (taking (add_file (scope_place self.now.scope) (as_dependency self.now.dependency) by.now real file.now)) txn.old txn.new result }
     {
         let there = txn.get(file)?;
         let Some(name) = name_listed(alloc, by, &real, &there)? else {
             return Err(Stop::Refused(Refusal::NeedsInstance(real)));
         };
         let place = self.scope.place();
-        let slot = place.dependency_slot(alloc, self.dependency, by, &name)?;
+        let slot = place.dependency_slot(alloc, self.dependency.as_dependency(), by, &name)?;
         let there = txn.get(&slot)?;
         match link_at(alloc, file, &slot, there.as_ref())? {
             Ok(entry) => Ok(txn.put(alloc, &slot, entry)?),
@@ -111,7 +131,7 @@ impl AddTo {
         unit: &UnitName,
         txn: &mut Transaction<'_>,
     ) -> Result<(), Stop>
-        ensures { Runs (taking (add_unit (scope_place self.now.scope) self.now.dependency by.now unit.now)) txn.old txn.new result }
+        ensures { Runs (taking (add_unit (scope_place self.now.scope) (as_dependency self.now.dependency) by.now unit.now)) txn.old txn.new result }
     {
         let (real, file) = txn.unit(alloc, unit)?;
         self.add_file(alloc, by, real, &file, txn)
@@ -126,7 +146,7 @@ impl AddTo {
         units: &[UnitName],
         txn: &mut Transaction<'_>,
     ) -> Result<(), Stop>
-        ensures { Runs (taking (add_units (scope_place self.now.scope) self.now.dependency units.now by.now)) txn.old txn.new result }
+        ensures { Runs (taking (add_units (scope_place self.now.scope) (as_dependency self.now.dependency) units.now by.now)) txn.old txn.new result }
     {
         for unit in units {
             self.add_unit(alloc, by, unit, txn)?;

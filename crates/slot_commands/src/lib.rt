@@ -9,7 +9,7 @@ mod mask;
 mod paths;
 mod set_default;
 
-pub use add_to::AddTo;
+pub use add_to::{AddTo, AddedDependency};
 pub use by_hand::{PlaceEntry, RemoveEntry};
 pub use laws::{
     dependencies_are_links_of_the_target, entries_are_placed_in_empty_slots,

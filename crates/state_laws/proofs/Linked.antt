@@ -16,7 +16,7 @@ use Rattle.unit_paths.specs.declared.place.Place.{Place}
 use Rattle.unit_paths.specs.declared.place.Scope.{Scope}
 use Rattle.unit_paths.specs.declared.place.Scope.TheVariants.{Etc, Run}
 use Rattle.unit_paths.specs.declared.slot.Dependency.{Dependency}
-use Rattle.unit_paths.specs.declared.slot.Dependency.TheVariants.{Wants, Requires}
+use Rattle.unit_paths.specs.declared.slot.Dependency.TheVariants.{Wants, Requires, Upholds}
 use Rattle.unit_paths.specs.declared.slot.Slot.TheVariants as slots
 use Rattle.unit_paths.specs.Canonical.{canonical}
 use Rattle.unit_paths.specs.Paths.{is_slash, name_at}
@@ -67,8 +67,10 @@ word_named identity word name is = by_text (expansion identity word) is
 dependency_of_scope : (scope : Scope) (dependency : Dependency) → is_of_scope scope (Some (slot_of_dependency (scope_place scope) dependency)) ≡ true
 dependency_of_scope Etc Wants = refl
 dependency_of_scope Etc Requires = refl
+dependency_of_scope Etc Upholds = refl
 dependency_of_scope Run Wants = refl
 dependency_of_scope Run Requires = refl
+dependency_of_scope Run Upholds = refl
 
 unit_of_scope : (scope : Scope) → is_of_scope scope (Some (slots.Unit (scope_place scope))) ≡ true
 unit_of_scope Etc = refl
@@ -78,6 +80,7 @@ unit_of_scope Run = refl
 other_slot : (place : Place) (dependency : Dependency) → Some (slot_of_dependency place dependency) ≡ Some (slots.Unit place) → ⊥
 other_slot place Wants same = cc
 other_slot place Requires same = cc
+other_slot place Upholds same = cc
 
 module _ (scope : Scope) (u : Entries) (unit : List ℕ) where
   abbrev place : Place

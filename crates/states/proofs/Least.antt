@@ -9,7 +9,7 @@ use Rattle.unit_name.specs.Name.{is_unit_name, instance_of, template_of}
 use Rattle.unit_name.proofs.Instances.{instance_set}
 use Rattle.unit_paths.specs.declared.place.Place.{Place}
 use Rattle.unit_paths.specs.declared.slot.Dependency.{Dependency}
-use Rattle.unit_paths.specs.declared.slot.Dependency.TheVariants.{Wants, Requires}
+use Rattle.unit_paths.specs.declared.slot.Dependency.TheVariants.{Wants, Requires, Upholds}
 use Rattle.unit_paths.specs.Slots.{dependency_slot, slot_of_dependency, slot_of}
 use Rattle.unit_paths.proofs.DependencySlots.{dependency_slot_is}
 use Rattle.link_tree.specs.declared.entry.Entry.{Entry}
@@ -18,7 +18,8 @@ use Rattle.link_tree.specs.Trees.{Entries}
 use Rattle.link_tree.proofs.Maps.{all_standing, all_listed}
 use Rattle.load_path.proofs.Units.{is-name}
 use Rattle.footprint.specs.declared.key.Key.TheVariants.{Links}
-use Rattle.footprint.specs.Keys.{is_dependency, part}
+use Rattle.footprint.specs.Keys.{part}
+use Rattle.unit_paths.specs.Kinds.{is_dependency}
 use Rattle.footprint.proofs.Parts.{part_selected, part_stands, stands_in_part}
 use Rattle.states.specs.declared.step.Step.{Step}
 use Rattle.states.specs.Dependencies.{turned, steps_of, ends_of, end_for, next_names, reached_names, dependencies}
@@ -57,6 +58,7 @@ module _ (t : Entries) where
   slot_selected : (place : Place) (dependency : Dependency) → is_dependency (Some (slot_of_dependency place dependency)) ≡ true
   slot_selected place Wants = refl
   slot_selected place Requires = refl
+  slot_selected place Upholds = refl
 
   step_there : (reverse : Bool) (of name : Name) → IsLinked t of name → Contains (steps_of reverse all) (turned reverse (record { from = of; to = name }))
   step_there reverse of name (of_good, good, place, dependency, has) =

@@ -7,7 +7,7 @@ use Rattle.unit_name.specs.Name.{is_unit_name}
 use Rattle.unit_paths.specs.declared.place.Place.{Place}
 use Rattle.unit_paths.specs.declared.place.Place.TheVariants as places
 use Rattle.unit_paths.specs.declared.slot.Dependency.{Dependency}
-use Rattle.unit_paths.specs.declared.slot.Dependency.TheVariants.{Wants, Requires}
+use Rattle.unit_paths.specs.declared.slot.Dependency.TheVariants.{Wants, Requires, Upholds}
 use Rattle.unit_paths.specs.declared.slot.Slot.{Slot}
 use Rattle.unit_paths.specs.declared.slot.Slot.TheVariants as slots
 use Rattle.unit_paths.specs.Canonical.{is_null_target}
@@ -36,6 +36,7 @@ ending_slash : (dependency : Dependency) → list_any is_slash (dependency_endin
 unfolding dependency_ending
 ending_slash Wants = refl
 ending_slash Requires = refl
+ending_slash Upholds = refl
 
 not_root : (place : Place) (rest : List ℕ) → is_root (unit_directory place ++ rest) ≡ false
 unfolding unit_directory
@@ -47,6 +48,7 @@ not_root places.Vendor rest = refl
 ending_there : (place : Place) (dependency : Dependency) → ending_of (Some (slot_of_dependency place dependency)) ≡ Some (dependency_ending dependency)
 ending_there place Wants = refl
 ending_there place Requires = refl
+ending_there place Upholds = refl
 
 module _ (place : Place) (dependency : Dependency) (of name : List ℕ) (of_good : is_unit_name of ≡ true) (good : is_unit_name name ≡ true) where
   abbrev directory : List ℕ
@@ -115,6 +117,7 @@ module _ (path target : List ℕ) (step : Step) (other : is_null_target path tar
   by_slot (Some (slots.Preset place)) is leads = no_ending (parent_of path) (name_at path) step leads
   by_slot (Some (slots.Wants place)) is leads = (let spelled = (slots_are_spelled path (slots.Wants place)).0 is in at_dependency place Wants spelled.0 spelled.1 spelled.2 spelled.3 spelled.4)
   by_slot (Some (slots.Requires place)) is leads = (let spelled = (slots_are_spelled path (slots.Requires place)).0 is in at_dependency place Requires spelled.0 spelled.1 spelled.2 spelled.3 spelled.4)
+  by_slot (Some (slots.Upholds place)) is leads = (let spelled = (slots_are_spelled path (slots.Upholds place)).0 is in at_dependency place Upholds spelled.0 spelled.1 spelled.2 spelled.3 spelled.4)
 
   unfolded : step_from (parent_of path) (ending_of (slot_of path)) (name_at path) ≡ Some step
   unfolding step_at

@@ -12,7 +12,8 @@ use Rattle.unit_paths.specs.declared.place.Place.TheVariants as places
 use Rattle.unit_paths.specs.declared.place.Scope.{Scope}
 use Rattle.unit_paths.specs.declared.place.Scope.TheVariants.{Etc, Run}
 use Rattle.unit_paths.specs.Places.{scope_place}
-use Rattle.unit_paths.specs.Slots.{slot_of, unit_slot, is_unit_slot}
+use Rattle.unit_paths.specs.Slots.{slot_of, unit_slot}
+use Rattle.unit_paths.specs.Kinds.{is_unit_slot}
 use Rattle.link_tree.specs.declared.entry.Entry.{Entry}
 use Rattle.link_tree.specs.Trees.{Entries}
 use Rattle.link_tree.proofs.Changed.{same_bytes}

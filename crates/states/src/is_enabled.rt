@@ -68,7 +68,10 @@ fn asks_for_none(section: &Section) -> bool
     ensures { result ≡ asks_for_none section.now }
 {
     let text = &section.text;
-    text.alias.is_empty() && text.wanted_by.is_empty() && text.required_by.is_empty()
+    text.alias.is_empty()
+        && text.wanted_by.is_empty()
+        && text.required_by.is_empty()
+        && text.upheld_by.is_empty()
 }
 
 /// By what the lists of a section hold.

@@ -2,6 +2,7 @@
 ghost use Rattle.std.specs.Prelude.{◌≡◌, IfOk, Some, None, if◌then◌else◌};
 ghost use Rattle.std.specs.Option.{option_copied};
 ghost use Rattle.unit_paths.specs.Paths.{is_root};
+ghost use Rattle.unit_paths.specs.Slots.{slot_of};
 ghost use Rattle.load_path.specs.RealNames.{named};
 ghost use Rattle.states.specs.Dependencies.{ending_of, named_step, step_from, is_other_link, step_at, turned};
 
@@ -16,15 +17,13 @@ pub(crate) struct Step {
     pub(crate) to: UnitName,
 }
 
-/// How the names of the directories end in which a slot of dependencies lies.
-#[tactic(auto, unfolding(unit_paths::specs::Slots::dependency_ending))]
-fn ending_of(slot: Option<Slot>) -> Option<&'static [u8]>
-    ensures { option_copied result ≡ ending_of slot }
+/// How the name of the directory ends that contains a path, if it is the slot of a dependency.
+fn ending_of(path: &TreePath) -> Option<&'static [u8]>
+    ensures { option_copied result ≡ ending_of (slot_of path.now) }
 {
-    match slot {
-        Some(Slot::Wants(_)) => Some(b".wants"),
-        Some(Slot::Requires(_)) => Some(b".requires"),
-        _ => None,
+    match Slot::dependency_of(path) {
+        Some(dependency) => Some(dependency.ending().as_bytes()),
+        None => None,
     }
 }
 
@@ -39,7 +38,7 @@ fn named(alloc: Global, text: &[u8]) -> Result<Option<UnitName>, AllocError>
     }
 }
 
-/// From one unit to another, where both texts are names.
+/// From one unit to another, if both texts are names.
 fn named_step(alloc: Global, from: &[u8], to: &[u8]) -> Result<Option<Step>, AllocError>
     ensures { IfOk result (λ step. step ≡ named_step from.now to.now) }
 {
@@ -52,7 +51,8 @@ fn named_step(alloc: Global, from: &[u8], to: &[u8]) -> Result<Option<Step>, All
     Ok(Some(Step { from, to }))
 }
 
-/// From the unit in whose directory, which isn't the root, a link stands, by the directory's name and this ending.
+/// From the unit whose directory, which isn't the root, contains a link, by the directory's name and
+/// this ending.
 #[tactic(auto, unfolding(unit_paths::specs::Paths::name_at))]
 fn step_from(
     alloc: Global,
@@ -81,8 +81,8 @@ fn is_other_link(path: &TreePath, entry: &Entry) -> bool
 }
 
 impl Step {
-    /// From the unit `OF` to the unit `NAME` by a link at `DIR/OF.wants/NAME` or `DIR/OF.requires/NAME`; `None` where an entry is no such link, or
-    /// leads to `/dev/null`.
+    /// From the unit `OF` to the unit `NAME` by a link at `DIR/OF.wants/NAME`, `DIR/OF.requires/NAME` or
+    /// `DIR/OF.upholds/NAME`; `None` if an entry is no such link, or leads to `/dev/null`.
     #[tactic(auto, unfolding(crate::specs::Dependencies::step_at))]
     pub(crate) fn at(
         alloc: Global,
@@ -94,12 +94,7 @@ impl Step {
         if !is_other_link(path, entry) {
             return Ok(None);
         }
-        step_from(
-            alloc,
-            path.directory(),
-            ending_of(Slot::of(path)),
-            path.file_name(),
-        )
+        step_from(alloc, path.directory(), ending_of(path), path.file_name())
     }
 
     /// In reverse the other way.

@@ -33,6 +33,7 @@ fn lines_of(alloc: Global, text: &InstallText) -> Result<Vec<u8>, AllocError> {
     let mut lines = Vec::new(alloc);
     push_words(&mut lines, b"WantedBy=", &text.wanted_by)?;
     push_words(&mut lines, b"RequiredBy=", &text.required_by)?;
+    push_words(&mut lines, b"UpheldBy=", &text.upheld_by)?;
     push_words(&mut lines, b"Alias=", &text.alias)?;
     push_words(&mut lines, b"Also=", &text.also)?;
     if let Some(instance) = &text.default_instance {

@@ -157,7 +157,8 @@ read-all lines =
     let ls = map stripped lines in
     let wanted_by = field-read (codes "WantedBy") (λ text. text.wanted_by) with_value (λ text name value. refl) false nothing lines ∙ list_of-fold (values (codes "WantedBy") ls) in
     let required_by = field-read (codes "RequiredBy") (λ text. text.required_by) with_value (λ text name value. refl) false nothing lines ∙ list_of-fold (values (codes "RequiredBy") ls) in
+    let upheld_by = field-read (codes "UpheldBy") (λ text. text.upheld_by) with_value (λ text name value. refl) false nothing lines ∙ list_of-fold (values (codes "UpheldBy") ls) in
     let alias = field-read (codes "Alias") (λ text. text.alias) with_value (λ text name value. refl) false nothing lines ∙ list_of-fold (values (codes "Alias") ls) in
     let also = field-read (codes "Also") (λ text. text.also) with_words (λ text name value. refl) false nothing lines ∙ words-fold [] (values (codes "Also") ls) in
     let default_instance = field-read (codes "DefaultInstance") (λ text. text.default_instance) (λ _ value. unless_empty value) (λ text name value. refl) false nothing lines ∙ last-fold None (values (codes "DefaultInstance") ls) in
-    λ i. record { wanted_by = wanted_by i; required_by = required_by i; alias = alias i; also = also i; default_instance = default_instance i }
+    λ i. record { wanted_by = wanted_by i; required_by = required_by i; upheld_by = upheld_by i; alias = alias i; also = also i; default_instance = default_instance i }

@@ -5,22 +5,24 @@ use crate::line::{assignment, opens_section, stripped};
 use crate::word::{Word, Words};
 use std::alloc::{AllocError, Global};
 
-/// What the [Install] section of a unit file asks for. Its words stand as they are written: no specifier is expanded, and
-/// none is tested for being a unit's name.
+/// What the [Install] section of a unit file asks for. Its words are as they are written: no
+/// specifier is expanded, and it isn't tested whether a word is a unit's name.
 ///
 /// systemd.unit(5), "[Install] Section Options".
 #[derive(Clone, Debug, Drop)]
 pub struct InstallText {
     /// The words of `WantedBy=`, of all its lines since the last empty value.
     pub wanted_by: Words,
-    /// Those of `RequiredBy=`, likewise.
+    /// Those of `RequiredBy=`, in the same way.
     pub required_by: Words,
-    /// Those of `Alias=`, likewise.
+    /// Those of `UpheldBy=`, in the same way.
+    pub upheld_by: Words,
+    /// Those of `Alias=`, in the same way.
     pub alias: Words,
-    /// The words of all lines of `Also=`, which an empty value doesn't empty.
+    /// The words of all lines of `Also=`; an empty value doesn't empty this list.
     pub also: Words,
-    /// The last value of `DefaultInstance=`, valid or not. `None` where there is no such line, or where the last one is
-    /// empty.
+    /// The last value of `DefaultInstance=`, valid or not. `None` if there is no such line, or if the
+    /// last one is empty.
     pub default_instance: Option<Word>,
 }
 
@@ -34,21 +36,22 @@ impl InstallText {
         InstallText {
             wanted_by: Words::new(alloc),
             required_by: Words::new(alloc),
+            upheld_by: Words::new(alloc),
             alias: Words::new(alloc),
             also: Words::new(alloc),
             default_instance: None,
         }
     }
 
-    /// An equal value. The only error is `AllocError`, where memory runs out.
+    /// An equal value. The only error is that memory runs out.
     pub fn copy(&self) -> Result<InstallText, AllocError>
         ensures { IfOk result (λ text. text ≡ self.now) }
     {
         self.clone()
     }
 
-    /// Takes the next logical line, and answers whether the lines after it stand in [Install]. `inside` says whether this
-    /// one does.
+    /// Takes the next logical line, and answers whether the lines after it are in [Install]. `inside`
+    /// says whether this one is.
     #[tactic(auto, unfolding(crate::specs::Steps::inside_after, crate::specs::Steps::text_after))]
     pub(crate) fn take_line(
         &mut self,
@@ -81,6 +84,9 @@ impl InstallText {
         }
         if key == b"RequiredBy".as_slice() {
             return self.required_by.assign(alloc, value);
+        }
+        if key == b"UpheldBy".as_slice() {
+            return self.upheld_by.assign(alloc, value);
         }
         if key == b"Alias".as_slice() {
             return self.alias.assign(alloc, value);

@@ -5,13 +5,14 @@ use crate::word::Word;
 use std::alloc::{AllocError, Global};
 use unit_name::UnitName;
 
-/// Where a skipped word stands: behind a key of [Install], systemd.unit(5), or in a line of a preset file,
-/// systemd.preset(5).
+/// Where a skipped word is written: after a key of [Install], systemd.unit(5), or in a line of a
+/// preset file, systemd.preset(5).
 #[derive(Clone, Copy, Debug, PartialEq, Eq)]
 pub enum NoticeKey {
     Also,
     WantedBy,
     RequiredBy,
+    UpheldBy,
     Alias,
     Preset,
 }
@@ -19,7 +20,7 @@ pub enum NoticeKey {
 impl NoticeKey {
     ghost use Rattle.unit_file.specs.Notices.{key_text};
 
-    /// The key as it stands in the notice's line.
+    /// The key, as it is written in the notice's line.
     pub fn text(self) -> &'static str
         ensures { result.now ≡ key_text self }
     {
@@ -27,6 +28,7 @@ impl NoticeKey {
             NoticeKey::Also => "Also",
             NoticeKey::WantedBy => "WantedBy",
             NoticeKey::RequiredBy => "RequiredBy",
+            NoticeKey::UpheldBy => "UpheldBy",
             NoticeKey::Alias => "Alias",
             NoticeKey::Preset => "Preset",
         }
@@ -55,7 +57,7 @@ pub enum Reason {
 impl Reason {
     ghost use Rattle.unit_file.specs.Notices.{reason_text};
 
-    /// The reason as it stands in the notice's line.
+    /// The reason, as it is written in the notice's line.
     pub fn text(self) -> &'static str
         ensures { result.now ≡ reason_text self }
     {
@@ -97,7 +99,7 @@ impl Notice {
         })
     }
 
-    /// The line that tells the notice, `  ! UNIT: KEY WORD: REASON`, with the LF at its end.
+    /// The notice's line, `  ! UNIT: KEY WORD: REASON`, with the LF at its end.
     pub fn line(&self, alloc: Global) -> Result<Vec<u8>, AllocError>
         ensures { IfOk result (λ line. line.items ≡ notice_line self.now) }
     {
@@ -110,7 +112,7 @@ impl Notice {
     }
 }
 
-/// Appends a text and what stands behind it.
+/// Appends a text and what follows it.
 fn push_before(line: &mut Vec<u8>, text: &[u8], behind: &[u8]) -> Result<(), AllocError>
     ensures { OnOk result (line.new.items ≡ line.old.items ++ text.now ++ behind.now) }
 {

@@ -1,16 +1,16 @@
 -- The slot of a dependency in a directory is a path and a slot.
 use Rattle.std.proofs.Common.{◌≡◌, ℕ, ◌-◌, ◌<◌, ◌≤◌, true, false, List, [], ◌∷◌, ◌++◌, length, take, Option, Some, None, refl, sym, ◌∙◌, ap, arith, inl, inr, length-append}
 use Rattle.std.specs.Prelude.{is_some, nat_eq, nat_le, nat_lt, codes}
-use Rattle.std.specs.List.{list_all, ends_with}
+use Rattle.std.specs.List.{list_all, list_any, ends_with}
 use Rattle.std.proofs.lemmas.Bool.{cases_Bool, and_from, lt-ltb, le-leb}
 use Rattle.std.proofs.lemmas.Bool.Decides.{Decides-eqb}
 use Rattle.std.proofs.lemmas.List.Folds.{list_all-append}
 use Rattle.std.proofs.lemmas.Slice.Eq.{ends_is}
 use Rattle.std.proofs.Math.Seq.{take-append_seam}
-use Rattle.unit_name.specs.Name.{is_unit_name, suffix_of}
+use Rattle.unit_name.specs.Name.{is_dot, is_unit_name, suffix_of}
 use Rattle.unit_name.proofs.Names.{suffix_of-seam}
 use Rattle.unit_paths.specs.declared.slot.Dependency.{Dependency}
-use Rattle.unit_paths.specs.declared.slot.Dependency.TheVariants.{Wants, Requires}
+use Rattle.unit_paths.specs.declared.slot.Dependency.TheVariants.{Wants, Requires, Upholds}
 use Rattle.unit_paths.specs.declared.place.Place.{Place}
 use Rattle.unit_paths.specs.declared.place.Place.TheVariants.{Etc, Run, Local, Vendor}
 use Rattle.unit_paths.specs.Paths.{is_part, is_path, is_text_byte, parent, name_at}
@@ -26,11 +26,13 @@ ending_bytes : (dependency : Dependency) → list_all is_part_byte (dependency_e
 unfolding dependency_ending is_text_byte
 ending_bytes Wants = refl
 ending_bytes Requires = refl
+ending_bytes Upholds = refl
 
 ending_short : (dependency : Dependency) → (2 < length (dependency_ending dependency)) × (length (dependency_ending dependency) ≤ 9)
 unfolding dependency_ending
 ending_short Wants = (omega arith, omega arith)
 ending_short Requires = (omega arith, omega arith)
+ending_short Upholds = (omega arith, omega arith)
 
 long_part : (text : List ℕ) → 2 < length text → is_part text ≡ true
 unfolding is_part
@@ -49,22 +51,31 @@ dependency_directory_name name ending is =
     front_length : (name ending : List ℕ) → length (name ++ ending) - length ending ≡ length name
     front_length name ending = omega (arith, length-append name ending)
 
--- with the one ending it doesn't have the other
-not_wants : (name : List ℕ) → is_dependency_directory (codes ".wants") (name ++ codes ".requires") ≡ false
+-- with one ending it doesn't have another
+not_other : (name word other : List ℕ) → list_any is_dot word ≡ false → list_any is_dot other ≡ false → (word ≡ other → ⊥) → is_dependency_directory (46 ∷ other) (name ++ 46 ∷ word) ≡ false
 unfolding is_dependency_directory
-not_wants name = elim (cases_Bool (ends_with nat_eq (name ++ codes ".requires") (codes ".wants"))) [
+not_other name word other plain other_plain differ = elim (cases_Bool (ends_with nat_eq (name ++ 46 ∷ word) (46 ∷ other))) [
   | inl ends ↦ absurd (
-      let front = take (length (name ++ codes ".requires") - length (codes ".wants")) (name ++ codes ".requires") in
-      let is : name ++ codes ".requires" ≡ front ++ codes ".wants" = (ends_is Decides-eqb (name ++ codes ".requires") (codes ".wants") _ refl).0 ends in
-      let same : codes "requires" ≡ codes "wants" = sym (suffix_of-seam name (codes "requires") refl) ∙ ap suffix_of is ∙ suffix_of-seam front (codes "wants") refl in
-      cc)
-  | inr other ↦ rw other refl
+      let front = take (length (name ++ 46 ∷ word) - length (46 ∷ other)) (name ++ 46 ∷ word) in
+      let is : name ++ 46 ∷ word ≡ front ++ 46 ∷ other = (ends_is Decides-eqb (name ++ 46 ∷ word) (46 ∷ other) _ refl).0 ends in
+      differ (sym (suffix_of-seam name word plain) ∙ ap suffix_of is ∙ suffix_of-seam front other other_plain))
+  | inr off ↦ rw off refl
 ]
+
+requires_not_wants : (name : List ℕ) → is_dependency_directory (codes ".wants") (name ++ codes ".requires") ≡ false
+requires_not_wants name = not_other name (codes "requires") (codes "wants") refl refl (λ same. cc)
+
+upholds_not_wants : (name : List ℕ) → is_dependency_directory (codes ".wants") (name ++ codes ".upholds") ≡ false
+upholds_not_wants name = not_other name (codes "upholds") (codes "wants") refl refl (λ same. cc)
+
+upholds_not_requires : (name : List ℕ) → is_dependency_directory (codes ".requires") (name ++ codes ".upholds") ≡ false
+upholds_not_requires name = not_other name (codes "upholds") (codes "requires") refl refl (λ same. cc)
 
 dependency_directory_slots_is : (place : Place) (dependency : Dependency) (name : List ℕ) → is_unit_name name ≡ true → dependency_directory_slots place (name ++ dependency_ending dependency) ≡ Some (slot_of_dependency place dependency)
 unfolding dependency_directory_slots dependency_ending
 dependency_directory_slots_is place Wants name is = rw (dependency_directory_name name (codes ".wants") is) refl
-dependency_directory_slots_is place Requires name is = rw (not_wants name, dependency_directory_name name (codes ".requires") is) refl
+dependency_directory_slots_is place Requires name is = rw (requires_not_wants name, dependency_directory_name name (codes ".requires") is) refl
+dependency_directory_slots_is place Upholds name is = rw (upholds_not_wants name, upholds_not_requires name, dependency_directory_name name (codes ".upholds") is) refl
 
 -- no directory of units or presets stands in one of units
 none_in_units : (place : Place) → place_of (parent (unit_directory place)) ≡ None
@@ -142,3 +153,4 @@ module _ (place : Place) (dependency : Dependency) (of name : List ℕ) (of_is :
       named : (dependency : Dependency) → named_slot (Some (slot_of_dependency place dependency)) name ≡ Some (slot_of_dependency place dependency)
       named Wants = rw name_is refl
       named Requires = rw name_is refl
+      named Upholds = rw name_is refl

@@ -42,6 +42,7 @@ name_for : Slot → List ℕ
 name_for (slots.Unit place) = codes "a.service"
 name_for (slots.Wants place) = codes "a.service"
 name_for (slots.Requires place) = codes "a.service"
+name_for (slots.Upholds place) = codes "a.service"
 name_for (slots.Preset place) = codes "a.preset"
 
 is_name : (slot : Slot) → is_name_for slot (name_for slot) ≡ true
@@ -49,6 +50,7 @@ unfolding name_for name_fault part_fault prefix_of stem_of type_of type_named ty
 is_name (slots.Unit place) = refl
 is_name (slots.Wants place) = refl
 is_name (slots.Requires place) = refl
+is_name (slots.Upholds place) = refl
 is_name (slots.Preset place) = refl
 
 no_slash_in : (slot : Slot) → list_any is_slash (name_for slot) ≡ false
@@ -56,6 +58,7 @@ unfolding name_for
 no_slash_in (slots.Unit place) = refl
 no_slash_in (slots.Wants place) = refl
 no_slash_in (slots.Requires place) = refl
+no_slash_in (slots.Upholds place) = refl
 no_slash_in (slots.Preset place) = refl
 
 -- a slot in a directory of slots

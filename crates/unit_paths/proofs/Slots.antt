@@ -1,4 +1,4 @@
--- Slots stand free.
+-- A slot is never beneath another slot, and never a directory of slots.
 use Rattle.std.proofs.Common.{◌≡◌, ℕ, Bool, true, false, ◌&&◌, ◌||◌, List, [], ◌∷◌, ◌++◌, length, take, Option, Some, None, refl, sym, ◌∙◌, ap, append_assoc, append-nil, inl, inr, ◌⊎◌, cond, subst}
 use Rattle.std.specs.Prelude.{is_some, codes, is_none, nat_eq, ◌-◌}
 use Rattle.std.specs.Str.{bytes_eq}
@@ -13,7 +13,7 @@ use Rattle.unit_name.proofs.Names.{name_from_no_fault, parts_read, suffix_of-sea
 use Rattle.unit_paths.specs.declared.place.Place.{Place}
 use Rattle.unit_paths.specs.declared.place.Place.TheVariants.{Etc, Run, Local, Vendor}
 use Rattle.unit_paths.specs.declared.slot.Slot.{Slot}
-use Rattle.unit_paths.specs.declared.slot.Slot.TheVariants.{Requires}
+use Rattle.unit_paths.specs.declared.slot.Slot.TheVariants.{Upholds}
 use Rattle.unit_paths.specs.Paths.{is_slash, parent, name_at}
 use Rattle.unit_paths.specs.Canonical.{begins_with_slash}
 use Rattle.unit_paths.specs.Places.{unit_directory, places, preset_directory, preset_places, place_of, preset_place_of}
@@ -198,9 +198,9 @@ named_type name h =
     let is = name_from_no_fault name (none_from (name_fault name) h) in
     ap is_some (parts_read name is.0 is.1).2
 
-no_such_type : (type_named (codes "wants") ≡ None) × (type_named (codes "requires") ≡ None)
+no_such_type : (type_named (codes "wants") ≡ None) × (type_named (codes "requires") ≡ None) × (type_named (codes "upholds") ≡ None)
 unfolding type_named type_text
-no_such_type = (refl, refl)
+no_such_type = (refl, refl, refl)
 
 not_dependency_directory : (name word : List ℕ) → list_any is_dot word ≡ false → type_named word ≡ None → is_dependency_directory (46 ∷ word) name ≡ true → is_unit_name name ≡ true → ⊥
 unfolding is_dependency_directory
@@ -217,12 +217,16 @@ unit_named : (place preset : Option Place) (other : Option Slot) (name : List �
 unit_named None preset other name some h = absurd (false≢true some)
 unit_named (Some place) preset other name some h = some_if (is_unit_name name) _ h
 
-dependency_named : (place : Option Place) (name : List ℕ) → is_some (dependency_slots_in place name) ≡ true → (is_dependency_directory (codes ".wants") name ≡ true) ⊎ (is_dependency_directory (codes ".requires") name ≡ true)
+dependency_named : (place : Option Place) (name : List ℕ) → is_some (dependency_slots_in place name) ≡ true
+    → (is_dependency_directory (codes ".wants") name ≡ true) ⊎ ((is_dependency_directory (codes ".requires") name ≡ true) ⊎ (is_dependency_directory (codes ".upholds") name ≡ true))
 unfolding dependency_directory_slots
 dependency_named None name h = absurd (false≢true h)
 dependency_named (Some place) name h = elim (cases_Bool (is_dependency_directory (codes ".wants") name)) [
   | inl wants ↦ inl wants
-  | inr other ↦ inr (some_if (is_dependency_directory (codes ".requires") name) (Requires place) (rw other at h))
+  | inr other ↦ inr (elim (cases_Bool (is_dependency_directory (codes ".requires") name)) [
+    | inl requires ↦ inl requires
+    | inr third ↦ inr (some_if (is_dependency_directory (codes ".upholds") name) (Upholds place) (rw (other, third) at h))
+  ])
 ]
 
 slot_name : (slot : List ℕ) → is_slot slot ≡ true → is_some (place_of (parent slot)) ≡ true → is_unit_name (name_at slot) ≡ true
@@ -255,7 +259,10 @@ no_dir slot is dir = elim (first_cases (place_of slot) (preset_place_of slot) (d
     | inr list ↦ (let name = slot_name slot is (dependency_place (place_of (parent slot)) (name_at slot) list) in
         elim (dependency_named (place_of (parent slot)) (name_at slot) list) [
           | inl wants ↦ not_dependency_directory (name_at slot) (codes "wants") refl no_such_type.0 wants name
-          | inr requires ↦ not_dependency_directory (name_at slot) (codes "requires") refl no_such_type.1 requires name
+          | inr others ↦ elim others [
+            | inl requires ↦ not_dependency_directory (name_at slot) (codes "requires") refl no_such_type.1 requires name
+            | inr upholds ↦ not_dependency_directory (name_at slot) (codes "upholds") refl no_such_type.2 upholds name
+          ]
         ])
   ]
 ]

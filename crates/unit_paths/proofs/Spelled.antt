@@ -143,19 +143,28 @@ module _ (path : List ℕ) where
         seam.is ∙ ap (λ d. d ++ 47 ∷ name_at path) (above.is ∙ ap (λ d. d ++ 47 ∷ directory) (dir_of_place (parent (parent path)) place up) ∙ ap (λ n. unit_directory place ++ 47 ∷ n) (ending directory word parts.0)),
       )
 
+  spelled_as : (slot found : Slot) → Some found ≡ Some slot → (is_name_for found (name_at path) ≡ true → IsSpelled path found) → is_name_for slot (name_at path) ≡ true → IsSpelled path slot
+  spelled_as slot found same spelled = subst (λ s. is_name_for s (name_at path) ≡ true → IsSpelled path s) (slot_same found slot same) spelled
+
   dependency_spelled : (place : Place) (slot : Slot) → place_of (parent (parent path)) ≡ Some place → dependency_directory_slots place (name_at (parent path)) ≡ Some slot
       → is_name_for slot (name_at path) ≡ true → IsSpelled path slot
   unfolding dependency_directory_slots dependency_ending
   dependency_spelled place slot up dir good =
       let directory = name_at (parent path) in
+      let requires = is_dependency_directory (codes ".requires") directory in
+      let upholds = is_dependency_directory (codes ".upholds") directory in
+      let third : Option Slot = cond upholds (Some (slots.Upholds place)) None in
+      let second : Option Slot = cond requires (Some (slots.Requires place)) third in
       elim (cases_Bool (is_dependency_directory (codes ".wants") directory)) [
-        | inl wants ↦ (let is = slot_same (slots.Wants place) slot (sym (ap (λ b. cond b (Some (slots.Wants place)) (cond (is_dependency_directory (codes ".requires") directory) (Some (slots.Requires place)) None)) wants) ∙ dir) in
-            subst (λ s. is_name_for s (name_at path) ≡ true → IsSpelled path s) is (dependency_directory_spelled place dependencies.Wants up wants) good)
-        | inr other ↦ (let rest = sym (ap (λ b. cond b (Some (slots.Wants place)) (cond (is_dependency_directory (codes ".requires") directory) (Some (slots.Requires place)) None)) other) ∙ dir in
-            elim (cases_Bool (is_dependency_directory (codes ".requires") directory)) [
-              | inl requires ↦ (let is = slot_same (slots.Requires place) slot (sym (ap (λ b. cond b (Some (slots.Requires place)) None) requires) ∙ rest) in
-                  subst (λ s. is_name_for s (name_at path) ≡ true → IsSpelled path s) is (dependency_directory_spelled place dependencies.Requires up requires) good)
-              | inr none ↦ (let gone : None ≡ Some slot = sym (ap (λ b. cond b (Some (slots.Requires place)) None) none) ∙ rest in cc)
+        | inl wants ↦ spelled_as slot (slots.Wants place) (sym (ap (λ b. cond b (Some (slots.Wants place)) second) wants) ∙ dir) (dependency_directory_spelled place dependencies.Wants up wants) good
+        | inr other ↦ (let rest = sym (ap (λ b. cond b (Some (slots.Wants place)) second) other) ∙ dir in
+            elim (cases_Bool requires) [
+              | inl is ↦ spelled_as slot (slots.Requires place) (sym (ap (λ b. cond b (Some (slots.Requires place)) third) is) ∙ rest) (dependency_directory_spelled place dependencies.Requires up is) good
+              | inr not ↦ (let last = sym (ap (λ b. cond b (Some (slots.Requires place)) third) not) ∙ rest in
+                  elim (cases_Bool upholds) [
+                    | inl is ↦ spelled_as slot (slots.Upholds place) (sym (ap (λ b. cond b (Some (slots.Upholds place)) None) is) ∙ last) (dependency_directory_spelled place dependencies.Upholds up is) good
+                    | inr none ↦ (let gone : None ≡ Some slot = sym (ap (λ b. cond b (Some (slots.Upholds place)) None) none) ∙ last in cc)
+                  ])
             ])
       ]
 
@@ -208,6 +217,7 @@ unspelled : (path : List ℕ) (slot : Slot) → IsSpelled path slot → slot_of 
 unspelled path (slots.Unit place) (name, good, is) = ap slot_of is ∙ unit_slot_is place name good
 unspelled path (slots.Wants place) (of, name, of_good, good, is) = ap slot_of is ∙ dependency_slot_is place dependencies.Wants of name of_good good
 unspelled path (slots.Requires place) (of, name, of_good, good, is) = ap slot_of is ∙ dependency_slot_is place dependencies.Requires of name of_good good
+unspelled path (slots.Upholds place) (of, name, of_good, good, is) = ap slot_of is ∙ dependency_slot_is place dependencies.Upholds of name of_good good
 unspelled path (slots.Preset place) (file, among, some, none, is) = ap slot_of is ∙ preset_slot_is place file among some none
 
 pub slots_are_spelled : SlotsAreSpelled

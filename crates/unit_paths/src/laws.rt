@@ -19,8 +19,9 @@ pub fn paths_lie_beneath()
     ensures { PathsLieBeneath }
 {}
 
-/// A path is a slot exactly where it is spelled as one, in four forms: a unit's name in a directory of units, the same in a
-/// directory `OF.wants` or `OF.requires` there, and `FILE.preset` in a directory of presets.
+/// A path is a slot exactly if it is spelled as one, in five forms: a unit's name in a directory of
+/// units, the same in a directory `OF.wants`, `OF.requires` or `OF.upholds` there, and `FILE.preset`
+/// in a directory of presets.
 pub fn slots_are_spelled()
     ensures { SlotsAreSpelled }
 {}

@@ -1,6 +1,6 @@
 //! The directories of units.
 ghost use Rattle.std.specs.Prelude.{◌≡◌};
-ghost use Rattle.unit_paths.specs.Places.{unit_directory, preset_directory, place_of, preset_place_of, scope_place};
+ghost use Rattle.unit_paths.specs.Places.{unit_directory, preset_directory, place_of, preset_place_of, scope_place, scope_of_place};
 
 /// Where a command places its entries: below `/etc`, or with `--runtime` below `/run`. systemctl(1), `--runtime`.
 #[derive(Clone, Copy, Debug, PartialEq, Eq, Hash, PartialOrd, Ord)]
@@ -56,7 +56,8 @@ impl Place {
         }
     }
 
-    /// The path of the directory of presets beside it. systemd.preset(5); of the one beside `Local` nothing is read.
+    /// The path of the directory of presets next to it, systemd.preset(5). That of `Local` is not
+    /// read.
     #[tactic(auto, unfolding(crate::specs::Places::unit_directory))]
     pub fn preset_directory(self) -> &'static str
         ensures { result.now ≡ preset_directory self }
@@ -66,6 +67,17 @@ impl Place {
             Place::Run => "/run/systemd/system-preset",
             Place::Local => "/usr/local/lib/systemd/system-preset",
             Place::Vendor => "/usr/lib/systemd/system-preset",
+        }
+    }
+
+    /// The scope whose commands place entries in the directory; `None` for those below `/usr`.
+    pub fn scope(self) -> Option<Scope>
+        ensures { result ≡ scope_of_place self }
+    {
+        match self {
+            Place::Etc => Some(Scope::Etc),
+            Place::Run => Some(Scope::Run),
+            Place::Local | Place::Vendor => None,
         }
     }
 }

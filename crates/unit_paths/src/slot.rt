@@ -2,32 +2,37 @@
 ghost use Rattle.std.specs.Prelude.{◌≡◌, Some, IfOk};
 ghost use Rattle.unit_paths.specs.Paths.{parent, name_at};
 ghost use Rattle.unit_paths.specs.Places.{place_of};
-ghost use Rattle.unit_paths.specs.Slots.{unit_slot, dependency_ending, dependency_slot, slot_of_dependency, is_dependency_directory, dependency_directory_slots, dependency_slots_in, slots_in, is_preset_name, is_name_for, named_slot, slot_of, is_unit_slot};
+ghost use Rattle.unit_paths.specs.Slots.{unit_slot, dependency_ending, dependency_slot, slot_of_dependency, is_dependency_directory, dependency_directory_slots, dependency_slots_in, slots_in, is_preset_name, is_name_for, named_slot, slot_of};
+ghost use Rattle.unit_paths.specs.Kinds.{is_unit_slot, is_preset, dependency_of, is_dependency, scope_of};
 
 use crate::path::TreePath;
-use crate::place::{Place, place_of, preset_place_of};
+use crate::place::{Place, Scope, place_of, preset_place_of};
 use crate::text::cut_at_last_slash;
 use std::alloc::{AllocError, Global};
 use unit_name::{UnitName, is_unit_name};
 
-/// How a unit depends on another by a link in a dependency directory: systemd.unit(5), "Wants=" and "Requires=".
+/// How a unit depends on another by a link in a dependency directory: systemd.unit(5), `Wants=`,
+/// `Requires=` and `Upholds=`.
 #[derive(Clone, Copy, Debug, PartialEq, Eq, Hash)]
 pub enum Dependency {
     /// By a link in `OF.wants/`.
     Wants,
     /// By a link in `OF.requires/`.
     Requires,
+    /// By a link in `OF.upholds/`.
+    Upholds,
 }
 
 impl Dependency {
-    /// How the name of the dependency directory ends.
+    /// How the name of the dependency directory ends: `.wants`, `.requires` or `.upholds`.
     #[tactic(auto, unfolding(crate::specs::Slots::dependency_ending))]
-    fn ending(self) -> &'static str
+    pub fn ending(self) -> &'static str
         ensures { result.now ≡ dependency_ending self }
     {
         match self {
             Dependency::Wants => ".wants",
             Dependency::Requires => ".requires",
+            Dependency::Upholds => ".upholds",
         }
     }
 }
@@ -41,12 +46,14 @@ pub enum Slot {
     Wants(Place),
     /// `DIR/OF.requires/NAME`: a link by which the unit `OF` requires the unit `NAME`.
     Requires(Place),
+    /// `DIR/OF.upholds/NAME`: a link by which the unit `OF` upholds the unit `NAME`.
+    Upholds(Place),
     /// `FILE.preset` in a directory of presets: systemd.preset(5).
     Preset(Place),
 }
 
 impl Slot {
-    /// Which slot the path is; `None` where it is none.
+    /// Which slot the path is; `None` if it is none.
     pub fn of(path: &TreePath) -> Option<Slot>
         ensures { result ≡ slot_of path.now }
     {
@@ -59,13 +66,62 @@ impl Slot {
     {
         match Slot::of(path) {
             Some(Slot::Unit(_)) => true,
-            _ => false,
+            Some(Slot::Wants(_) | Slot::Requires(_) | Slot::Upholds(_) | Slot::Preset(_)) => false,
+            None => false,
+        }
+    }
+
+    /// Whether the path is the slot of a file of presets: `FILE.preset` in a directory of presets.
+    pub fn is_of_preset(path: &TreePath) -> bool
+        ensures { result ≡ is_preset (slot_of path.now) }
+    {
+        match Slot::of(path) {
+            Some(Slot::Preset(_)) => true,
+            Some(Slot::Unit(_) | Slot::Wants(_) | Slot::Requires(_) | Slot::Upholds(_)) => false,
+            None => false,
+        }
+    }
+
+    /// By which dependency a unit that is listed at the path depends on it; `None` if the path is
+    /// no slot in a dependency directory.
+    pub fn dependency_of(path: &TreePath) -> Option<Dependency>
+        ensures { result ≡ dependency_of (slot_of path.now) }
+    {
+        match Slot::of(path) {
+            Some(Slot::Wants(_)) => Some(Dependency::Wants),
+            Some(Slot::Requires(_)) => Some(Dependency::Requires),
+            Some(Slot::Upholds(_)) => Some(Dependency::Upholds),
+            None | Some(Slot::Unit(_) | Slot::Preset(_)) => None,
+        }
+    }
+
+    /// Whether the path is a slot in a dependency directory: a unit's name in `OF.wants`,
+    /// `OF.requires` or `OF.upholds` below one of the four directories of units.
+    pub fn is_of_dependency(path: &TreePath) -> bool
+        ensures { result ≡ is_dependency (slot_of path.now) }
+    {
+        Slot::dependency_of(path).is_some()
+    }
+
+    /// The scope in whose directory of units the path is the slot of a unit or of a dependency;
+    /// `None` if it is no such slot, or one below `/usr`.
+    pub fn scope_of(path: &TreePath) -> Option<Scope>
+        ensures { result ≡ scope_of (slot_of path.now) }
+    {
+        match Slot::of(path) {
+            Some(
+                Slot::Unit(place)
+                | Slot::Wants(place)
+                | Slot::Requires(place)
+                | Slot::Upholds(place),
+            ) => place.scope(),
+            None | Some(Slot::Preset(_)) => None,
         }
     }
 }
 
 impl Place {
-    /// The slot of a unit in the directory: `DIR/NAME`. The only error is that there is no memory for the path.
+    /// The slot of a unit in the directory: `DIR/NAME`. The only error is that memory runs out.
     pub fn slot(self, alloc: Global, name: &UnitName) -> Result<TreePath, AllocError>
         ensures path { IfOk result (λ path. path ≡ unit_slot self name.now) }
         ensures slot { IfOk result (λ path. slot_of path ≡ Some (Slot.Unit self)) }
@@ -74,8 +130,8 @@ impl Place {
         Ok(TreePath::of_text(text).unwrap())
     }
 
-    /// The slot of the link by which the unit `of` depends on the unit `name`: `DIR/OF.wants/NAME` or
-    /// `DIR/OF.requires/NAME`. The only error is that there is no memory for the path.
+    /// The slot of the link by which the unit `of` depends on the unit `name`: `DIR/OF.wants/NAME`,
+    /// `DIR/OF.requires/NAME` or `DIR/OF.upholds/NAME`. The only error is that memory runs out.
     pub fn dependency_slot(
         self,
         alloc: Global,
@@ -124,7 +180,7 @@ fn is_dependency_directory(ending: &[u8], name: &[u8]) -> bool
     name.ends_with(ending) && is_unit_name(&name[..name.len() - ending.len()])
 }
 
-/// Which slots stand in the dependency directory of this name, if it is one.
+/// Which slots the dependency directory of this name contains, if it is one.
 #[tactic(auto, unfolding(crate::specs::Slots::dependency_directory_slots))]
 fn dependency_directory_slots(place: Place, name: &[u8]) -> Option<Slot>
     ensures { result ≡ dependency_directory_slots place name.now }
@@ -133,12 +189,14 @@ fn dependency_directory_slots(place: Place, name: &[u8]) -> Option<Slot>
         Some(Slot::Wants(place))
     } else if is_dependency_directory(b".requires", name) {
         Some(Slot::Requires(place))
+    } else if is_dependency_directory(b".upholds", name) {
+        Some(Slot::Upholds(place))
     } else {
         None
     }
 }
 
-/// Which slots stand in this dependency directory, if it is one.
+/// Which slots this dependency directory contains, if it is one.
 fn dependency_slots_in(dir: &[u8]) -> Option<Slot>
     ensures { result ≡ dependency_slots_in (place_of (parent dir.now)) (name_at dir.now) }
 {
@@ -149,7 +207,7 @@ fn dependency_slots_in(dir: &[u8]) -> Option<Slot>
     }
 }
 
-/// Which slots stand in a directory, if any can.
+/// Which slots a directory contains, if it can contain any.
 #[tactic(auto, unfolding(crate::specs::Slots::slots_in))]
 pub(crate) fn slots_in(dir: &[u8]) -> Option<Slot>
     ensures { result ≡ slots_in dir.now }
@@ -176,7 +234,9 @@ fn is_name_for(slot: Slot, name: &[u8]) -> bool
     ensures { result ≡ is_name_for slot name.now }
 {
     match slot {
-        Slot::Unit(_) | Slot::Wants(_) | Slot::Requires(_) => is_unit_name(name),
+        Slot::Unit(_) | Slot::Wants(_) | Slot::Requires(_) | Slot::Upholds(_) => {
+            is_unit_name(name)
+        }
         Slot::Preset(_) => is_preset_name(name),
     }
 }

@@ -1,10 +1,9 @@
 //! add-wants and add-requires.
 use crate::lines::{arguments, first_word, has_verb, scope_of, units};
 use crate::questions::{OfLine, asked, assert_rows};
-use link_tree::Dependency;
 use sample_rows::Row;
 use sample_values::name;
-use slot_commands::AddTo;
+use slot_commands::{AddTo, AddedDependency};
 use std::alloc::{AllocError, Global};
 use std::test::Fail;
 
@@ -77,11 +76,11 @@ const ROWS: &[u8] = b"\
     same\tadd-wants a.target a.service\tadd-wants --runtime a.target a.service\tno\n\
     same\tadd-wants a.target a.service\tadd-wants a.target b.service\tno\n";
 
-fn dependency_of(line: &[u8]) -> Dependency {
+fn dependency_of(line: &[u8]) -> AddedDependency {
     if has_verb(line, b"add-requires") {
-        Dependency::Requires
+        AddedDependency::Requires
     } else {
-        Dependency::Wants
+        AddedDependency::Wants
     }
 }
 

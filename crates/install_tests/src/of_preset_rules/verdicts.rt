@@ -43,10 +43,11 @@ pub(crate) fn enabled(alloc: Global, instances: &Instances) -> Result<Vec<u8>, A
     Ok(text)
 }
 
-/// The word `disable`, or `enable` with the instances that are listed.
+/// The word `disable` or `ignore`, or `enable` with the instances that are listed.
 pub(crate) fn verdict_text(alloc: Global, verdict: &Verdict) -> Result<Vec<u8>, AllocError> {
     match verdict {
         Verdict::Disable => Vec::from_slice(alloc, b"disable"),
+        Verdict::Ignore => Vec::from_slice(alloc, b"ignore"),
         Verdict::Enable(instances) => enabled(alloc, instances),
     }
 }

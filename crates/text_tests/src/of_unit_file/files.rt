@@ -30,10 +30,12 @@ const ROWS: &[u8] = b"\
     file\tstatic.service\t\t\n\
     file\tsections.service\t\t\
         WantedBy=c.target\\nRequiredBy=a.service\\nAlso=x.service y.service\\n\n\
+    file\tagent.service\t\t\
+        RequiredBy=d.target\\nUpheldBy=b.target c.target\\nAlias=e.service\\n\n\
     file\tmachine@.slice\t\t\
         Also=machine.slice\\nDefaultInstance=not/valid\\n\n";
 
-const FILES: [(&[u8], &[u8]); 12] = [
+const FILES: [(&[u8], &[u8]); 13] = [
     (b"ssh.service", SERVICE),
     (b"ssh.socket", SOCKET),
     (b"getty@.service", GETTY),
@@ -45,6 +47,7 @@ const FILES: [(&[u8], &[u8]); 12] = [
     (b"web@.service", TEMPLATE),
     (b"static.service", STATIC),
     (b"sections.service", SECTIONS),
+    (b"agent.service", AGENT),
     (b"machine@.slice", SLICE),
 ];
 
@@ -193,6 +196,15 @@ const SECTIONS: &[u8] = b"WantedBy=lost.target\n\
     WantedBy=c.target\n\
     Also=\n\
     Also=y.service\n";
+
+const AGENT: &[u8] = b"[Install]\n\
+    UpheldBy=a.target\n\
+    UpheldBy=\n\
+    RequiredBy=d.target\n\
+    UpheldBy=b.target\n\
+    Alias=e.service\n\
+    upheldby=lost.target\n\
+    UpheldBy = c.target\n";
 
 const SLICE: &[u8] = b"[Install]\n\
     UpholdsNothing=yes\n\

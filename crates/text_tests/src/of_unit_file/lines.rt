@@ -59,7 +59,7 @@ const ROWS: &[u8] = b"\
     file\t\\xef\\xbb\\xbf[Install]\\nWantedBy=a\t\t\n\
     \n\
     # So are keys.\n\
-    file\t[Install]\\nwantedby=a\\nWantedBy a\\nAlso\\n=b\\nUpheldBy=c\t\t\n\
+    file\t[Install]\\nwantedby=a\\nWantedBy a\\nAlso\\n=b\\nupheldBy=c\\nBoundBy=d\t\t\n\
     file\t[Install]\\nWantedBy=a=b\\nAlso==c\t\tWantedBy=a=b\\nAlso==c\\n\n\
     file\t[Install]\\n\\tRequiredBy \\t=\\t a\\t\\tb \\nRequiredBy=a\t\tRequiredBy=a b a\\n\n\
     file\t[Install]\\nAlias=\"a b\" 'c' a\\x0cb\\x0b\t\tAlias=\"a b\" 'c' a\\x0cb\\x0b\\n\n\

@@ -17,6 +17,7 @@ const ROWS: &[u8] = b"\
     line\t5\t\t  ! a.service: Preset \\xff: is an alias\\n\n\
     line\t6\t\t  ! a.socket: RequiredBy : not found\\n\n\
     line\t7\t\t  ! a:b.socket: RequiredBy c:: dangling\\n\n\
+    line\t8\t\t  ! a:b.socket: UpheldBy c:: bad name\\n\n\
     \n\
     # In which order they are added, and which there are then: each once, in order of the lines.\n\
     added\t\t\t\n\
@@ -24,6 +25,7 @@ const ROWS: &[u8] = b"\
     added\t01234567\t\t01234567\n\
     added\t76543210\t\t01234567\n\
     added\t42473274\t\t2347\n\
+    added\t87848\t\t478\n\
     \n\
     # Which are joined with others.\n\
     joined\t\t\t\n\
@@ -36,7 +38,7 @@ const ROWS: &[u8] = b"\
 type Fields = (&'static [u8], NoticeKey, &'static [u8], Reason);
 
 /// Each key and each reason.
-const NOTICES: [Fields; 8] = [
+const NOTICES: [Fields; 9] = [
     (b"a-b.service", NoticeKey::WantedBy, b"x", Reason::BadName),
     (
         b"a.service",
@@ -60,6 +62,7 @@ const NOTICES: [Fields; 8] = [
         b"c:",
         Reason::Dangling,
     ),
+    (b"a:b.socket", NoticeKey::UpheldBy, b"c:", Reason::BadName),
 ];
 
 fn notice(alloc: Global, fields: &Fields) -> Result<Notice, AllocError> {
@@ -87,7 +90,7 @@ fn has_fields(notice: &Notice, fields: &Fields) -> bool {
 
 /// The digit of a notice.
 fn digit_of(notice: &Notice) -> u8 {
-    for digit in b'0'..b'8' {
+    for digit in b'0'..b'9' {
         if let Some(fields) = fields_of(digit) {
             if has_fields(notice, &fields) {
                 return digit;

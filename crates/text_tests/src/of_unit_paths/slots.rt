@@ -6,13 +6,15 @@ use std::test::Fail;
 use unit_paths::{Dependency, Place, Scope, Slot, TreePath};
 
 const ROWS: &[u8] = b"\
-    # Slots have four forms.\n\
-    slot\t/etc/systemd/system/ssh.service\t\tUnit(Etc)\n\
-    slot\t/run/systemd/system/a@b.service\t\tUnit(Run)\n\
+    # Slots have five forms. After the slot of a dependency: which one.\n\
+    slot\t/etc/systemd/system/ssh.service\t\tUnit(Etc), of Etc\n\
+    slot\t/run/systemd/system/a@b.service\t\tUnit(Run), of Run\n\
     slot\t/usr/local/lib/systemd/system/a.mount\t\tUnit(Local)\n\
     slot\t/usr/lib/systemd/system/a@.socket\t\tUnit(Vendor)\n\
-    slot\t/etc/systemd/system/a.target.wants/b.service\t\tWants(Etc)\n\
-    slot\t/usr/lib/systemd/system/a.target.requires/b.service\t\tRequires(Vendor)\n\
+    slot\t/etc/systemd/system/a.target.wants/b.service\t\tWants(Etc), wants, of Etc\n\
+    slot\t/usr/lib/systemd/system/a.target.requires/b.service\t\tRequires(Vendor), requires\n\
+    slot\t/run/systemd/system/a.target.upholds/b.service\t\tUpholds(Run), upholds, of Run\n\
+    slot\t/usr/local/lib/systemd/system/a@.target.upholds/b@c.service\t\tUpholds(Local), upholds\n\
     slot\t/etc/systemd/system-preset/10-a.preset\t\tPreset(Etc)\n\
     slot\t/run/systemd/system-preset/.b.preset\t\tPreset(Run)\n\
     slot\t/usr/lib/systemd/system-preset/a.preset\t\tPreset(Vendor)\n\
@@ -22,14 +24,20 @@ const ROWS: &[u8] = b"\
     slot\t/etc/systemd/system/ssh.conf\t\tnone\n\
     slot\t/etc/systemd/system/a.target.wants\t\tnone\n\
     slot\t/etc/systemd/system/a.wants/b.service\t\tnone\n\
-    slot\t/etc/systemd/system/a.target.upholds/b.service\t\tnone\n\
+    slot\t/etc/systemd/system/a.upholds/b.service\t\tnone\n\
+    slot\t/etc/systemd/system/a.target.upholds/README\t\tnone\n\
+    slot\t/etc/systemd/system/a.target.Upholds/b.service\t\tnone\n\
+    slot\t/etc/systemd/system/.upholds/b.service\t\tnone\n\
+    slot\t/etc/systemd/system-preset/a.target.upholds/b.service\t\tnone\n\
     slot\t/etc/systemd/system/a.target.wants/x/b.service\t\tnone\n\
     slot\t/lib/systemd/system/ssh.service\t\tnone\n\
     slot\t/ssh.service\t\tnone\n\
     \n\
     # Units have slots.\n\
-    slot of\tEtc\tgetty@tty1.service\t/etc/systemd/system/getty@tty1.service is Unit(Etc)\n\
-    slot of\tRun\tgetty@tty1.service\t/run/systemd/system/getty@tty1.service is Unit(Run)\n\
+    slot of\tEtc\tgetty@tty1.service\t\
+        /etc/systemd/system/getty@tty1.service is Unit(Etc), of Etc\n\
+    slot of\tRun\tgetty@tty1.service\t\
+        /run/systemd/system/getty@tty1.service is Unit(Run), of Run\n\
     slot of\tLocal\tgetty@tty1.service\t\
         /usr/local/lib/systemd/system/getty@tty1.service is Unit(Local)\n\
     slot of\tVendor\tgetty@tty1.service\t\
@@ -37,9 +45,11 @@ const ROWS: &[u8] = b"\
     \n\
     # So have the dependencies of other units, as t@.target.\n\
     wants\tEtc\tgetty@tty1.service\t\
-        /etc/systemd/system/t@.target.wants/getty@tty1.service is Wants(Etc)\n\
+        /etc/systemd/system/t@.target.wants/getty@tty1.service is Wants(Etc), wants, of Etc\n\
     requires\tLocal\tgetty@tty1.service\t\
-        /usr/local/lib/systemd/system/t@.target.requires/getty@tty1.service is Requires(Local)\n\
+        /usr/local/lib/systemd/system/t@.target.requires/getty@tty1.service is Requires(Local), requires\n\
+    upholds\tRun\tgetty@tty1.service\t\
+        /run/systemd/system/t@.target.upholds/getty@tty1.service is Upholds(Run), upholds, of Run\n\
     \n\
     # The directories of units in the two scopes, and all directories of presets.\n\
     scope\tEtc\t\t/etc/systemd/system\n\
@@ -53,8 +63,12 @@ const ROWS: &[u8] = b"\
     bad shape\t/etc/systemd/system/a.service/b\t\tyes\n\
     bad shape\t/etc/systemd/system/a.service/b/c\t\tyes\n\
     bad shape\t/etc/systemd/system/a.target.wants/b.service/c\t\tyes\n\
+    bad shape\t/etc/systemd/system/a.target.upholds/b.service/c\t\tyes\n\
     bad shape\t/etc/systemd/system\t\tyes\n\
     bad shape\t/etc/systemd/system/a.target.wants\t\tyes\n\
+    bad shape\t/etc/systemd/system/a.target.upholds\t\tyes\n\
+    bad shape\t/etc/systemd/system/a.target.upholds/README/deep\t\tno\n\
+    bad shape\t/etc/systemd/system/a.upholds\t\tno\n\
     bad shape\t/etc/systemd/system-preset\t\tyes\n\
     bad shape\t/etc\t\tyes\n\
     bad shape\t/usr/local\t\tyes\n\
@@ -65,16 +79,40 @@ const ROWS: &[u8] = b"\
     bad shape\t/etc/systemd/user\t\tno\n\
     bad shape\t/lib\t\tno\n";
 
-/// Of what a path is the slot: of a unit, if `is_of_unit` says so.
+/// Whether the tests for kinds of slots say of a path what its slot is.
+fn are_alike(slot: Option<Slot>, path: &TreePath) -> bool {
+    Slot::is_of_unit(path) == matches!(slot, Some(Slot::Unit(_)))
+        && Slot::is_of_preset(path) == matches!(slot, Some(Slot::Preset(_)))
+        && Slot::is_of_dependency(path) == Slot::dependency_of(path).is_some()
+}
+
+/// Of which dependency a path is the slot, and in which scope it is one of a unit or a dependency.
+fn push_kinds(out: &mut Vec<u8>, path: &TreePath) -> Result<(), AllocError> {
+    match Slot::dependency_of(path) {
+        Some(Dependency::Wants) => out.extend_from_slice(b", wants")?,
+        Some(Dependency::Requires) => out.extend_from_slice(b", requires")?,
+        Some(Dependency::Upholds) => out.extend_from_slice(b", upholds")?,
+        None => {}
+    }
+    match Slot::scope_of(path) {
+        Some(Scope::Etc) => out.extend_from_slice(b", of Etc"),
+        Some(Scope::Run) => out.extend_from_slice(b", of Run"),
+        None => Ok(()),
+    }
+}
+
+/// Of what a path is the slot.
 fn kind_of(alloc: Global, path: &TreePath) -> Result<Vec<u8>, AllocError> {
     let slot = Slot::of(path);
-    if Slot::is_of_unit(path) != matches!(slot, Some(Slot::Unit(_))) {
-        return Vec::from_slice(alloc, b"is_of_unit says otherwise");
+    if !are_alike(slot, path) {
+        return Vec::from_slice(alloc, b"the tests for kinds say otherwise");
     }
-    match slot {
-        Some(slot) => Ok(format!(in alloc; "{slot:?}")?.into_bytes()),
-        None => Vec::from_slice(alloc, b"none"),
-    }
+    let mut out = match slot {
+        Some(slot) => format!(in alloc; "{slot:?}")?.into_bytes(),
+        None => Vec::from_slice(alloc, b"none")?,
+    };
+    push_kinds(&mut out, path)?;
+    Ok(out)
 }
 
 fn kind_at(alloc: Global, text: &[u8]) -> Result<Vec<u8>, AllocError> {
@@ -143,6 +181,8 @@ fn answer(alloc: Global, row: &Row) -> Result<Vec<u8>, AllocError> {
         dependency_slot(alloc, place, Dependency::Wants, &row.two)
     } else if is(row, b"requires") {
         dependency_slot(alloc, place, Dependency::Requires, &row.two)
+    } else if is(row, b"upholds") {
+        dependency_slot(alloc, place, Dependency::Upholds, &row.two)
     } else if is(row, b"scope") {
         Vec::from_slice(alloc, scope_directory(&row.one).as_bytes())
     } else if is(row, b"presets") {
@@ -153,6 +193,6 @@ fn answer(alloc: Global, row: &Row) -> Result<Vec<u8>, AllocError> {
 }
 
 #[test]
-fn slots_have_four_forms(rt: HostRuntime) -> Result<(), Fail> {
+fn slots_have_five_forms(rt: HostRuntime) -> Result<(), Fail> {
     assert_rows(&rt, rt.alloc(), ROWS, answer)
 }

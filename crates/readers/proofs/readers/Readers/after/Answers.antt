@@ -1,6 +1,6 @@
 use Rattle.std.proofs.Common.{◌&&◌, subst, List, ℕ}
 use Rattle.unit_paths.specs.Slots.{slot_of}
-use Rattle.footprint.specs.Keys.{is_preset, is_dependency}
+use Rattle.unit_paths.specs.Kinds.{is_preset, is_dependency}
 use Rattle.readers.specs.Numbers.{has, lists, IsNext}
 use Rattle.readers.specs.Readers.{is_marked_in}
 use Rattle.readers.proofs.readers.Readers.after.Goals as goal
