@@ -4,6 +4,8 @@
 #[cfg(test)]
 mod closing;
 #[cfg(test)]
+mod commands;
+#[cfg(test)]
 mod events;
 #[cfg(test)]
 mod large;

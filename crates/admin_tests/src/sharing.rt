@@ -9,7 +9,7 @@
 //!
 //! A plan that is stale is kept.
 
-use history::{CallError, Operator, Plan, Uncommitted};
+use history::{CallError, MAX_ROWS, Operator, Plan, Uncommitted};
 use link_tree::{Tree, push_decimal};
 use sample_rows::{Row, unlike};
 use sample_steps::{
@@ -23,8 +23,8 @@ use std::str;
 use std::sync::Wait;
 use std::test::Fail;
 
-/// Calls on a history that alice and bob share, and what they answer. Operators, and what results from
-/// opening a history for them.
+/// Calls on a history that alice and bob share, and what they answer. Operators, and what results
+/// from opening a history for them.
 const ROWS: &[u8] = b"\
     # bob comes first, so alice's plan is stale; made again on a new snapshot it is refused,\n\
     # in row 2; after bob's undo a third is accepted\n\
@@ -64,6 +64,14 @@ const ROWS: &[u8] = b"\
         row:1:ok row:2:undid:1 rows:2:entries:1 planned row:3:redid:1 stale:a \
         rows:3:entries:2\n\
     \n\
+    # limited: the history may have only this many rows; whatever would add one more is refused\n\
+    limited\talice:put:a alice:undo:1 alice:redo:1 alice:undo:9 bob:put:b snapshot\t2\t\
+        row:1:ok row:2:undid:1 full full full rows:2:entries:1\n\
+    # a plan is stale before the history is full; one that is not stale comes back\n\
+    limited\tsnapshot plan:put:b bob:put:a alice:commit alice:commit plan:put:a alice:commit \
+        snapshot\t1\t\
+        rows:0:entries:1 planned row:1:ok full full planned stale:a rows:1:entries:2\n\
+    \n\
     # at most sixteen operators, each once\n\
     operators\t\t\tis shared\n\
     operators\ta b\t\tis shared\n\
@@ -82,10 +90,11 @@ pub(crate) struct Bench {
     plan: Option<Box<Plan<Step>>>,
 }
 
-/// The error of what made no row in a history that isn't full: memory ran out.
-fn unless_full(why: CallError) -> AllocError {
+/// Adds that the history is full. Fails if it isn't: then memory ran out.
+fn push_full(out: &mut Vec<u8>, why: CallError) -> Result<(), AllocError> {
     match why {
-        CallError::OutOfMemory | CallError::Full => AllocError,
+        CallError::Full => out.extend_from_slice(b"full"),
+        CallError::OutOfMemory => Err(AllocError),
     }
 }
 
@@ -104,17 +113,20 @@ fn operators(alloc: Global, names: &[u8]) -> Result<Operators, AllocError> {
 pub(crate) const FIRST: &[u8] =
     b"unitadm-inventory 1\nF\t0\t/etc/systemd/system/c.service\n\nend\n";
 
-/// A history of that tree, shared by alice and bob.
-fn shared(alloc: Global) -> Result<Box<SharedAdmin<Step>>, AllocError> {
+/// A history of that tree with at most this many rows, shared by alice and bob.
+fn shared(alloc: Global, limit: usize) -> Result<Box<SharedAdmin<Step>>, AllocError> {
+    if limit == 0 || limit > MAX_ROWS {
+        return Err(AllocError);
+    }
     let first = Box::into_inner(tree(alloc, FIRST)?);
-    match SharedAdmin::new(alloc, first, operators(alloc, b"alice bob")?) {
+    match SharedAdmin::with_limit(alloc, first, operators(alloc, b"alice bob")?, limit) {
         Ok(admin) => Ok(Box::new(alloc, admin)?),
         Err(_) => Err(AllocError),
     }
 }
 
-fn begun(alloc: Global, rt: &impl Wait) -> Result<Bench, AllocError> {
-    let admin = shared(alloc)?;
+fn begun(alloc: Global, rt: &impl Wait, limit: usize) -> Result<Bench, AllocError> {
+    let admin = shared(alloc, limit)?;
     let snapshot = Box::new(alloc, admin.snapshot(rt)?)?;
     Ok(Bench {
         admin,
@@ -154,7 +166,7 @@ fn push_toggled(
 fn planned(alloc: Global, snapshot: &Snapshot, step: Step) -> Result<Box<Plan<Step>>, AllocError> {
     match plan(alloc, snapshot, step) {
         Ok(plan) => Ok(Box::new(alloc, plan)?),
-        Err(unrun) => Err(unless_full(unrun.why)),
+        Err(_) => Err(AllocError),
     }
 }
 
@@ -165,7 +177,7 @@ fn push_settled(out: &mut Vec<u8>, settling: &Settling) -> Result<(), AllocError
     match settling {
         Ok(Settled::Committed(row)) => push_new_row(out, row),
         Ok(Settled::Stale { plan: _, at }) => push_pair(out, b"stale", unit_at(at)),
-        Err(left) => Err(unless_full(left.why)),
+        Err(left) => push_full(out, left.why),
     }
 }
 
@@ -223,7 +235,7 @@ impl Bench {
         let called = Box::new(alloc, self.admin.call(rt, alloc, operator, step))?;
         match &*called {
             Ok(row) => push_new_row(out, row),
-            Err(unrun) => Err(unless_full(unrun.why)),
+            Err(unrun) => push_full(out, unrun.why),
         }
     }
 
@@ -345,14 +357,16 @@ pub(crate) fn run(
     script: &[u8],
     out: &mut Vec<u8>,
 ) -> Result<Bench, AllocError> {
-    let mut bench = begun(alloc, rt)?;
+    let mut bench = begun(alloc, rt, MAX_ROWS)?;
     bench.play(rt, alloc, script, out)?;
     Ok(bench)
 }
 
-fn said(alloc: Global, rt: &impl Wait, script: &[u8]) -> Result<Vec<u8>, AllocError> {
+/// What the words of a script answer, on a history with at most this many rows.
+fn said(alloc: Global, rt: &impl Wait, script: &[u8], limit: usize) -> Result<Vec<u8>, AllocError> {
     let mut out = Vec::new(alloc);
-    run(alloc, rt, script, &mut out)?;
+    let mut bench = begun(alloc, rt, limit)?;
+    bench.play(rt, alloc, script, &mut out)?;
     Ok(out)
 }
 
@@ -375,7 +389,10 @@ fn opened(alloc: Global, names: &[u8]) -> Result<Vec<u8>, AllocError> {
 
 fn answer(rt: &impl Wait, alloc: Global, row: &Row) -> Result<Vec<u8>, AllocError> {
     if is(&row.kind, b"calls") {
-        return said(alloc, rt, &row.one);
+        return said(alloc, rt, &row.one, MAX_ROWS);
+    }
+    if is(&row.kind, b"limited") {
+        return said(alloc, rt, &row.one, number(&row.two) as usize);
     }
     if is(&row.kind, b"operators") {
         return opened(alloc, &row.one);

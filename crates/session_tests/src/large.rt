@@ -14,17 +14,25 @@ use std::thread;
 use std::thread::Threads;
 use std::time::{Clock, Duration};
 
-/// Holds alice's first call up until bob's second comes, and bob's first until alice's first comes,
-/// ten seconds at most.
+mod commands;
+mod waiting;
+
+/// Holds alice's first call up until bob's call of this number comes, and bob's first until alice's
+/// first comes, ten seconds at most.
 #[derive(Drop)]
-struct Meeting<'a, R: Clock> {
-    rt: &'a R,
-    alice_came: &'a AtomicU64,
-    bob_came: &'a AtomicU64,
+pub(crate) struct Meeting<'a, R: Clock> {
+    pub(crate) rt: &'a R,
+    pub(crate) until: u64,
+    pub(crate) alice_came: &'a AtomicU64,
+    pub(crate) bob_came: &'a AtomicU64,
 }
 
-fn wait_for<R: Clock>(rt: &R, came: &AtomicU64) {
-    for _ in 0..10_000 {
+/// The longest that a call is held up, in milliseconds.
+pub(crate) const LONGEST: u32 = 10_000;
+
+/// Waits until a call came, at most this number of milliseconds.
+pub(crate) fn wait_for<R: Clock>(rt: &R, came: &AtomicU64, most: u32) {
+    for _ in 0..most {
         if came.load(Ordering::SeqCst) > 0 {
             return;
         }
@@ -37,10 +45,10 @@ impl<'a, R: Clock> Gate for Meeting<'a, R> {
         match (operator.text(), call) {
             (b"alice", 1) => {
                 self.alice_came.fetch_add(1, Ordering::SeqCst);
-                wait_for(self.rt, self.bob_came);
+                wait_for(self.rt, self.bob_came, LONGEST);
             }
-            (b"bob", 1) => wait_for(self.rt, self.alice_came),
-            (b"bob", 2) => {
+            (b"bob", 1) => wait_for(self.rt, self.alice_came, LONGEST),
+            (b"bob", call) if call == self.until => {
                 self.bob_came.fetch_add(1, Ordering::SeqCst);
             }
             _ => {}
@@ -63,6 +71,7 @@ fn gate_two_sessions(rt: HostRuntime) -> Result<(), Fail> {
     let bob_came = AtomicU64::new(0);
     let gate = Meeting {
         rt: &rt,
+        until: 2,
         alice_came: &alice_came,
         bob_came: &bob_came,
     };
@@ -77,6 +86,7 @@ fn gate_desk(rt: HostRuntime) -> Result<(), Fail> {
     let bob_came = AtomicU64::new(0);
     let gate = Meeting {
         rt: &rt,
+        until: 2,
         alice_came: &alice_came,
         bob_came: &bob_came,
     };
@@ -111,7 +121,7 @@ fn script_of_many(alloc: Global) -> Result<Vec<u8>, AllocError> {
 }
 
 /// The text begins with these logs, and has a word for each of this many rows after them.
-fn assert_counts(rt: &impl Abort, text: &[u8], logs: &[u8], rows: usize) {
+pub(crate) fn assert_counts(rt: &impl Abort, text: &[u8], logs: &[u8], rows: usize) {
     assert!(rt; text.starts_with(logs));
     let words = text.split(|b| *b == b' ').count();
     assert_eq!(rt; words, rows.wrapping_add(1));

@@ -98,10 +98,7 @@ pub(crate) type Ran = Result<
 >;
 
 /// Adds why a run didn't end. A worker may be missing because memory ran out, too.
-fn push_error(
-    out: &mut Vec<u8>,
-    why: &RunError<History<Step>, SessionLogs<Step>>,
-) -> Result<(), AllocError> {
+pub(crate) fn push_error<H, L>(out: &mut Vec<u8>, why: &RunError<H, L>) -> Result<(), AllocError> {
     match why {
         RunError::NoWorker | RunError::OutOfMemory => Err(AllocError),
         RunError::TooManySessions => out.extend_from_slice(b"too-many-sessions"),

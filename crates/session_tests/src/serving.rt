@@ -3,11 +3,11 @@
 use crate::checking::{self, Closed, push_closed};
 use crate::desk;
 use crate::scripts::{Open, operators};
-use history::Operator;
+use history::{CallError, MAX_ROWS, Operator, Request};
 use link_tree::{Tree, push_decimal};
 use sample_rows::{Row, unlike};
 use sample_steps::{Step, is, number, operator, push_numbered, push_reply, request, step};
-use sessions::{Gate, Session};
+use sessions::{Gate, Session, Unserved};
 use shared_admin::{SessionLogs, SharedAdmin};
 use std::alloc::{AllocError, Global};
 use std::str;
@@ -19,8 +19,8 @@ use unit_name::ample;
 /// What a desk says to words. What closing says of alice's session, in which she put a file at the
 /// slot of a and undid that, if this is what she had asked for. What her last entry says: if bob
 /// meddles with each plan of hers; after the requests of a script, with two digits for each call of
-/// the gate, which are the request and the attempt; or if she had seen this many rows before she put
-/// a file at the slot of a and undid that.
+/// the gate, which are the request and the attempt; after requests of which some find the history
+/// full; or if she had seen this many rows before she put a file at the slot of a and undid that.
 const ROWS: &[u8] = b"\
     # answers to no job, to one of another operator's, and for the second time aren't taken\n\
     desk\tissue:bob issue:alice open answer:0:bob answer:3:bob answer:1:alice answer:1:bob open \
@@ -47,6 +47,11 @@ const ROWS: &[u8] = b"\
     # the gate is called once for an undo and for a redo, also for one that is refused\n\
     gated\tput:a undo:1 redo:1\t\trow:3:seen:2:redid:1 gate:112131\n\
     gated\tput:a undo:1 look:a redo:1\t\trow:4:seen:3:hindered:3 gate:11213141\n\
+    # limited: the history may have only this many rows; a request that finds it full comes back,\n\
+    # and the session stays as it was\n\
+    limited\tput:a undo:1 redo:1 put:b\t2\t\
+        ok ok full full row:2:seen:1:undid:1 entries:2 rows:2\n\
+    limited\tput:a put:a put:a\t1\tok full full row:1:seen:0:ok entries:1 rows:1\n\
     # a row comes after all that she had seen\n\
     told\t0\t\trow:2:seen:1:undid:1 closed\n\
     told\t9\t\trow:2:seen:1:undid:1 mismatch:alice:1\n\
@@ -54,7 +59,20 @@ const ROWS: &[u8] = b"\
 
 /// An empty tree, which the operators of these names share.
 pub(crate) fn shared(alloc: Global, names: &[u8]) -> Result<Box<SharedAdmin<Step>>, AllocError> {
-    match SharedAdmin::new(alloc, Tree::empty(alloc)?, operators(alloc, names)?) {
+    shared_with_limit(alloc, names, MAX_ROWS)
+}
+
+/// The same, with at most this many rows.
+fn shared_with_limit(
+    alloc: Global,
+    names: &[u8],
+    limit: usize,
+) -> Result<Box<SharedAdmin<Step>>, AllocError> {
+    if limit == 0 || limit > MAX_ROWS {
+        return Err(AllocError);
+    }
+    let tree = Tree::empty(alloc)?;
+    match SharedAdmin::with_limit(alloc, tree, operators(alloc, names)?, limit) {
         Ok(admin) => Ok(Box::new(alloc, admin)?),
         Err(_) => Err(AllocError),
     }
@@ -230,6 +248,56 @@ fn push_gated(
     push_decimal(out, seen.load(Ordering::SeqCst) as usize)
 }
 
+/// Adds `full`, if a request found the history so and came back. Fails if memory ran out.
+fn push_unserved(
+    out: &mut Vec<u8>,
+    left: &Unserved<Step>,
+    request: &Request<Step>,
+) -> Result<(), AllocError> {
+    match left.why {
+        CallError::Full if left.request.same(request) => out.extend_from_slice(b"full"),
+        CallError::Full => out.extend_from_slice(b"full, with another request"),
+        CallError::OutOfMemory => Err(AllocError),
+    }
+}
+
+/// Adds what a call of a session answers: that it was served, or why it wasn't.
+fn push_call(
+    rt: &impl Wait,
+    alloc: Global,
+    session: &mut Session<Step>,
+    admin: &SharedAdmin<Step>,
+    word: &[u8],
+    out: &mut Vec<u8>,
+) -> Result<(), AllocError> {
+    match session.call(rt, alloc, admin, &Open, request(alloc, word)?) {
+        Ok(()) => out.extend_from_slice(b"ok")?,
+        Err(left) => push_unserved(out, &left, &request(alloc, word)?)?,
+    }
+    out.extend_from_slice(b" ")
+}
+
+/// Adds what the requests of a script answer on a history with at most this many rows, what the
+/// last entry says, and how many entries and rows there are.
+fn push_limited(
+    rt: &impl Wait,
+    alloc: Global,
+    script: &[u8],
+    limit: usize,
+    out: &mut Vec<u8>,
+) -> Result<(), AllocError> {
+    let admin = shared_with_limit(alloc, b"alice", limit)?;
+    let mut session = opened(alloc, b"alice")?;
+    for word in script.split(|b| *b == b' ') {
+        push_call(rt, alloc, &mut session, &admin, word, out)?;
+    }
+    push_last(out, &session)?;
+    let (entries, _, rows) = counts(rt, &admin, &session)?;
+    out.extend_from_slice(b" entries:")?;
+    push_decimal(out, entries)?;
+    push_numbered(out, b" rows", rows)
+}
+
 /// A session that had seen this many rows, and made two calls, of which the second is an undo of
 /// the first.
 pub(crate) fn session_told(
@@ -290,6 +358,9 @@ fn push_answer(
     }
     if is(&row.kind, b"gated") {
         return push_gated(rt, alloc, &row.one, out);
+    }
+    if is(&row.kind, b"limited") {
+        return push_limited(rt, alloc, &row.one, number(&row.two) as usize, out);
     }
     if is(&row.kind, b"told") {
         return push_told(rt, alloc, number(&row.one), out);

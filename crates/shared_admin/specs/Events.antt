@@ -1,5 +1,5 @@
 -- The machine of events. Its state is the history, and what each of sixteen slots keeps.
-use Rattle.std.specs.Prelude.{◌≡◌, ℕ, ◌<◌, ◌==◌, Bool, MatchBool, List, [], ◌∷◌, Option, Some, None, length, set, slice_get, replicate, ◌⊎◌}
+use Rattle.std.specs.Prelude.{◌≡◌, ◌≢◌, ℕ, ◌<◌, ◌==◌, Bool, MatchBool, List, [], ◌∷◌, Option, Some, None, length, set, slice_get, replicate, ◌⊎◌}
 use Rattle.link_tree.specs.Trees.{Entries}
 use Rattle.footprint.specs.Inquiry.{Inquiry}
 use Rattle.footprint.specs.Operations.{Effect}
@@ -85,6 +85,16 @@ module _ {O : Type 0} (asks : O → Bool) (meaning : O → Inquiry Effect) where
   Happens log slots (events.Call operator c) new after reply = (after ≡ slots) × Calls log (operator, Do c) new reply
   Happens log slots (events.Undo operator n) new after reply = (after ≡ slots) × Calls log (operator, Undo n) new reply
   Happens log slots (events.Redo operator n) new after reply = (after ≡ slots) × Calls log (operator, Redo n) new reply
+
+  -- An event that would add a row finds room for it; a plan counts only if the tree agrees with it.
+  abbrev pub HasRoom : Log O → Slots O → Event O → Type 0
+  HasRoom log slots (events.Snap slot) = Unit {0}
+  HasRoom log slots (events.Plan slot c) = Unit {0}
+  HasRoom log slots (events.Commit slot operator) =
+      (kept : Kept (Planned O)) (plan : Planned O) → slice_get slots slot ≡ Some kept → kept.plan ≡ Some plan → AgreesWith asks meaning log plan → length log.rows ≢ log.limit
+  HasRoom log slots (events.Call operator c) = length log.rows ≢ log.limit
+  HasRoom log slots (events.Undo operator n) = length log.rows ≢ log.limit
+  HasRoom log slots (events.Redo operator n) = length log.rows ≢ log.limit
 
   -- what events do one after another
   abbrev pub Plays : Log O → Slots O → List (Event O) → Log O → List EventReply → Type 0

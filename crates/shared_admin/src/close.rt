@@ -16,9 +16,11 @@ use tree_steps::are_same;
 pub enum CloseFault {
     /// This operator, the first such of those that share the history, has no log.
     Missing(Operator),
-    /// The first log that is of none of the operators, or of one that has a log before, is this operator's; or else the first row that is of none.
+    /// The first log that is of none of the operators, or of one that has a log before, is this
+    /// operator's; or else the first row that is of none.
     Stranger(Operator),
-    /// The log of this operator, the first such, doesn't tell the operator's rows. They differ at this place first, from 1 on.
+    /// The log of this operator, the first such, doesn't tell the operator's rows. They differ at
+    /// this place first, from 1 on.
     Mismatch(Operator, u32),
     /// The history doesn't begin with the tree that was given.
     OtherTree,
@@ -32,8 +34,9 @@ pub struct Unclosed<H, L> {
     pub logs: L,
 }
 
-/// Why a run isn't closed, if it isn't: the first that applies of what `CloseFault` lists. `SharedAdmin::close` asks this of its own history,
-/// tree and operators, with the logs that it is handed.
+/// Why a run isn't closed, if it isn't: the first that applies of what `CloseFault` lists.
+/// `SharedAdmin::close` asks this of its own history, tree and operators, with the logs that it is
+/// handed.
 pub fn run_fault<O: Operation>(
     given: &Tree,
     operators: &[Operator],

@@ -1,22 +1,24 @@
 //! Events on a history, one after another.
-ghost use Rattle.std.specs.Prelude.{◌≡◌, [], Some, All, IfOk, length, replicate};
+ghost use Rattle.std.specs.Prelude.{◌≡◌, ◌≢◌, [], Some, None, All, IfOk, OnOk, OnErr, length, replicate};
+ghost use Rattle.history.specs.Plans.{Planned, AgreesWith};
 ghost use Rattle.history.specs.Rows.{calls_of, run};
 ghost use Rattle.history.specs.declared.history.CallError.TheVariants as errors;
 ghost use Rattle.history.specs.declared.row.Request.TheVariants.{Do, Undo, Redo};
 ghost use Rattle.shared_admin.specs.declared.event.EventReply.TheVariants as replies;
-ghost use Rattle.shared_admin.specs.Events.{HasSlot, nothing_kept, empty_slots, Snaps, Plans, TakesPlan, Commits, Calls, Happens, Plays, IsDriven};
+ghost use Rattle.shared_admin.specs.Events.{HasSlot, nothing_kept, empty_slots, Snaps, Plans, TakesPlan, Calls, Happens, HasRoom, Plays, IsDriven};
 
 use crate::event::{Event, EventReply};
 use crate::snapshot::{Snapshot, plan, snapshot_of};
 use footprint::Operation;
-use history::{CallError, Commit, History, Operator, Plan};
+use history::{CallError, Commit, History, Operator, Plan, Uncommitted};
 use link_tree::Tree;
 use std::alloc::{AllocError, Global};
 
 /// How many slots a run of events has.
 pub const SLOTS: usize = 16;
 
-/// What a slot keeps: the last snapshot that was taken there, and the last plan that was made on it.
+/// What a slot keeps: the last snapshot that was taken there, and the last plan that was made on
+/// it.
 #[derive(Drop)]
 pub struct Kept<P> {
     snapshot: Option<Snapshot>,
@@ -78,7 +80,9 @@ pub fn empty_slots<P: Drop>(alloc: Global) -> Result<Vec<Kept<P>>, AllocError>
 /// Lets one event happen on a history and its slots, for events that come one at a time: `drive`
 /// does the same with a list of them.
 ///
-/// There are sixteen slots, and that of the event is from 0 to 15. Fails only if memory runs out.
+/// There are sixteen slots, and that of the event is from 0 to 15. Fails only if memory runs out,
+/// and then history and slots are as before. If the history is full, the reply is `Full`, whether
+/// or not memory runs out.
 pub fn happen<O: Operation>(
     alloc: Global,
     history: &mut History<O>,
@@ -89,6 +93,9 @@ pub fn happen<O: Operation>(
     requires slot { HasSlot event }
     ensures sixteen { length slots.new.items ≡ 16 }
     ensures happens { IfOk result (λ reply. Happens O.asks O.meaning history.old slots.old.items event history.new slots.new.items reply) }
+    ensures history_kept { OnErr result (history.new ≡ history.old) }
+    ensures slots_kept { OnErr result (slots.new.items ≡ slots.old.items) }
+    ensures room { OnErr result (HasRoom O.asks O.meaning history.old slots.old.items event) }
 {
     match event {
         Event::Snap(slot) => snap(history, &mut slots[usize::from(slot)]),
@@ -108,7 +115,8 @@ fn snap<O: Operation>(
     history: &History<O>,
     slot: &mut Kept<Plan<O>>,
 ) -> Result<EventReply, AllocError>
-    ensures { IfOk result (λ reply. Snaps O.asks O.meaning history.now slot.old history.now slot.new reply) }
+    ensures snaps { IfOk result (λ reply. Snaps O.asks O.meaning history.now slot.old history.now slot.new reply) }
+    ensures kept { OnErr result (slot.new ≡ slot.old) }
 {
     slot.snapshot = Some(snapshot_of(history)?);
     Ok(EventReply::Taken)
@@ -119,7 +127,8 @@ fn plan_in<O: Operation>(
     slot: &mut Kept<Plan<O>>,
     operation: O,
 ) -> Result<EventReply, AllocError>
-    ensures { IfOk result (λ reply. Plans O.meaning slot.old operation slot.new reply) }
+    ensures plans { IfOk result (λ reply. Plans O.meaning slot.old operation slot.new reply) }
+    ensures kept { OnErr result (slot.new ≡ slot.old) }
 {
     let Some(snapshot) = &slot.snapshot else {
         return Ok(EventReply::Nothing);
@@ -138,30 +147,44 @@ fn take_plan<O: Operation>(
     slot: &mut Kept<Plan<O>>,
     operator: Operator,
 ) -> Result<EventReply, AllocError>
-    ensures { IfOk result (λ reply. TakesPlan O.asks O.meaning history.old slot.old operator history.new slot.new reply) }
+    ensures takes { IfOk result (λ reply. TakesPlan O.asks O.meaning history.old slot.old operator history.new slot.new reply) }
+    ensures history_kept { OnErr result (history.new ≡ history.old) }
+    ensures kept { OnErr result (slot.new ≡ slot.old) }
+    ensures room { OnErr result ((plan : Planned O) → slot.old.plan ≡ Some plan → AgreesWith O.asks O.meaning history.old plan → length history.old.rows ≢ history.old.limit) }
 {
     let Some(plan) = slot.plan.take() else {
         return Ok(EventReply::Nothing);
     };
-    commit(history, operator, plan)
-}
-
-fn commit<O: Operation>(
-    history: &mut History<O>,
-    operator: Operator,
-    plan: Plan<O>,
-) -> Result<EventReply, AllocError>
-    ensures { IfOk result (λ reply. Commits O.asks O.meaning history.old operator (Some plan) history.new reply) }
-{
     match history.commit(operator, plan) {
         Ok(Commit::Committed(n)) => Ok(EventReply::Committed(n)),
         Ok(Commit::Stale { plan, at }) => {
             drop(plan);
             Ok(EventReply::Stale(at))
         }
-        Err(left) => {
-            drop(left.plan);
-            no_row(left.why)
+        Err(left) => uncommitted(slot, left),
+    }
+}
+
+/// What a commit that made no row replies. If memory ran out, the plan is put back into the slot.
+fn uncommitted<O: Operation>(
+    slot: &mut Kept<Plan<O>>,
+    left: Uncommitted<Plan<O>>,
+) -> Result<EventReply, AllocError>
+    requires { slot.old.plan ≡ None }
+    ensures full { IfOk result (λ reply. (reply ≡ replies.Full) × (left.why ≡ errors.Full)) }
+    ensures stays { OnOk result (slot.new ≡ slot.old) }
+    ensures want { OnErr result (left.why ≡ errors.OutOfMemory) }
+    ensures kept { OnErr result (slot.new ≡ record { snapshot = slot.old.snapshot; plan = Some left.plan }) }
+{
+    let Uncommitted { plan, why } = left;
+    match no_row(why) {
+        Ok(reply) => {
+            drop(plan);
+            Ok(reply)
+        }
+        Err(AllocError) => {
+            slot.plan = Some(plan);
+            Err(AllocError)
         }
     }
 }
@@ -172,7 +195,9 @@ fn call<O: Operation>(
     operator: Operator,
     operation: O,
 ) -> Result<EventReply, AllocError>
-    ensures { IfOk result (λ reply. Calls O.asks O.meaning history.old (operator, Do operation) history.new reply) }
+    ensures calls { IfOk result (λ reply. Calls O.asks O.meaning history.old (operator, Do operation) history.new reply) }
+    ensures kept { OnErr result (history.new ≡ history.old) }
+    ensures room { OnErr result (length history.old.rows ≢ history.old.limit) }
 {
     match history.call(alloc, operator, operation) {
         Ok(n) => Ok(EventReply::Committed(n)),
@@ -186,7 +211,9 @@ fn undo<O: Operation>(
     operator: Operator,
     n: u32,
 ) -> Result<EventReply, AllocError>
-    ensures { IfOk result (λ reply. Calls O.asks O.meaning history.old (operator, Undo n) history.new reply) }
+    ensures calls { IfOk result (λ reply. Calls O.asks O.meaning history.old (operator, Undo n) history.new reply) }
+    ensures kept { OnErr result (history.new ≡ history.old) }
+    ensures room { OnErr result (length history.old.rows ≢ history.old.limit) }
 {
     match history.undo(alloc, operator, n) {
         Ok(n) => Ok(EventReply::Committed(n)),
@@ -200,7 +227,9 @@ fn redo<O: Operation>(
     operator: Operator,
     n: u32,
 ) -> Result<EventReply, AllocError>
-    ensures { IfOk result (λ reply. Calls O.asks O.meaning history.old (operator, Redo n) history.new reply) }
+    ensures calls { IfOk result (λ reply. Calls O.asks O.meaning history.old (operator, Redo n) history.new reply) }
+    ensures kept { OnErr result (history.new ≡ history.old) }
+    ensures room { OnErr result (length history.old.rows ≢ history.old.limit) }
 {
     match history.redo(alloc, operator, n) {
         Ok(n) => Ok(EventReply::Committed(n)),
@@ -211,7 +240,8 @@ fn redo<O: Operation>(
 /// The reply to an event that made no row because the history is full. Out of memory is no reply:
 /// it is this function's error.
 fn no_row(why: CallError) -> Result<EventReply, AllocError>
-    ensures { IfOk result (λ reply. (reply ≡ replies.Full) × (why ≡ errors.Full)) }
+    ensures full { IfOk result (λ reply. (reply ≡ replies.Full) × (why ≡ errors.Full)) }
+    ensures want { OnErr result (why ≡ errors.OutOfMemory) }
 {
     match why {
         CallError::Full => Ok(EventReply::Full),

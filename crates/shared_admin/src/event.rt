@@ -9,11 +9,11 @@ use history::Operator;
 pub enum Event<O> {
     /// The slot keeps a snapshot of the history as it is. A plan in the slot stays.
     Snap(u8),
-    /// The slot keeps a plan of the operation, made on its snapshot, instead of the plan that it had.
-    /// If it has no snapshot, nothing happens.
+    /// The slot keeps a plan of the operation, made on its snapshot, instead of the plan that it
+    /// had. If it has no snapshot, nothing happens.
     Plan(u8, O),
-    /// The operator commits the slot's plan. The slot doesn't keep the plan, whether or not a row is
-    /// made.
+    /// The operator commits the slot's plan. The slot doesn't keep the plan, whether or not a row
+    /// is made.
     Commit(u8, Operator),
     /// The operator calls an operation on the tree as it is.
     Call(Operator, O),

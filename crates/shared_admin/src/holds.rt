@@ -28,8 +28,8 @@ pub enum Settled<P> {
     Stale { plan: P, at: Key },
 }
 
-/// Commits a plan. The reply is copied before the row is added, so that a row that is made is always
-/// reported.
+/// Commits a plan. The reply is copied before the row is added, so that a row that is made is
+/// always reported.
 pub(crate) fn commit<O: Operation>(
     history: &mut History<O>,
     operator: Operator,
@@ -55,8 +55,8 @@ pub(crate) fn commit<O: Operation>(
     }
 }
 
-/// Commits a plan to a history that has as many rows as it may have: the plan is stale, or it makes no
-/// row.
+/// Commits a plan to a history that has as many rows as it may have: the plan is stale, or it makes
+/// no row.
 fn commit_to_full<O: Operation>(
     history: &mut History<O>,
     operator: Operator,

@@ -1,4 +1,5 @@
-//! A history that several operators share: plans that are made on snapshots of it at leisure, what comes of them, and one lock round it.
+//! A history that several operators share: plans that are made on snapshots of it at any time, what
+//! results from them, and one lock around it.
 #![tactic(auto)]
 
 mod close;

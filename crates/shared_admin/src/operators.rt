@@ -38,7 +38,8 @@ impl Operators {
         }
     }
 
-    /// Adds an operator. Only the seventeenth and those behind it want memory; where it runs out, the list stays as it was.
+    /// Adds an operator. Only the seventeenth and later ones need memory; if it runs out, the list
+    /// stays as it was.
     pub fn push(&mut self, operator: Operator) -> Result<(), AllocError>
         ensures ok { OnOk result (self.new ≡ self.old ++ operator ∷ []) }
         ensures room { length self.old < 16 → IsOk result }

@@ -1,5 +1,5 @@
 //! One lock around a history.
-ghost use Rattle.std.specs.Prelude.{◌≡◌, [], IfOk, IfErr};
+ghost use Rattle.std.specs.Prelude.{◌≡◌, ◌≤◌, [], IfOk, IfErr};
 ghost use Rattle.history.specs.Rows.{run, calls_of};
 ghost use Rattle.shared_admin.specs.Closing.{IsClosed, IsFault};
 ghost use Rattle.shared_admin.specs.Holds.{KeepsPlan};
@@ -12,7 +12,7 @@ use crate::log::SessionLogs;
 use crate::operators::{MAX_SESSIONS, Operators, are_distinct};
 use crate::snapshot::{Snapshot, snapshot_of};
 use footprint::Operation;
-use history::{CallError, History, Operator, Plan, Uncommitted, Unrun};
+use history::{CallError, History, MAX_ROWS, Operator, Plan, Uncommitted, Unrun};
 use link_tree::Tree;
 use std::alloc::{AllocError, Global};
 use std::marker::Model;
@@ -28,10 +28,10 @@ pub enum OpenError {
     OutOfMemory,
 }
 
-/// A history that several operators share. Each call on it takes the lock once, and what happens while
-/// it is held is one step: [`History`] says which. Contracts see the tree that was given and the
-/// operators; of the history they see what its type says: whenever the lock is free, its rows are
-/// legal and its tree is their replay.
+/// A history that several operators share. Each call on it takes the lock once, and what happens
+/// while it is held is one step: [`History`] says which. Contracts see the tree that was given and
+/// the operators; of the history they see what its type says: whenever the lock is free, its rows
+/// are legal and its tree is their replay.
 #[derive(Drop)]
 pub struct SharedAdmin<O: Operation> {
     first: Tree,
@@ -55,13 +55,28 @@ impl<O: Operation> Model for SharedAdmin<O> {
 }
 
 impl<O: Operation> SharedAdmin<O> {
-    /// A history of a tree, without rows, which these operators share; it may have a million rows. The
-    /// tree that was given is kept along with it.
+    /// A history of a tree, without rows, which these operators share; it may have a million rows.
+    /// The tree that was given is kept along with it.
     ///
     /// There are at most sixteen operators, each once; there may be none. The error is
     /// `TooManySessions` if there are more, else `SameOperator` if one is in the list twice, else
     /// `OutOfMemory`.
     pub fn new(alloc: Global, tree: Tree, operators: Operators) -> Result<SharedAdmin<O>, OpenError>
+        ensures shared { IfOk result (λ admin. (admin ≡ record { first = tree; operators = operators }) × MayShare operators) }
+        ensures unshared { IfErr result (λ why. IsUnshared operators why) }
+    {
+        SharedAdmin::with_limit(alloc, tree, operators, MAX_ROWS)
+    }
+
+    /// The same, but the history may have only this many rows: 1 to 1,000,000.
+    pub fn with_limit(
+        alloc: Global,
+        tree: Tree,
+        operators: Operators,
+        limit: usize,
+    ) -> Result<SharedAdmin<O>, OpenError>
+        requires some { 1 ≤ limit }
+        requires few { limit ≤ 1000000 }
         ensures shared { IfOk result (λ admin. (admin ≡ record { first = tree; operators = operators }) × MayShare operators) }
         ensures unshared { IfErr result (λ why. IsUnshared operators why) }
     {
@@ -71,10 +86,10 @@ impl<O: Operation> SharedAdmin<O> {
         if !are_distinct(operators.as_slice()) {
             return Err(OpenError::SameOperator);
         }
-        let Ok(first) = tree.copy() else {
+        let Ok(first) = tree.share() else {
             return Err(OpenError::OutOfMemory);
         };
-        let Ok(history) = History::new(alloc, tree) else {
+        let Ok(history) = History::with_limit(alloc, tree, limit) else {
             return Err(OpenError::OutOfMemory);
         };
         Ok(SharedAdmin {
@@ -84,17 +99,17 @@ impl<O: Operation> SharedAdmin<O> {
         })
     }
 
-    /// The history as it is now: its tree, which is shared and not copied, and how many rows there are.
-    /// Fails only if memory runs out.
+    /// The history as it is now: its tree, which is shared and not copied, and how many rows there
+    /// are. Fails only if memory runs out.
     pub fn snapshot(&self, rt: &impl Wait) -> Result<Snapshot, AllocError> {
         snapshot_of(&*self.history.lock(rt))
     }
 
-    /// Commits a plan, as `History::commit` does. The new row's number and its reply are returned; a
-    /// plan that makes no row comes back.
+    /// Commits a plan, as `History::commit` does. The new row's number and its reply are returned;
+    /// a plan that makes no row comes back.
     ///
-    /// The error is `Full` if the tree agrees with all that the plan looked at and there are a million
-    /// rows, else `OutOfMemory`. No row was made then.
+    /// The error is `Full` if the tree agrees with all that the plan looked at and there are a
+    /// million rows, else `OutOfMemory`. No row was made then.
     pub fn commit(
         &self,
         rt: &impl Wait,
@@ -107,8 +122,8 @@ impl<O: Operation> SharedAdmin<O> {
         holds::commit(&mut *self.history.lock(rt), operator, plan)
     }
 
-    /// Runs an operation on the tree as it is while the lock is held, as `History::call` does. The new
-    /// row's number and its reply are returned; an operation that makes no row comes back.
+    /// Runs an operation on the tree as it is while the lock is held, as `History::call` does. The
+    /// new row's number and its reply are returned; an operation that makes no row comes back.
     ///
     /// The error is `Full` if there are a million rows, else `OutOfMemory`. No row was made then.
     pub fn call(
@@ -123,12 +138,12 @@ impl<O: Operation> SharedAdmin<O> {
         holds::call(&mut *self.history.lock(rt), alloc, operator, operation)
     }
 
-    /// Undoes the row of this number, unless that is refused, as `History::undo` does: its changes are
-    /// taken back. The lock is taken once. The new row's number and its reply are returned; the reply
-    /// is `Undid`, or `UndoRefused` with the reason.
+    /// Undoes the row of this number, unless that is refused, as `History::undo` does: its changes
+    /// are taken back. The lock is taken once. The new row's number and its reply are returned; the
+    /// reply is `Undid`, or `UndoRefused` with the reason.
     ///
-    /// The error is `Full` if there are a million rows, else `OutOfMemory`. No row was made then, and
-    /// nothing is changed.
+    /// The error is `Full` if there are a million rows, else `OutOfMemory`. No row was made then,
+    /// and nothing is changed.
     pub fn undo(
         &self,
         rt: &impl Wait,
@@ -139,13 +154,13 @@ impl<O: Operation> SharedAdmin<O> {
         holds::undo(&mut *self.history.lock(rt), alloc, operator, n)
     }
 
-    /// Redoes the row of this number, which was undone, unless that is refused, as `History::redo` does:
-    /// its changes are made again, and it is in effect at its own place. The lock is taken once. The
-    /// new row's number and its reply are returned; the reply is `Redid`, or `RedoRefused` with the
-    /// reason.
+    /// Redoes the row of this number, which was undone, unless that is refused, as `History::redo`
+    /// does: its changes are made again, and it is in effect at its own place. The lock is taken
+    /// once. The new row's number and its reply are returned; the reply is `Redid`, or
+    /// `RedoRefused` with the reason.
     ///
-    /// The error is `Full` if there are a million rows, else `OutOfMemory`. No row was made then, and
-    /// nothing is changed.
+    /// The error is `Full` if there are a million rows, else `OutOfMemory`. No row was made then,
+    /// and nothing is changed.
     pub fn redo(
         &self,
         rt: &impl Wait,
@@ -156,11 +171,11 @@ impl<O: Operation> SharedAdmin<O> {
         holds::redo(&mut *self.history.lock(rt), alloc, operator, n)
     }
 
-    /// Ends the sharing, and says whether the run is closed: each operator has one log, which has an
-    /// entry for each of its rows, in their order, with the row's request and reply, and each row was
-    /// made after all that the session had seen; there is no other log and no other row; and the
-    /// history begins with the tree that was given. History and logs come back in any case, as they
-    /// were. Takes no memory.
+    /// Ends the sharing, and says whether the run is closed: each operator has one log, which has
+    /// an entry for each of its rows, in their order, with the row's request and reply, and each
+    /// row was made after all that the session had seen; there is no other log and no other row;
+    /// and the history begins with the tree that was given. History and logs come back in any case,
+    /// as they were. Takes no memory.
     pub fn close(
         self,
         logs: SessionLogs<O>,

@@ -22,13 +22,13 @@ pub(crate) fn snapshot_of<O: Operation>(history: &History<O>) -> Result<Snapshot
     ensures { IfOk result (λ snapshot. snapshot ≡ snapshot_of O.asks O.meaning history.now) }
 {
     Ok(Snapshot {
-        tree: history.tree().copy()?,
+        tree: history.tree().share()?,
         front: history.rows().len() as u32,
     })
 }
 
-/// Runs an operation on a snapshot, which stays as it is; no history is changed. Fails only where memory runs out, and then the operation
-/// comes back.
+/// Runs an operation on a snapshot, which stays as it is; no history is changed. Fails only if
+/// memory runs out, and then hands the operation back.
 pub fn plan<O: Operation>(
     alloc: Global,
     snapshot: &Snapshot,
