@@ -17,14 +17,14 @@ const ROWS: &[u8] = b"\
     preset\tdisable a\\xff.service\\nenable a.service\\n\ta.service\tenable\n\
     preset\t\ta.service\tenable\n\
     # A line ignore is read like a line disable.\n\
-    preset\tignore a.service\ndisable *\n\ta.service\tignore\n\
-    preset\tignore a.service\ndisable *\n\tb.service\tdisable\n\
-    preset\t\t ignore \t *.service \r\n\ta.service\tignore\n\
-    preset\tignore a.service b.service\nignore\nIgnore *\n\ta.service\tenable\n\
-    preset\tenable a.service\nignore *\n\ta.service\tenable\n\
-    preset\tdisable a.service\nignore *\n\ta.service\tdisable\n\
-    preset\tignore web@*\nenable web@.service a\n\tweb@.service\tignore\n\
-    copy\tignore *\n\tweb@.service\tignore\n\
+    preset\tignore a.service\\ndisable *\\n\ta.service\tignore\n\
+    preset\tignore a.service\\ndisable *\\n\tb.service\tdisable\n\
+    preset\t\\t ignore \\t *.service \\r\\n\ta.service\tignore\n\
+    preset\tignore a.service b.service\\nignore\\nIgnore *\\n\ta.service\tenable\n\
+    preset\tenable a.service\\nignore *\\n\ta.service\tenable\n\
+    preset\tdisable a.service\\nignore *\\n\ta.service\tdisable\n\
+    preset\tignore web@*\\nenable web@.service a\\n\tweb@.service\tignore\n\
+    copy\tignore *\\n\tweb@.service\tignore\n\
     preset\t# enable a.service\\ndisable *\\n\ta.service\tdisable\n\
     preset\t; enable a.service\\ndisable *\\n\ta.service\tdisable\n\
     preset\t#enable a.service\\n;\\n\\ndisable *\\n\ta.service\tdisable\n\
