@@ -82,8 +82,8 @@ impl Slot {
         }
     }
 
-    /// By which dependency a unit that is listed at the path depends on it; `None` if the path is
-    /// no slot in a dependency directory.
+    /// How the unit of the directory depends on the unit of the slot: at `DIR/OF.wants/NAME` the unit
+    /// `OF` wants the unit `NAME`. `None` if the path is no slot in a dependency directory.
     pub fn dependency_of(path: &TreePath) -> Option<Dependency>
         ensures { result ≡ dependency_of (slot_of path.now) }
     {

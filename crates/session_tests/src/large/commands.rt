@@ -54,7 +54,7 @@ fn run_or_feed<R: Threads + Wait + Sync, G: Gate + Sync>(
 }
 
 /// What alice and bob are answered if her first call is held up until his call of this number
-/// comes, and how often she came to the gate.
+/// comes, and how often she was at the gate.
 fn text_of_meeting<R: Threads + Wait + Sync + Clock>(
     rt: &R,
     alloc: Global,
@@ -158,7 +158,7 @@ fn push_operator(lines: &mut Vec<u8>, operator: usize) -> Result<(), AllocError>
     push_turns(lines, operator, b" unmask", b" mask")
 }
 
-/// The lines of so many operators: o1, o2, and so on.
+/// The lines of this number of operators: o1, o2, and so on.
 fn lines_of_many(alloc: Global, operators: usize) -> Result<Vec<u8>, AllocError> {
     let mut lines = Vec::new(alloc);
     for before in 0..operators {

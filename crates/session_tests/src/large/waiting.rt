@@ -12,8 +12,8 @@ use std::test::Fail;
 use std::thread::Threads;
 use std::time::Clock;
 
-/// Holds alice's first call up until bob's first comes, so many milliseconds at most, and notes
-/// whether it came.
+/// Holds alice's first call up until bob's first comes, for a limited number of milliseconds, and
+/// notes whether it came.
 #[derive(Drop)]
 struct Holding<'a, R: Clock> {
     rt: &'a R,
@@ -38,7 +38,7 @@ impl<'a, R: Clock> Gate for Holding<'a, R> {
     }
 }
 
-/// So many requests of alice's, and then one of bob's.
+/// A number of requests of alice's, and then one of bob's.
 fn script_of_waiting(alloc: Global, requests: usize) -> Result<Vec<u8>, AllocError> {
     let mut script = Vec::new(alloc);
     for _ in 0..requests {
@@ -48,8 +48,8 @@ fn script_of_waiting(alloc: Global, requests: usize) -> Result<Vec<u8>, AllocErr
     Ok(script)
 }
 
-/// The logs and rows once so many requests of alice's were fed, and then one of bob's; and whether
-/// bob's was planned while alice's first was held up.
+/// The logs and rows once this number of requests of alice's were fed, and then one of bob's; and
+/// whether bob's was planned while alice's first was held up.
 fn text_of_waiting<R: Threads + Wait + Sync + Clock>(
     rt: &R,
     alloc: Global,
@@ -83,7 +83,7 @@ fn assert_waiting<R: Threads + Wait + Sync + Clock + Abort>(
 }
 
 /// While a worker is held up with one request, sixteen more wait for it. The next one isn't taken
-/// until then, and so bob's behind it isn't either.
+/// until then, and so bob's, which comes after it, isn't either.
 #[test]
 fn a_request_waits_behind_sixteen_that_wait(rt: HostRuntime) -> Result<(), Fail> {
     assert_waiting(&rt, rt.alloc(), 17, LONGEST, 1)?;
