@@ -1,4 +1,4 @@
--- Bytes that are read many at a time.
+-- Reading many bytes at a time.
 use Rattle.std.proofs.Common.{◌≡◌, ℕ, ◌+◌, ◌<◌, ◌≤◌, List, [], ◌++◌, length, take, drop, Option, Some, sym, ap, subst, ◌∙◌, arith, append_assoc, length-append}
 use Rattle.std.proofs.Math.Seq.{take-append_seam, drop-append_seam, take-append-add}
 use Rattle.std.proofs.lemmas.List.{length-take-le, take-append-le}
@@ -6,7 +6,7 @@ use Rattle.byte_streams.specs.Blocks.{IsBytes}
 use Rattle.byte_streams.specs.Streams.{GivesSome}
 use Rattle.byte_streams.proofs.Given.{gave_bytes, at_end}
 
--- what was read, before what is left
+-- what was read, followed by the remaining bytes
 abbrev pub Reached : Option (List ℕ) → Option (List ℕ) → List ℕ → Type 0
 Reached first now items = (bytes : List ℕ) → first ≡ Some bytes → (rest : List ℕ) × (now ≡ Some rest) × (items ++ rest ≡ bytes)
 
@@ -33,7 +33,7 @@ module _ (first mid : Option (List ℕ)) (items : List ℕ) (so_far : Reached fi
         let left : at.0 ≡ [] = at_end mid (gives.1 none) at.0 at.1 in
         omega (arith, length-append items at.0, ap length at.2, ap length left, few)
 
--- some room behind the front is written, and the first n of its bytes count
+-- some room after the front is written, and the first n of its bytes count
 module _ (front written rest : List ℕ) (size n : ℕ) (long : length front ≡ size) (few : n ≤ length written) where
   pub front_within : size + n ≤ length (front ++ (written ++ rest))
   front_within = omega (arith, length-append front (written ++ rest), length-append written rest)
@@ -46,6 +46,6 @@ module _ (front written rest : List ℕ) (size n : ℕ) (long : length front ≡
 pub front_size : (written rest : List ℕ) (n : ℕ) → n ≤ length written → length (take n (written ++ rest)) ≡ n
 front_size written rest n few = length-take-le n (written ++ rest) (omega (arith, few, length-append written rest))
 
--- what was put into the front of some room
+-- what was written into the front of some room
 pub given_in_front : (old new : Option (List ℕ)) (written rest : List ℕ) (n : ℕ) → n ≤ length written → GivesSome old new (take n written) → GivesSome old new (take n (written ++ rest))
 given_in_front old new written rest n few given = subst (GivesSome old new) (sym (take-append-le n written rest few)) given

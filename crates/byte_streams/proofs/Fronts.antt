@@ -1,4 +1,4 @@
--- What stands at the front of some bytes, turned round: which bytes have such a front.
+-- The converse of what is at the front of some bytes: which bytes have such a front.
 use Rattle.std.proofs.Common.{append_assoc, append-nil, ◌≡◌, ◌≢◌, ℕ, zero, suc, ◌-◌, ◌≤◌, List, [], ◌∷◌, ◌++◌, length, Option, Some, refl, sym, ap, ◌∙◌, subst, inl, inr, arith}
 use Rattle.std.specs.Prelude.{◌==◌}
 use Rattle.std.proofs.lemmas.Bool.{cases_Bool, eqb-false, eqb-true}
@@ -9,7 +9,7 @@ use Rattle.byte_streams.specs.declared.lines.Line.{Line}
 use Rattle.byte_streams.specs.declared.lines.Line.TheVariants as lines
 use Rattle.byte_streams.proofs.Pieces.{front_line-byte, front_line-end, front_line-full, front_line-line_end, line_is_open}
 
--- a line without its end, which isn't too long
+-- a line without its line end, which isn't too long
 pub record IsLine (limit : ℕ) (line : List ℕ) : Type 0 where
   pub clean : HasNoLineEnd line
   pub few : length line ≤ limit
@@ -56,7 +56,7 @@ whole_is limit bytes line rest is = subst (HasFront limit bytes) is (has_front l
 pub last_is : (limit : ℕ) (bytes line : List ℕ) → front_line limit bytes ≡ Last line → (bytes ≡ line) × IsLine limit line
 last_is limit bytes line is = subst (HasFront limit bytes) is (has_front limit bytes)
 
--- a line that was read ends with the last byte that was taken, or with the bytes
+-- a line that was read ends with the last byte that was read, or at the end of the bytes
 pub line_stops : (limit : ℕ) (old new : Option (List ℕ)) (line : Line) → ((bytes : List ℕ) → old ≡ Some bytes → IsFront line new (front_line limit bytes)) → Takes old new (StopsAt (λ taken. front_line limit taken ≡ Last taken))
 line_stops limit old new line reads bytes e = stops line (front_line limit bytes) (has_front limit bytes) (reads bytes e)
   where

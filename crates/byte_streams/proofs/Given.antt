@@ -1,4 +1,4 @@
--- What the calls of a source give, where the bytes left are known.
+-- What the calls of a source return, if the remaining bytes are known.
 use Rattle.std.proofs.Common.{◌≡◌, ℕ, ◌<◌, List, [], ◌∷◌, ◌++◌, length, take, Option, None, Some, slice_set, refl, sym, ap, ◌∙◌, arith}
 use Rattle.std.specs.Io.KnownBytes.{Keeps, Consumes, IsAtEnd}
 use Rattle.byte_streams.specs.Streams.{GivesSome}
@@ -30,7 +30,7 @@ pub at_end : (left : Option (List ℕ)) → IsAtEnd left → (rest : List ℕ) �
 at_end None h rest e = cc
 at_end (Some xs) h rest e = cc
 
--- one byte that is put into the front of some room
+-- one byte that is written into the front of some room
 pub front_set : (room : List ℕ) (b : ℕ) → 0 < length room → take 1 (slice_set room 0 b) ≡ b ∷ []
 front_set [] b some = absurd (omega arith)
 front_set (x ∷ xs) b some = refl

@@ -1,4 +1,4 @@
--- Known bytes through several calls.
+-- Known bytes across several calls.
 use Rattle.std.proofs.Common.{◌≡◌, ℕ, ◌+◌, List, ◌++◌, Option, None, Some, refl, ap, ◌∙◌, take, drop, inl, inr, arith}
 use Rattle.std.specs.Io.KnownBytes.{Keeps, Appends}
 use Rattle.byte_streams.specs.Streams.{HasCause, IsCalm, one_more}

@@ -40,7 +40,7 @@ after_bytes-cons b bs Long = refl
 after_bytes-line_end : (text : List ℕ) (room : ℕ) (rest : List ℕ) → after_bytes text (front_line room (10 ∷ rest)) ≡ Whole text rest
 after_bytes-line_end text room rest = ap (after_bytes text) (front_line-line_end room rest) ∙ ap (λ l. Whole l rest) (append-nil text)
 
--- bytes that no line end stands among
+-- bytes that contain no line end
 front_line-append : (line rest : List ℕ) (room : ℕ) → HasNoLineEnd line → length line ≤ room → front_line room (line ++ rest) ≡ after_bytes line (front_line (room - length line) rest)
 front_line-append [] rest room clean few =
     let all : room - length {A = ℕ} [] ≡ room = omega arith in
@@ -61,7 +61,7 @@ front_line-long (b ∷ bs) rest (suc room) clean many =
     ∙ ap (λ n. after_byte b (front_line n (bs ++ rest))) less ∙ ap (after_byte b) (front_line-long bs rest room (All-tail (λ b. b ≢ 10) b bs clean) (omega arith))
 
 module _ (limit : ℕ) (text : List ℕ) (clean : HasNoLineEnd text) where
-  -- while no line end came, nothing is decided
+  -- until a line end is read, nothing is decided
   pub line_is_open : length text ≤ limit → front_line limit text ≡ Last text
   line_is_open few =
       ap (front_line limit) (sym (append-nil text)) ∙ front_line-append text [] limit clean few
@@ -70,7 +70,7 @@ module _ (limit : ℕ) (text : List ℕ) (clean : HasNoLineEnd text) where
   pub line_is_whole : (rest : List ℕ) → length text ≤ limit → front_line limit (text ++ 10 ∷ rest) ≡ Whole text rest
   line_is_whole rest few = front_line-append text (10 ∷ rest) limit clean few ∙ after_bytes-line_end text (limit - length text) rest
 
--- bytes that are not none have a last one
+-- a nonempty list of bytes has a last one
 last_of : (xs : List ℕ) → 0 < length xs → (before : List ℕ) × (last : ℕ) × (xs ≡ before ++ last ∷ [])
 last_of [] some = absurd (omega arith)
 last_of (x ∷ []) some = ([], x, refl)
@@ -86,7 +86,7 @@ All-before P (b ∷ before) last (x ∷ xs) is all =
     let rest : xs ≡ before ++ last ∷ [] = cc (is) in
     All-cons P b before (subst P same (All-head P x xs all)) (All-before P before last xs rest (All-tail P x xs all))
 
--- the byte that makes a line too long is the last one taken
+-- the byte that makes a line too long is the last one read
 pub stops_too_long : (limit : ℕ) (text rest : List ℕ) → HasNoLineEnd text → length text ≡ limit + 1 → StopsAt (λ taken. front_line limit taken ≡ Last taken) text rest
 stops_too_long limit text rest clean long =
     let at = last_of text (omega (arith, long)) in

@@ -29,7 +29,7 @@ none_some a same = cc
 some_is : (a b : List ℕ) → Some a ≡ Some b → a ≡ b
 some_is a b same = cc
 
--- bytes that a prefix stands at the front of
+-- bytes that begin with a prefix
 pub prefix_is : (prefix bytes rest : List ℕ) → after_prefix prefix bytes ≡ Some rest → bytes ≡ prefix ++ rest
 prefix_is [] bytes rest is = some_is bytes rest (sym (after_none bytes) ∙ is)
 prefix_is (x ∷ xs) [] rest is = absurd (none_some rest (sym (at_end x xs) ∙ is))

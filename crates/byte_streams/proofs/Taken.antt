@@ -1,4 +1,4 @@
--- What was taken, when reading stopped.
+-- Which bytes had been read when reading stopped.
 use Rattle.std.proofs.Common.{◌≡◌, ℕ, ◌+◌, ◌<◌, List, [], ◌∷◌, ◌++◌, length, take, drop, get_or, Option, None, Some, Result, Ok, Err, refl, sym, ap, ◌∙◌, subst, inl, inr, append_assoc, take-append-drop}
 use Rattle.std.specs.Prelude.{OnErr, IsErr, IsErrAnd}
 use Rattle.std.specs.Io.KnownBytes.{Keeps}
@@ -33,7 +33,7 @@ stops_failed IsOpen (Err (errors.Fault f)) old new both takes = absurd (no both.
 stops_failed IsOpen (Err errors.ReadFault) old new both takes = takes
 stops_failed IsOpen (Err errors.OutOfMemory) old new both takes = tt
 
--- a reader that failed where one that it calls did
+-- a reader that failed because one that it calls failed
 pub failed_sooner : {X Y F : Type 0} (P Q : List ℕ → Type 0) → ((taken : List ℕ) → P taken → Q taken) → (r : Result X (ReadError F)) (r' : Result Y (ReadError F)) (e : ReadError F) (old new : Option (List ℕ)) → r ≡ Err e → r' ≡ Err e → StopsInTime P r old new → StopsInTime Q r' old new
 failed_sooner P Q weaker r r' (errors.Fault fault) old new is is' takes =
     subst (λ x. StopsInTime Q x old new) (sym is') (λ bytes e.
@@ -52,20 +52,20 @@ stops_decided IsOpen (Err (errors.Fault f)) old new calm takes = takes
 stops_decided IsOpen (Err errors.ReadFault) old new calm takes = absurd (calm refl)
 stops_decided IsOpen (Err errors.OutOfMemory) old new calm takes = tt
 
--- the bytes so far were taken, and nothing more
+-- exactly the bytes so far were read
 pub reached_kept : (first mid new : Option (List ℕ)) (items : List ℕ) (IsOpen : List ℕ → Type 0) → Reached first mid items → Keeps mid new → IsOpen items → Takes first new (λ taken rest. IsOpen taken)
 reached_kept first mid new items IsOpen so_far kept still bytes e =
     let at = so_far bytes e in
     (items, at.0, sym at.2, kept_bytes mid new kept at.0 at.1, still)
 
--- what was taken behind some bytes
+-- what was read after some bytes
 pub takes_behind : (first mid new : Option (List ℕ)) (P Q : List ℕ → List ℕ → Type 0) → Takes first mid (λ front rest. (taken after : List ℕ) → P taken after → Q (front ++ taken) after) → Takes mid new P → Takes first new Q
 takes_behind first mid new P Q before takes bytes e =
     let at = before bytes e in
     let next = takes at.1 at.3 in
     (at.0 ++ next.0, next.1, at.2 ∙ ap (λ l. at.0 ++ l) next.2 ∙ sym (append_assoc at.0 next.0 next.1), next.3, at.4 next.0 next.1 next.4)
 
--- and a reader that failed where one did that it calls behind some bytes
+-- a reader that failed because one that it calls after some bytes failed
 pub failed_later : {X Y F : Type 0} (first mid new : Option (List ℕ)) (P Q : List ℕ → Type 0) → Takes first mid (λ front rest. (taken : List ℕ) → P taken → Q (front ++ taken)) → (r : Result X (ReadError F)) (r' : Result Y (ReadError F)) (e : ReadError F) → r ≡ Err e → r' ≡ Err e → StopsInTime P r mid new → StopsInTime Q r' first new
 failed_later first mid new P Q before r r' (errors.Fault fault) is is' takes =
     let took : Takes mid new (StopsAt P) = subst (λ x. StopsInTime P x mid new) is takes in

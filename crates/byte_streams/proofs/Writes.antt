@@ -14,14 +14,14 @@ use Rattle.byte_streams.specs.declared.writing.WriteFault.{WriteFault}
 use Rattle.byte_streams.specs.Streams.{StopsIn}
 use Rattle.byte_streams.specs.Writes.{HasWritten, OrStops, Writes, Counts}
 
--- a sink that fails in some bytes fails so far behind what went out before them
+-- a sink that fails while writing some bytes fails at that offset after the bytes written before
 pub stops_behind : (before old new : Option (List ℕ)) (text bytes : List ℕ) (n m : ℕ) → Appends before old text → StopsIn old new bytes n → m ≡ length text + n → StopsIn before new (text ++ bytes) m
 stops_behind before old new text bytes n m out fault is = subst (StopsIn before new (text ++ bytes)) (sym is) (
   omega (arith, fault.0, length-append text bytes),
   subst (Appends before new) (sym (take-append-add text bytes n)) (Appends-trans _ _ _ _ _ out fault.1),
 )
 
--- where a sink fails in a text, it fails there in a longer one
+-- a sink that fails within a text fails at the same offset of a longer one
 pub stops_longer : (before new : Option (List ℕ)) (text more : List ℕ) (n : ℕ) → StopsIn before new text n → StopsIn before new (text ++ more) n
 stops_longer before new text more n stop = (
   omega (arith, stop.0, length-append text more),
@@ -34,14 +34,14 @@ module _ (before now : Option (List ℕ)) (out : BufferedWriter) (text : List �
       let none_left : length (drop out.sent text) ≡ 0 = ap length (sym has_written.1 ∙ none) in
       omega (arith, none_left, length-drop out.sent text)
 
-  -- with an empty buffer, all of it went out
+  -- with an empty buffer, all of it was written
   pub all_went_out : Appends before now text
   all_went_out = subst (Appends before now) (take_all out.sent text all_sent) has_written.2
 
   pub counted : out.sent ≡ length text
   counted = omega (arith, all_sent, has_written.0)
 
-  -- then a flush ends it
+  -- then a flush completes it
   pub flush_ends : (new : Option (List ℕ)) → Keeps now new → (r : Result (Unit {0}) WriteFault) → IfErr r (λ fault. fault.0 ≡ out.sent) → OrStops (Appends before new text) before new text r
   flush_ends new kept (Ok done) sent = appends_then_kept before now new text all_went_out kept
   flush_ends new kept (Err fault) sent = (
@@ -59,7 +59,7 @@ module _ (before now : Option (List ℕ)) (out : BufferedWriter) (text : List �
       )
   counts_on new sent (Err fault) bytes counts small = counts before text counted all_went_out small
 
--- Some of the bytes were written, and these are left.
+-- Some of the bytes were written, and these remain.
 abbrev pub IsWritten : (old now : Option (List ℕ)) → (out_old out : BufferedWriter) → (all left : List ℕ) → Type 0
 IsWritten old now out_old out all left = (front : List ℕ) × (front ++ left ≡ all) × Writes old now out_old out (Ok tt) front
 
@@ -97,7 +97,7 @@ module _ (old now new : Option (List ℕ)) (out_old out out_new : BufferedWriter
 pub all_is_written : (old now : Option (List ℕ)) (out_old out : BufferedWriter) (all : List ℕ) → IsWritten old now out_old out all [] → Writes old now out_old out (Ok tt) all
 all_is_written old now out_old out all so_far = subst (Writes old now out_old out (Ok tt)) (sym (append-nil so_far.0) ∙ so_far.1) so_far.2
 
--- what is left of some pieces begins with the next of them
+-- what remains of some pieces begins with the next of them
 pub next_piece : {X : Type 0} (f : X → List ℕ) (pieces : List X) (i : ℕ) (piece : X) → i < length pieces → flat_map f (drop i pieces) ≡ f (get_or pieces i piece) ++ flat_map f (drop (i + 1) pieces)
 next_piece f pieces i piece within = ap (flat_map f) (drop_more pieces i piece within) ∙ flat_map-cons f (get_or pieces i piece) (drop (i + 1) pieces)
 
@@ -106,7 +106,7 @@ pub is_fault : (r : Result (Unit {0}) WriteFault) (fault : WriteFault) → IsErr
 is_fault (Ok done) fault returned = absurd returned.1
 is_fault (Err e) fault returned = ap Err (sym returned.1)
 
--- with an empty buffer, and where nothing went out, the empty text was written
+-- with an empty buffer and nothing written, the empty text was written
 pub nothing_is_written : (old : Option (List ℕ)) (out : BufferedWriter) → out.buffer ≡ [] → out.sent ≡ 0 → HasWritten old old out []
 nothing_is_written old out none zero = (omega (arith, zero), none ∙ sym (drop-nil out.sent), subst (Appends old old) (sym (take-nil out.sent)) (Appends-nil old))
 
@@ -122,7 +122,7 @@ module _ (old now new : Option (List ℕ)) (out_old out out_new : BufferedWriter
       last (Ok tt) writes = all_is_written old new out_old out_new all (more_is_written old now new out_old out out_new all bytes [] whole writes)
       last (Err fault) writes = write_stops old now new out_old out out_new all bytes [] whole fault writes
 
-  -- `?` returns where the sink fails
+  -- `?` returns if the sink fails
   pub fails : (left : List ℕ) → IsWritten old now out_old out all (bytes ++ left) → (fault : WriteFault) → Writes now new out out_new (Err fault) bytes → (r : Result (Unit {0}) WriteFault) → IsErr r × IsErrAnd r (λ e. e ≡ fault) → Writes old new out_old out_new r all
   fails left so_far fault writes r returned =
       subst (λ r. Writes old new out_old out_new r all) (is_fault r fault returned) (write_stops old now new out_old out out_new all bytes left so_far fault writes)
@@ -130,6 +130,6 @@ module _ (old now new : Option (List ℕ)) (out_old out out_new : BufferedWriter
 pub next_item : {X : Type 0} (f : X → List ℕ) (items : List X) (item : X) (rest : List X) → items ≡ item ∷ rest → flat_map f items ≡ f item ++ flat_map f rest
 next_item f items item rest is = ap (flat_map f) is ∙ flat_map-cons f item rest
 
--- what `?` returns where the sink fails in the whole text
+-- what `?` returns if the sink fails in the whole text
 pub whole_fails : (old new : Option (List ℕ)) (text : List ℕ) (fault : WriteFault) (r : Result (Unit {0}) WriteFault) → IsErr r × IsErrAnd r (λ e. e ≡ fault) → StopsIn old new text fault.0 → OrStops (Appends old new text) old new text r
 whole_fails old new text fault r returned stop = subst (OrStops (Appends old new text) old new text) (is_fault r fault returned) stop

@@ -13,17 +13,18 @@ use crate::write_buffer::{BUFFER_ROOM, WriteBuffer};
 use crate::writing::{WriteFault, flush, write_all};
 use std::alloc::{AllocError, Global};
 
-/// Writes a text through a buffer of 65,536 bytes, and counts what went out. It takes all its memory at once, so that nothing but the sink can fail
-/// while the text is written.
+/// Writes a text through a buffer of 65,536 bytes, and counts the bytes written to the sink. It
+/// allocates all its memory when it is created, so that only the sink can fail while the text is
+/// written.
 #[derive(Drop)]
 pub struct BufferedWriter {
-    /// The end of the text, which is still to go out.
+    /// The end of the text, which has not been written to the sink yet.
     pub buffer: WriteBuffer,
-    /// How many bytes went out before it.
+    /// How many bytes were written to the sink before it.
     pub sent: usize,
 }
 
-/// Writes all of the bytes at once, and counts them.
+/// Writes all of the bytes directly to the sink, and counts them.
 fn write_counted<K: Sink>(bytes: &[u8], sent: &mut usize, sink: &mut K) -> Result<(), WriteFault>
     ensures counts { Counts (K.written sink.old) (K.written sink.new) sent.old sent.new result bytes.now }
     ensures counters { Accounts result (K.counters sink.old) (K.counters sink.new) }
@@ -60,11 +61,12 @@ impl BufferedWriter {
         Ok(())
     }
 
-    /// Writes these bytes behind the text so far. Some may stay in the buffer until `finish`.
+    /// Appends these bytes to the text. Some may stay in the buffer until `finish`.
     ///
     /// # Errors
     ///
-    /// A write fault, with the number of bytes of the text that went out; then the writer is not to be used again.
+    /// A write fault, with the number of bytes of the text that were written; then the writer must
+    /// not be used again.
     pub fn write<K: Sink>(&mut self, bytes: &[u8], sink: &mut K) -> Result<(), WriteFault>
         ensures writes { Writes (K.written sink.old) (K.written sink.new) self.old self.new result bytes.now }
         ensures counters { Accounts result (K.counters sink.old) (K.counters sink.new) }
@@ -79,11 +81,11 @@ impl BufferedWriter {
         Ok(())
     }
 
-    /// Writes these pieces behind the text so far, one after another.
+    /// Appends these pieces to the text, one after another.
     ///
     /// # Errors
     ///
-    /// As `write`.
+    /// The same as for `write`.
     pub fn write_pieces<K: Sink>(
         &mut self,
         pieces: &[&[u8]],
@@ -102,7 +104,8 @@ impl BufferedWriter {
     ///
     /// # Errors
     ///
-    /// A write fault, with the number of bytes of the text that went out, which are all where the sink can't be flushed.
+    /// A write fault, with the number of bytes of the text that were written; that is all of them
+    /// if flushing the sink failed.
     pub fn finish<K: Sink>(mut self, sink: &mut K) -> Result<(), WriteFault>
         ensures writes { (before : Option (List ℕ)) (text : List ℕ) → HasWritten before (K.written sink.old) self text → length text < 2 ^ 64 → OrStops (Appends before (K.written sink.new) text) before (K.written sink.new) text result }
         ensures flushed { OnOk result (K.flushed sink.new ≡ true) }

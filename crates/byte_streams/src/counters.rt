@@ -1,4 +1,4 @@
-//! What a stream counts.
+//! The counters of a stream.
 ghost use Rattle.std.specs.Prelude.{◌≡◌, ◌↔◌, ℕ, Ok, Err};
 ghost use Rattle.std.specs.IoError.{error_kind};
 ghost use Rattle.byte_streams.specs.Streams.{counters_after};
@@ -6,8 +6,8 @@ ghost use Rattle.byte_streams.specs.Streams.{counters_after};
 use crate::stream::Stop;
 use std::io::{Error, ErrorKind};
 
-/// How often a stream has failed, how often it was interrupted since the last call that wasn't, and how often at most in a row. Each stops
-/// at the largest value of its type.
+/// How often a stream has failed, how often it was interrupted since the last call that wasn't, and
+/// the longest row of interruptions. Each counter saturates at the largest value of its type.
 #[derive(Clone, Copy, Debug, Default, PartialEq, Eq)]
 pub struct Counters {
     pub failures: u64,
@@ -16,7 +16,7 @@ pub struct Counters {
 }
 
 impl Counters {
-    /// Counts a call that went well.
+    /// Counts a successful call.
     pub(crate) fn count_success(&mut self)
         ensures { self.new ≡ counters_after {T = ℕ} self.old (Ok 0) }
     {
@@ -31,7 +31,7 @@ impl Counters {
         self.interruptions = 0;
     }
 
-    /// Counts an error, and answers what it stops: an interrupted call may be made again.
+    /// Counts an error, and returns its kind: an interrupted call may be made again.
     pub(crate) fn count_error(&mut self, e: Error) -> Stop
         ensures counted { self.new ≡ counters_after {T = ℕ} self.old (Err result) }
         ensures stop { (result ≡ Stop.Interrupted) ↔ (error_kind e ≡ ErrorKind.Interrupted) }

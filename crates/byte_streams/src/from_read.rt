@@ -1,4 +1,4 @@
-//! A reader of std as a source.
+//! A std reader as a source.
 ghost use Rattle.std.specs.Prelude.{◌≡◌, ◌-◌, ◌<◌, ◌≤◌, ℕ, IfOk, OnOk, OnErr, length, take};
 ghost use Rattle.std.specs.Io.KnownBytes.{Keeps};
 ghost use Rattle.byte_streams.specs.Streams.{GivesSome, HasNoLineEnd, counters_after};
@@ -9,8 +9,8 @@ use memchr::memchr;
 use std::io;
 use std::io::BufRead;
 
-/// A reader as a source: a `BufReader` over a file or standard input, or some bytes. A caller that lends the reader loses nothing: what isn't
-/// given stays in it.
+/// A reader as a source: a `BufReader` over a file or standard input, or some bytes. A caller that
+/// lends the reader loses nothing: bytes that aren't returned stay in it.
 #[derive(Drop)]
 pub struct FromRead<R> {
     inner: R,
@@ -18,7 +18,7 @@ pub struct FromRead<R> {
 }
 
 impl<R: BufRead> FromRead<R> {
-    /// A source of the bytes that the reader has left.
+    /// A source of the reader's remaining bytes.
     pub fn new(inner: R) -> FromRead<R>
         ensures left { ⟦<FromRead<R> as Source>⟧.left result ≡ R.remaining inner }
         ensures counters { ⟦<FromRead<R> as Source>⟧.counters result ≡ record { failures = 0; interruptions = 0; longest_row = 0 } }
@@ -30,7 +30,7 @@ impl<R: BufRead> FromRead<R> {
     }
 }
 
-/// How many bytes come up to the first line end and with it, of at most so many.
+/// How many bytes there are up to and including the first line end, among at most the first N.
 #[inline]
 fn line_len(bytes: &[u8], most: usize) -> usize
     ensures count { result ≤ length bytes.now }
@@ -45,7 +45,8 @@ fn line_len(bytes: &[u8], most: usize) -> usize
     }
 }
 
-/// Puts the next bytes into the front of `room`, up to a line end and with it, and answers how many.
+/// Reads the next bytes into the front of `room`, at most through the next line end, and returns
+/// how many.
 fn read_line_bytes<R: BufRead>(reader: &mut R, room: &mut [u8]) -> io::Result<usize>
     requires { 0 < length room.old }
     ensures count { IfOk result (λ n. n ≤ length room.new) }

@@ -1,4 +1,5 @@
-//! Bytes as they come and go: sources and sinks, what interrupts them, reading lines and blocks, and writing through a buffer.
+//! Byte streams: sources and sinks, their interruptions, reading lines and blocks, and writing
+//! through a buffer.
 #![tactic(auto)]
 
 mod buffered_writer;

@@ -14,33 +14,33 @@ use crate::reading::read_some_of_line;
 use crate::stream::Source;
 use std::alloc::{AllocError, Global};
 
-/// A line as it was read, without its end.
+/// A line as it was read, without its line end.
 #[derive(Debug, Drop)]
 pub enum Line {
-    /// A line end followed.
+    /// The line has a line end.
     Whole(Vec<u8>),
-    /// The input ended.
+    /// The input ended before a line end.
     Last(Vec<u8>),
 }
 
-/// Room for most lines, in bytes, taken at once.
+/// Initial capacity for a line, in bytes; enough for most lines.
 const LINE_ROOM: usize = 128;
 
-/// How many bytes of a line are read at once.
+/// How many bytes of a line are read at a time.
 const PIECE_ROOM: usize = 128;
 
-/// What one more piece makes of a line.
+/// The state of a line after one more piece was read.
 #[derive(Clone, Copy)]
 enum Growth {
-    /// The line goes on.
+    /// The line continues.
     Further,
-    /// The line end came.
+    /// The line end was read.
     Whole,
     /// The line has more bytes than are allowed.
     TooLong,
 }
 
-/// A piece of a line without the line end, and whether it had one.
+/// A piece of a line without its line end, and whether it had one.
 fn without_end(piece: &[u8]) -> (&[u8], bool)
     requires { HasNoLineEnd (take (length piece.now - 1) piece.now) }
     ensures { IsPiece piece.now result.0.now result.1 }
@@ -51,7 +51,7 @@ fn without_end(piece: &[u8]) -> (&[u8], bool)
     }
 }
 
-/// Puts a piece of a line behind the text of the line.
+/// Appends a piece to the text of a line.
 fn push_piece(text: &mut Vec<u8>, piece: &[u8], limit: usize) -> Result<Growth, AllocError>
     requires within { vec_len text.old ≤ limit }
     requires short { length piece.now ≤ limit - vec_len text.old + 1 }
@@ -72,12 +72,14 @@ fn push_piece(text: &mut Vec<u8>, piece: &[u8], limit: usize) -> Result<Growth, 
     }
 }
 
-/// Reads up to the next LF, or to the end of the input: a line of at most `limit` bytes before its end.
+/// Reads up to the next LF, or to the end of the input: a line of at most `limit` bytes before its
+/// end.
 ///
 /// # Errors
 ///
-/// `too_long`, where more bytes than that come before an LF: no byte is read behind the first that is too many. A read fault where the source
-/// fails, or is interrupted 1,000 times in a row, before the line is decided. Want of memory.
+/// `too_long`, if there are more bytes than that before an LF: no byte is read after the first one
+/// beyond the limit. A read fault if the source fails, or is interrupted 1,000 times in a row,
+/// before the line is complete or too long. Out of memory.
 pub fn read_line<S: Source, F: Drop>(
     alloc: Global,
     source: &mut S,
@@ -91,7 +93,7 @@ pub fn read_line<S: Source, F: Drop>(
     let mut text = Vec::with_capacity(alloc, LINE_ROOM)?;
     let mut room = [0; PIECE_ROOM];
     loop {
-        // No byte is read behind the one that makes the line too long.
+        // No byte is read after the one that makes the line too long.
         let most = (limit - text.len()).min(PIECE_ROOM - 1) + 1;
         let count = read_some_of_line(source, &mut room[..most])?;
         if count == 0 {

@@ -10,10 +10,11 @@ use thiserror::Error;
 #[error("read fault")]
 pub struct ReadFault;
 
-/// Why something was not read: what is wrong with the bytes is a fault `F`; the other two say nothing of the bytes.
+/// Why something was not read: `F` is an error in the bytes; the other two don't depend on the
+/// bytes.
 #[derive(Clone, Copy, Debug, PartialEq, Eq, Hash)]
 pub enum ReadError<F> {
-    /// The bytes are not what is read.
+    /// The bytes are invalid.
     Fault(F),
     /// The source failed, or was interrupted 1,000 times in a row.
     ReadFault,

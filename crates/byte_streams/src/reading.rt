@@ -1,4 +1,4 @@
-//! Reading bytes, one or many at a time, however often the source is interrupted.
+//! Reading bytes, one or many at a time, with retries after interruptions.
 #![tactic(auto, using(crate::proofs::Known::known))]
 
 ghost use Rattle.std.specs.Prelude.{◌≡◌, ◌<◌, ◌≤◌, ◌-◌, ℕ, List, Some, None, Ok, false, length, take, if◌then◌else◌, IfOk, IfSome, OnErr};
@@ -17,7 +17,7 @@ use std::alloc::{AllocError, Global};
 ///
 /// # Errors
 ///
-/// A read fault where the source fails, or is interrupted 1,000 times in a row.
+/// A read fault if the source fails, or is interrupted 1,000 times in a row.
 #[inline]
 pub fn read_byte<S: Source>(source: &mut S) -> Result<Option<u8>, ReadFault>
     ensures next { IfOk result (GivesNext (S.left source.old) (S.left source.new)) }
@@ -34,7 +34,7 @@ pub fn read_byte<S: Source>(source: &mut S) -> Result<Option<u8>, ReadFault>
     Err(ReadFault)
 }
 
-/// Puts some of the next bytes into the front of `room`, and answers how many: 0 at the end alone.
+/// Reads some of the next bytes into the front of `room`, and returns how many: 0 only at the end.
 fn read_some<S: Source>(source: &mut S, room: &mut [u8]) -> Result<usize, ReadFault>
     requires { 0 < length room.old }
     ensures count { IfOk result (λ n. n ≤ length room.new) }
@@ -52,7 +52,8 @@ fn read_some<S: Source>(source: &mut S, room: &mut [u8]) -> Result<usize, ReadFa
     Err(ReadFault)
 }
 
-/// Puts some of the next bytes into the front of `room`, up to a line end and with it, and answers how many: 0 at the end alone.
+/// Reads some of the next bytes into the front of `room`, at most through the next line end, and
+/// returns how many: 0 only at the end.
 #[inline]
 pub(crate) fn read_some_of_line<S: Source>(
     source: &mut S,
@@ -75,7 +76,7 @@ pub(crate) fn read_some_of_line<S: Source>(
     Err(ReadFault)
 }
 
-/// So many zeros, in no more memory than they need.
+/// This number of zeros, in a list with exactly that capacity.
 fn zeros(alloc: Global, size: usize) -> Result<Vec<u8>, AllocError>
     ensures len { IfOk result (λ zeros. vec_len zeros ≡ size) }
     ensures room { IfOk result (λ zeros. vec_capacity zeros ≡ size) }
@@ -87,7 +88,7 @@ fn zeros(alloc: Global, size: usize) -> Result<Vec<u8>, AllocError>
     Ok(zeros)
 }
 
-/// Puts the next bytes into all of `room`, and answers whether there were so many.
+/// Reads the next bytes into all of `room`, and returns whether there were enough.
 fn fill<S: Source>(source: &mut S, room: &mut [u8]) -> Result<bool, ReadFault>
     ensures bytes { IfOk result (λ whole. (bytes : List ℕ) → S.left source.old ≡ Some bytes → IsBytes (length room.new) bytes (S.left source.new) (if whole then Some room.new else None)) }
     ensures taken { OnErr result (Takes (S.left source.old) (S.left source.new) (λ taken rest. length taken < length room.old)) }
@@ -104,11 +105,13 @@ fn fill<S: Source>(source: &mut S, room: &mut [u8]) -> Result<bool, ReadFault>
     Ok(true)
 }
 
-/// Reads just so many bytes, or `None` where the input ends before. No more memory is taken than they need.
+/// Reads exactly `size` bytes, or `None` if the input ends before. No more memory is allocated than
+/// they need.
 ///
 /// # Errors
 ///
-/// A read fault where the source fails, or is interrupted 1,000 times in a row, before all are read; want of memory.
+/// A read fault if the source fails, or is interrupted 1,000 times in a row, before all are read;
+/// out of memory.
 pub fn read_bytes<S: Source, F>(
     alloc: Global,
     source: &mut S,
@@ -129,11 +132,13 @@ pub fn read_bytes<S: Source, F>(
     }
 }
 
-/// Reads a prefix, byte by byte, and answers whether it was there: no byte is read behind the first that differs.
+/// Reads a prefix, byte by byte, and returns whether it was there: no byte is read after the first
+/// that differs.
 ///
 /// # Errors
 ///
-/// A read fault where the source fails, or is interrupted 1,000 times in a row, before a byte differs or all are read.
+/// A read fault if the source fails, or is interrupted 1,000 times in a row, before a byte differs
+/// or all are read.
 pub fn skip_prefix<S: Source>(prefix: &[u8], source: &mut S) -> Result<bool, ReadFault>
     ensures prefix { IfOk result (λ found. (bytes : List ℕ) → S.left source.old ≡ Some bytes → SkipsPrefix (S.left source.new) found (after_prefix prefix.now bytes)) }
     ensures missed { result ≡ Ok false → Takes (S.left source.old) (S.left source.new) (StopsAt (IsCutPrefix prefix.now)) }

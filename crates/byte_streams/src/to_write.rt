@@ -1,4 +1,4 @@
-//! A writer of std as a sink.
+//! A std writer as a sink.
 ghost use Rattle.std.specs.Prelude.{◌≡◌};
 
 use crate::counters::Counters;
@@ -14,7 +14,7 @@ pub struct ToWrite<W> {
 }
 
 impl<W: Write> ToWrite<W> {
-    /// A sink that writes behind what the writer has taken.
+    /// A sink that appends to what the writer has already accepted.
     pub fn new(inner: W) -> ToWrite<W>
         ensures written { ⟦<ToWrite<W> as Sink>⟧.written result ≡ W.contents inner }
         ensures counters { ⟦<ToWrite<W> as Sink>⟧.counters result ≡ record { failures = 0; interruptions = 0; longest_row = 0 } }

@@ -1,4 +1,4 @@
-//! Room for bytes that are to be written together.
+//! A buffer for bytes that will be written together.
 ghost use Rattle.std.specs.Prelude.{◌≡◌, ◌+◌, ◌≤◌, ◌++◌, [], length, IfOk};
 
 use std::alloc::{AllocError, Global};
@@ -7,7 +7,7 @@ use std::marker::Model;
 /// How many bytes a buffer holds.
 pub(crate) const BUFFER_ROOM: usize = 65536;
 
-/// Up to 65,536 bytes, in memory that is taken at once. Contracts see the bytes.
+/// Up to 65,536 bytes, in memory that is allocated once. Contracts see the bytes.
 #[derive(Drop)]
 pub struct WriteBuffer {
     room: Vec<u8>,
@@ -42,7 +42,7 @@ impl WriteBuffer {
         &self.room[..self.used]
     }
 
-    /// How many bytes more it can hold.
+    /// How many more bytes it can hold.
     pub(crate) fn room(&self) -> usize
         ensures { result + length self.now ≡ BUFFER_ROOM }
     {

@@ -1,4 +1,4 @@
-//! Writing all of some bytes, however often the sink is interrupted.
+//! Writing all of some bytes, with retries after interruptions.
 #![tactic(auto, using(crate::proofs::Known::known))]
 
 ghost use Rattle.std.specs.Prelude.{◌≡◌, ◌<◌, true, length, OnOk, IfErr};
@@ -7,11 +7,13 @@ ghost use Rattle.byte_streams.specs.Streams.{Accounts, StopsIn, WritesSome};
 
 use crate::stream::{MAX_INTERRUPTIONS, Sink, Stop};
 
-/// The sink failed, or was interrupted 1,000 times in a row, after so many bytes had gone out.
+/// The sink failed, or was interrupted 1,000 times in a row, after this number of bytes had been
+/// written.
 #[derive(Clone, Copy, Debug, PartialEq, Eq)]
 pub struct WriteFault(pub usize);
 
-/// Writes some of the bytes, at least one. None went out where it answers a fault, of 0 bytes.
+/// Writes some of the bytes, at least one. On a write fault, which then reports 0 bytes, none was
+/// written.
 fn write_some<K: Sink>(bytes: &[u8], sink: &mut K) -> Result<usize, WriteFault>
     requires { 0 < length bytes.now }
     ensures bytes { WritesSome (K.written sink.old) (K.written sink.new) result bytes.now }
@@ -28,7 +30,7 @@ fn write_some<K: Sink>(bytes: &[u8], sink: &mut K) -> Result<usize, WriteFault>
     Err(WriteFault(0))
 }
 
-/// Flushes the sink, behind so many bytes that have gone out.
+/// Flushes the sink, after this number of bytes has been written.
 pub(crate) fn flush<K: Sink>(sent: usize, sink: &mut K) -> Result<(), WriteFault>
     ensures bytes { Keeps (K.written sink.old) (K.written sink.new) }
     ensures fault { IfErr result (λ fault. fault.0 ≡ sent) }

@@ -1,5 +1,5 @@
-//! Tests of `slot_commands`, `install_commands` and `states`, from outside: with tests of its own a crate would be proved
-//! twice. Each is a text of rows, and `questions` says what a row asks.
+//! Tests of `slot_commands`, `install_commands` and `states`, from outside: with tests of its own a
+//! crate would be proved twice. Each is a text of rows, and `questions` says what a row checks.
 #![tactic(auto)]
 
 #[cfg(test)]

@@ -1,4 +1,5 @@
-//! Lines as users write them: a verb, options and arguments, with a space between words. And lines of answers.
+//! Lines as users write them: a verb, options and arguments, separated by spaces. And lines of
+//! answers.
 use footprint::Units;
 use link_tree::Scope;
 use sample_values::name;
@@ -26,7 +27,7 @@ pub(crate) fn has_verb(line: &[u8], verb: &[u8]) -> bool {
     first_word(line).0 == verb
 }
 
-/// The lines before and behind a comma.
+/// The lines before and after a comma.
 pub(crate) fn two_lines(line: &[u8]) -> (&[u8], &[u8]) {
     let (first, second) = cut(line, b',');
     (first, second.trim_ascii_start())

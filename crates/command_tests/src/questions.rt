@@ -1,19 +1,21 @@
-//! What rows ask of operations.
+//! What rows check about operations.
 //!
-//! A row is KIND, LINE, TREE and ANSWER. LINE is an operation as users write it, or two with a comma between them, which are
-//! run one after the other (`Then`). TREE names one of the inventories beside the rows; it is empty for the first of them.
+//! A row is KIND, LINE, TREE and ANSWER. LINE is an operation as users write it, or two separated
+//! by a comma, which are run one after the other (`Then`). TREE names one of the inventories given
+//! with the rows; it is empty for the first of them.
 //!
-//! - `run`: what a command results in, with `- ` before an entry that is removed and `+ ` before one that is placed
-//! - `ask`: what a question answers
+//! - `run`: what a command results in, with `- ` before an entry that is removed and `+ ` before
+//!   one that is placed
+//! - `ask`: the answer to a question
 //! - `reads`: the keys that the operation looks at, each on a line
 //! - `same`: whether LINE is the same operation as another line, which is there instead of TREE
 //!
-//! An answer has no line end behind its last line.
+//! An answer has no line end after its last line.
 use crate::lines::two_lines;
 use crate::outcomes::outcome_text;
 use crate::readings::keys_text;
 use footprint::{Operation, Outcome, Then};
-use link_tree::Tree;
+use link_tree::{ToWrite, Tree, write_inventory};
 use sample_rows::{Row, unlike};
 use sample_values::tree;
 use std::alloc::{AllocError, Global};
@@ -44,11 +46,30 @@ pub(crate) fn outcome<O: Operation>(
     Ok(Box::new(alloc, operation.run(alloc, tree)?)?)
 }
 
+/// The inventory of a tree.
+fn inventory_of(alloc: Global, tree: &Tree) -> Result<Vec<u8>, AllocError> {
+    let mut text = Vec::new(alloc);
+    match write_inventory(alloc, tree, &mut ToWrite::new(&mut text)) {
+        Ok(()) => Ok(text),
+        Err(_) => Err(AllocError),
+    }
+}
+
+/// What an operation results in. If memory runs out, the operation and the tree are as they were,
+/// and the operation is run again.
 fn result_text<O: Operation>(
     alloc: Global,
     operation: &O,
     tree: &Tree,
 ) -> Result<Vec<u8>, AllocError> {
+    let copy = operation.copy()?;
+    let before = inventory_of(alloc, tree)?;
+    if let Ok(outcome) = outcome(alloc, operation, tree) {
+        return outcome_text(alloc, &outcome);
+    }
+    if !operation.same(&copy) || inventory_of(alloc, tree)? != before {
+        return Vec::from_slice(alloc, b"what was given is changed");
+    }
     let outcome = outcome(alloc, operation, tree)?;
     outcome_text(alloc, &outcome)
 }
@@ -62,13 +83,13 @@ fn keys_read<O: Operation>(
     keys_text(alloc, &outcome)
 }
 
-/// Whether a copy of an operation is the same, and as much a question as is said.
+/// Whether a copy of an operation is the same, and is a question or not, as `asks_only` says.
 fn is_copied<O: Operation>(operation: &O, asks_only: bool) -> Result<bool, AllocError> {
     let copy = operation.copy()?;
     Ok(copy.same(operation) && copy.asks_only() == asks_only)
 }
 
-/// What an operation results in, if it is copied and is a question or not as is said.
+/// What an operation results in, if it is copied and is a question or not, as `asks_only` says.
 pub(crate) fn checked_result<O: Operation>(
     alloc: Global,
     operation: &O,
@@ -146,12 +167,12 @@ pub(crate) fn asked<O: OfLine>(
     asked_in::<O>(alloc, row, &tree)
 }
 
-/// The answer to a row whose line has no verb of the subject's.
+/// The answer to a row whose line has none of the verbs.
 pub(crate) fn no_such_verb(alloc: Global) -> Result<Vec<u8>, AllocError> {
     Vec::from_slice(alloc, b"no such verb here")
 }
 
-/// Each row is answered as it says.
+/// Every row gets the answer that it states.
 pub(crate) fn assert_rows<F>(
     rt: &impl Abort,
     alloc: Global,

@@ -1,4 +1,4 @@
--- Commands that are carried out keep the laws of operations.
+-- Commands that are carried out obey the laws of operations.
 use Rattle.std.proofs.Common.{◌≡◌, true, false, List, [], ◌++◌, All, Contains, Result, Ok, Err, refl, sym, ap, ◌∙◌}
 use Rattle.std.specs.Prelude.{◌≢◌}
 use Rattle.std.specs.List.Sorted.{IsStrictlySortedBy}
@@ -44,17 +44,17 @@ module _ {C : Type 0} (command : C → Command) where
     question = λ c t asks. absurd (true≢false (sym asks));
   }
 
--- so do steps alone
+-- so do single steps
 pub laws_of_steps : {C : Type 0} (steps : C → Step) → OperationLaws (λ c. false) (λ c. carried_out (silent (steps c)))
 laws_of_steps steps = laws_of (λ c. silent (steps c))
 
--- the outcome of what was done from a tree
+-- the outcome of what was done, starting from a tree
 begun : (keys : List Key) (notices : NoticeMap) (ruling : Ruling) (t : Entries)
     → ended t keys notices (stepped ruling (t, t)) ≡ record { answer = (effect t notices ruling).answer; changes = (effect t notices ruling).changes; reading = reading_of keys t }
 begun keys notices (Ok placed) t = refl
 begun keys notices (Err refusal) t = refl
 
--- What a command comes to that was carried out, from a tree at which nothing was looked.
+-- The outcome of a command that was carried out, starting from a tree with no keys yet.
 pub comes_to : {C : Type 0} (command : C → Command) (c : C) (t : Entries) (before after : List Key) (notices : NoticeMap) (done : Result (Entries × Entries) Refusal)
     → before ≡ [] → Carries (command c) t before after notices done → ended t after notices done ≡ outcome_of (λ c. carried_out (command c)) c t
 comes_to command c t before after notices done none carries =

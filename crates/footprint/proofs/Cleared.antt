@@ -1,4 +1,5 @@
--- Nothing is wanted at the entries of a tree, in whatever order they are gone through.
+-- The map that wants the path of every entry of a tree empty is the same in whatever order the
+-- entries are visited.
 use Rattle.std.proofs.Common.{◌≡◌, ℕ, Bool, true, false, ◌||◌, cond, List, [], ◌∷◌, All, Option, Some, None, refl, sym, ap, ◌∙◌, map as list_map}
 use Rattle.std.specs.Prelude.{IsPermutation}
 use Rattle.std.specs.FinMap as map
@@ -16,7 +17,7 @@ use Rattle.footprint.specs.Keys.{StandAtSlots}
 use Rattle.footprint.specs.Placing.{Wanted, cleared}
 use Rattle.footprint.proofs.Those.{Standing}
 
--- nothing is wanted at these either
+-- the paths of these entries must be empty too
 abbrev pub with_none : Wanted → List Standing → Wanted
 with_none wanted [] = wanted
 with_none wanted (x ∷ xs) = with_none (map.insert wanted x.0 None) xs
@@ -54,7 +55,7 @@ get-cleared : (t : Entries) (path : List ℕ) → map.get (cleared t) path ≡ c
 unfolding cleared
 get-cleared t path = get-from_entries nat_list_cmp_total (list_map bare (map.entries t)) path ∙ find_none (map.entries t) path
 
--- gone through in any order
+-- visited in any order
 pub all_cleared : (t : Entries) (xs : List Standing) → IsPermutation xs (map.entries t) → with_none map.empty xs ≡ cleared t
 all_cleared t xs same = same_map nat_list_cmp_total exact_bytes _ _ (λ path.
     get-with_none map.empty xs path
@@ -62,7 +63,7 @@ all_cleared t xs same = same_map nat_list_cmp_total exact_bytes _ _ (λ path.
     ∙ ap (λ b. cond b (Some None) None) (list_any-IsPermutation (λ (x : Standing). eq_by_cmp path_cmp path x.0) xs (map.entries t) same)
     ∙ sym (get-cleared t path))
 
--- each of them stands at a slot
+-- each of them is at a slot
 pub all_at_slots : (t : Entries) (xs : List Standing) → StandAtSlots t → IsPermutation xs (map.entries t) → All (λ x. is_slot x.0 ≡ true) xs
 all_at_slots t xs slots same =
     All-permutation (λ x. is_slot x.0 ≡ true) (map.entries t) xs (IsPermutation-sym xs (map.entries t) same)

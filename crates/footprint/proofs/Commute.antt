@@ -1,4 +1,4 @@
--- Two commands that touch nothing of what the other looks at may change places.
+-- Two commands that touch nothing at which the other looks can be swapped.
 use Rattle.std.proofs.Common.{◌≡◌, Bool, List, sym, ap, subst, ◌∙◌}
 use Rattle.link_tree.specs.declared.change.Change.{Change}
 use Rattle.link_tree.specs.Trees.{Entries, AreFrom, after_changes, inverse_of}

@@ -1,4 +1,4 @@
--- Trees that are edited.
+-- Trees that are being edited.
 use Rattle.std.proofs.Common.{◌≡◌, ℕ, true, List, [], ◌∷◌, Option, refl, sym, ◌∙◌, ap}
 use Rattle.std.specs.FinMap as map
 use Rattle.link_tree.specs.declared.entry.Entry.{Entry}
@@ -20,7 +20,7 @@ begun t = record {
   at_slots = λ path off. refl;
 }
 
--- one entry more is set, and the change noted
+-- one more entry is set, and the change recorded
 pub one_more : (first tree : Entries) (changes : map.FinMap path_cmp Change) → IsEdit first tree changes
     → (slot : List ℕ) (entry : Option Entry) → is_slot slot ≡ true → IsEdit first (set_entry tree slot entry) (with_change changes slot (map.get first slot) entry)
 one_more first tree changes edit slot entry here = record {
@@ -28,12 +28,12 @@ one_more first tree changes edit slot entry here = record {
   at_slots = set_at_slot first tree slot entry here edit.at_slots;
 }
 
--- changes that are noted, from a tree on
+-- recording changes that start from a tree
 noted_after : (t u : Entries) (cs : List Change) → noted (differences t u) t cs ≡ differences t (after_changes cs u)
 noted_after t u [] = refl
 noted_after t u (c ∷ cs) = ap (λ net. noted net t cs) (differences-set t u c.path c.after) ∙ noted_after t (set_entry u c.path c.after) cs
 
--- all that are noted are the net changes
+-- the recorded changes of both lists are the net changes
 pub net_noted : (t : Entries) (cs ds : List Change) → AreChanges t cs → AreChanges (after_changes cs t) ds → map.values (noted (noted map.empty t cs) t ds) ≡ net cs ds
 unfolding changes_between
 net_noted t cs ds first second =

@@ -17,7 +17,7 @@ use Rattle.footprint.specs.Readings.{observed}
 use Rattle.footprint.specs.declared.key.Key.TheVariants.{Cell, Marked, Presets, Links}
 use Rattle.footprint.specs.Seeing.{SeesTheSame, walks}
 
--- what is chosen among more that is chosen is what is chosen of all
+-- choosing among entries of a wider choice gives the same as choosing among all
 chosen_again : (chosen more : Chosen) (path : List ℕ) (there : Option Entry) → ((entry : Entry) → chosen path entry ≡ true → more path entry ≡ true)
     → chosen_at chosen path (chosen_at more path there) ≡ chosen_at chosen path there
 chosen_again chosen more path None wider = refl
@@ -30,7 +30,7 @@ chosen_again chosen more path (Some entry) wider = elim (cases_Bool (more path e
     unchosen true here away = absurd (true≢false (sym (wider entry here) ∙ away))
     unchosen false here away = ap (λ b. cond b (Some entry) None) here
 
--- A key that looks at no more than others sees the same of what these look at.
+-- A key that looks at no more than others sees the same in what these look at.
 pub part_of_those : (key : Key) (more : Chosen) (t : Entries) → ((path : List ℕ) (entry : Entry) → selects key path entry ≡ true → more path entry ≡ true)
     → part key (those more t) ≡ part key t
 part_of_those key more t wider = same_tree _ _ (λ path.
@@ -39,7 +39,7 @@ part_of_those key more t wider = same_tree _ _ (λ path.
     ∙ chosen_again (selects key) more path (map.get t path) (wider path)
     ∙ sym (get-part key t path))
 
--- those of the keys for which all entries are gone through
+-- those of the keys for which all entries are scanned
 abbrev pub walkers_of : List Key → List Key
 walkers_of keys = filter walks keys
 
@@ -59,14 +59,14 @@ module _ (path : List ℕ) (entry : Entry) where
       (λ walking here. ap (λ b. any_selects (cond b (key ∷ walkers_of keys) (walkers_of keys)) path entry) walking ∙ or_left (selects key path entry) (any_selects (walkers_of keys) path entry) here)
       (All-weaker (IsSelected keys) (IsSelected (key ∷ keys)) (λ k selected walking here. one_more (walks key) key (walkers_of keys) (selected walking here)) keys (all_selected keys))
 
--- Keys see the same of what those among them look at for which all entries are gone through,
+-- Keys see the same in the entries at which those of them look for which all entries are scanned,
 pub gathered_shows : (keys : List Key) (t : Entries) → All (SeesTheSame (those (any_selects (walkers_of keys)) t) t) keys
 gathered_shows keys t =
     All-weaker (Contains keys) (SeesTheSame (those (any_selects (walkers_of keys)) t) t)
     (λ key among walking. part_of_those key (any_selects (walkers_of keys)) t (λ path entry here. All-contains (IsSelected path entry keys) keys key (all_selected path entry keys) among walking here))
     keys (All-contains_itself keys)
 
--- and of the tree itself.
+-- and in the tree itself.
 pub tree_shows : (keys : List Key) (t : Entries) → All (SeesTheSame t t) keys
 tree_shows keys t = All-weaker (Contains keys) (SeesTheSame t t) (λ key among walking. refl) keys (All-contains_itself keys)
 
@@ -79,7 +79,7 @@ no_cells keys = All-weaker (λ key. walks key ≡ true) (λ key. is_cell key ≡
     walks_no_cell Presets h = refl
     walks_no_cell Links h = refl
 
--- one key more is read
+-- one more key is read
 pub one_read : (t : Entries) (reading longer all : List Observation) (key : Key) (here : Seen) (left rest : List Key) → longer ≡ reading ++ record { key = key; seen = here } ∷ [] → here ≡ seen key t → left ≡ key ∷ rest
     → reading ++ list_map (observed t) left ≡ all → longer ++ list_map (observed t) rest ≡ all
 one_read t reading longer all key here left rest pushed sees next so_far =

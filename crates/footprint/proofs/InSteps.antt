@@ -1,4 +1,4 @@
--- What two operations leave, one after the other, and three.
+-- The outcome of two operations, one after the other, and of three.
 use Rattle.std.proofs.Common.{◌≡◌, Bool, true, false, cond, List, [], ◌++◌, map as list_map, All, refl, sym, ap, subst, ◌∙◌}
 use Rattle.std.proofs.lemmas.Bool.{cases_Bool, false≢true}
 use Rattle.std.proofs.Common.{inl, inr}
@@ -26,7 +26,7 @@ use Rattle.footprint.proofs.KeySets.{in_order-both}
 use Rattle.footprint.proofs.Outcomes.{keys_of_reading, untouched_keys}
 use Rattle.footprint.proofs.Untouched.{agree_on_untouched}
 
--- nothing comes after a refusal
+-- nothing follows a refusal
 continued_off : (q : Inquiry Effect) (e : Effect) → is_refused e.answer ≡ true → continued q e ≡ over e
 continued_off q e refused = ap (λ b. cond b (over e) (giving (after e.changes q) (effect_of_both e))) refused
 
@@ -41,7 +41,7 @@ none_of_both a b refused = ap (λ r. cond r [] (net a.changes b.changes)) refuse
 
 module _ {A B : Type 0} {asks_first : A → Bool} {asks_second : B → Bool} {first : A → Inquiry Effect} {second : B → Inquiry Effect}
     (one : OperationLaws asks_first first) (two : OperationLaws asks_second second) where
-  -- both accepted, their changes are those from the first tree to the last
+  -- if both are accepted, their changes are those from the first tree to the last
   changes_are : (c : Then A B) (t : Entries)
       → let a = (first c.first).conclusion t in
       let u = after_changes a.changes t in
@@ -67,7 +67,7 @@ module _ {A B : Type 0} {asks_first : A → Bool} {asks_second : B → Bool} {fi
       let same = ((second c.second).agreement t (after_changes a.changes t) agree).0 in
       ap (λ (q : Inquiry Effect). (q.conclusion t).answer) (continued_on (second c.second) a a_accepted) ∙ ap (λ (b : Effect). answer_of_both a.answer b.answer) (sym same)
 
-  -- the outcome of both, as it is made of those of each
+  -- the outcome of both, computed from the outcomes of each
   pub then_outcome : (c : Then A B) (t : Entries) → is_refused (outcome_of first c.first t).answer ≡ false
       → outcome_of_both t (outcome_of first c.first t) (outcome_of second c.second (after_changes (outcome_of first c.first t).changes t)) ≡ outcome_of (then_meaning first second) c t
   then_outcome c t accepted =
@@ -81,7 +81,7 @@ module _ {A B : Type 0} {asks_first : A → Bool} {asks_second : B → Bool} {fi
       ap (λ ks. record { answer = e.answer; changes = e.changes; reading = list_map (observed t) ks }) keys
       ∙ sym (ap (λ (q : Inquiry Effect). record { answer = (q.conclusion t).answer; changes = (q.conclusion t).changes; reading = reading_of (before ++ q.keys t) t }) (continued_on (second c.second) a accepted))
 
-  -- it changes slots alone, where each does
+  -- it changes only slots, if each does
   pub then_at_slots : (c : Then A B) (t : Entries)
       → All (λ change. is_slot change.path ≡ true) (outcome_of first c.first t).changes
       → All (λ change. is_slot change.path ≡ true) (outcome_of second c.second (after_changes (outcome_of first c.first t).changes t)).changes
@@ -91,7 +91,7 @@ module _ {A B : Type 0} {asks_first : A → Bool} {asks_second : B → Bool} {fi
       both_at t ((first c.first).conclusion t) ((second c.second).conclusion u) ((first c.first).keys t) ((second c.second).keys u) (sound_of one c.first t) (sound_of two c.second u)
       (λ path. is_slot path ≡ true) at_first at_second
 
--- the answers of three, the second of which is done
+-- the answers of three, if the second is a command and is accepted
 answers_in_steps : (a b c : Answer) → is_question b ≡ false → is_refused b ≡ false → answer_of_both (answer_of_both a b) c ≡ answer_of_both a (answer_of_both b c)
 answers_in_steps (Done m) (Done n) (Done k) command accepted = ap Done (joined-joined m n k)
 answers_in_steps (Done m) (Done n) (State word) command accepted = refl
@@ -130,7 +130,7 @@ module _ (qa qb qc : Inquiry Effect) (t : Entries) where
   abbrev other : Inquiry Effect
   other = followed_by qa (followed_by qb qc)
 
-  -- the first two, and what comes of them
+  -- the first two together
   abbrev two : Effect
   two = (followed_by qa qb).conclusion t
 

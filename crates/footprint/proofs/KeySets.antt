@@ -27,7 +27,7 @@ is_equal Greater h = absurd (true≢false (sym h))
 same_key : (key other : Key) → eq_by_cmp key_cmp key other ≡ true → key ≡ other
 same_key key other h = exact_keys key other (is_equal (key_cmp key other) h)
 
--- whether a key is one of these
+-- whether a key is in this list
 abbrev pub is_among : List Key → Key → Bool
 is_among keys key = list_any (eq_by_cmp key_cmp key) keys
 
@@ -38,7 +38,7 @@ one_mark : (a b : Bool) → cond a (Some tt) (mark b) ≡ mark (a || b)
 one_mark true b = refl
 one_mark false b = refl
 
--- what a set of keys has at a key
+-- the value of a set of keys at a key
 pub get-set_of : (keys : List Key) (key : Key) → map.get (set_of keys) key ≡ mark (is_among keys key)
 get-set_of [] key = map.get-empty key_cmp key
 get-set_of (k ∷ ks) key =
@@ -48,19 +48,19 @@ marked : (b : Bool) → is_some (mark b) ≡ b
 marked true = refl
 marked false = refl
 
--- a test finds among the keys in order what it finds among the keys
+-- a key is in the ordered list exactly if it is in the list
 any-in_order : (keys : List Key) (key : Key) → is_among (in_order keys) key ≡ is_among keys key
 unfolding in_order
 any-in_order keys key = sym (map.contains_key-keys (set_of keys) key) ∙ ap is_some (get-set_of keys key) ∙ marked (is_among keys key)
 
--- the keys in order are the keys
+-- the ordered list of keys contains each of the keys
 pub Contains-in_order : (keys : List Key) (key : Key) → Contains keys key → Contains (in_order keys) key
 Contains-in_order keys key here = Contains-from_any same_key key (in_order keys) (any-in_order keys key ∙ list_any-from_Contains (eq_by_cmp_equiv key_cmp_total) key keys here)
 
 pub in_order-Contains : (keys : List Key) (key : Key) → Contains (in_order keys) key → Contains keys key
 in_order-Contains keys key here = Contains-from_any same_key key keys (sym (any-in_order keys key) ∙ list_any-from_Contains (eq_by_cmp_equiv key_cmp_total) key (in_order keys) here)
 
--- what holds of all keys holds of all in order
+-- what holds for all keys holds for all keys in order
 pub All-in_order : (P : Key → Type 0) (keys : List Key) → All P keys → All P (in_order keys)
 All-in_order P keys all = All-weaker (Contains (in_order keys)) P (λ key here. All-contains P keys key all (in_order-Contains keys key here)) (in_order keys) (All-contains_itself (in_order keys))
 
@@ -68,7 +68,7 @@ pub All-in_set : (P : Key → Type 0) (keys : List Key) → All P keys → All P
 unfolding in_order
 All-in_set P keys all = All-in_order P keys all
 
--- and the other way
+-- and the converse
 pub in_order-All : (P : Key → Type 0) (keys : List Key) → All P (in_order keys) → All P keys
 in_order-All P keys all = All-weaker (Contains keys) P (λ key here. All-contains P (in_order keys) key all (Contains-in_order keys key here)) keys (All-contains_itself keys)
 
@@ -92,14 +92,14 @@ plain (k ∷ ks) = ap (λ rest. k ∷ rest) (plain ks)
 pub same_keys : (one other : KeySet) → ((key : Key) → map.get one key ≡ map.get other key) → one ≡ other
 same_keys one other h = map.same_map key_cmp_total exact_keys one other h
 
--- keys in order are those of their set
+-- a list of keys that is in order is the list of the keys of its set
 pub keys_again : (keys : List Key) → IsStrictlySortedBy key_cmp keys → map.keys (set_of keys) ≡ keys
 keys_again keys h =
     ap map.keys (same_keys _ _ (λ key. map.get-from_entries key_cmp_total (list_map entry keys) key ∙ sym (map.get-from_sorted key_cmp (list_map entry keys) key (sorted keys h))))
     ∙ ap (list_map (λ e. e.0)) (map.entries-from_sorted key_cmp (list_map entry keys) (sorted keys h))
     ∙ plain keys
 
--- keys with one more among them are the set with that key
+-- a set of keys with one more key is the old set with that key inserted
 pub one_more : (old new : BTreeSet Key) (key : Key) → ((q : Key) → contains key_cmp new q ≡ cond (eq_by_cmp key_cmp key q) true (contains key_cmp old q))
     → set_of new.keys ≡ map.insert (set_of old.keys) key tt
 one_more old new key h = same_keys _ _ (λ q.
@@ -115,7 +115,7 @@ one_more old new key h = same_keys _ _ (λ q.
     get-set_of-more : (q : Key) → map.get (set_of (key ∷ old.keys)) q ≡ map.get (map.insert (set_of old.keys) key tt) q
     get-set_of-more q = refl
 
--- Keys are in a set or are still to come, exactly where they are among all.
+-- A key is in the set or remains to be added exactly if it is in the list of all.
 abbrev pub AreGathered : KeySet → (rest all : List Key) → Type 0
 AreGathered these rest all = (q : Key) → cond (is_among rest q) (Some tt) (map.get these q) ≡ mark (is_among all q)
 
@@ -142,7 +142,7 @@ among-append (k ∷ ks) more key = ap (λ b. eq_by_cmp key_cmp key k || b) (amon
     or_assoc true y z = refl
     or_assoc false y z = refl
 
--- keys in order, and more of them in order, are all of them in order
+-- ordering the ordered lists joined is the same as ordering the two lists joined
 pub in_order-both : (keys more : List Key) → in_order (in_order keys ++ in_order more) ≡ in_order (keys ++ more)
 unfolding in_order
 in_order-both keys more = ap map.keys (same_keys (set_of (in_order keys ++ in_order more)) (set_of (keys ++ more)) (λ key.
@@ -157,7 +157,7 @@ none_there = no_length _ (sym (map.len-entries map.empty) ∙ map.len-empty key_
     no_length [] h = refl
     no_length (x ∷ xs) h = cc
 
--- one key is in order
+-- a single key is in order
 pub one_in_order : (key : Key) → in_order (key ∷ []) ≡ key ∷ []
 unfolding in_order
 one_in_order key = ap (list_map (λ (e : Key × Unit {0}). e.0)) (map.entries-insert key_cmp_total map.empty key tt ∙ ap (put key_cmp key tt) none_there)

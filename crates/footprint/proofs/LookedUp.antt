@@ -1,4 +1,4 @@
--- The links that belong to names are found by these.
+-- The links that belong to names are found by look-ups of these names.
 use Rattle.std.proofs.Common.{◌≡◌, ℕ, Bool, true, false, cond, List, [], ◌∷◌, All, Option, Some, None, refl, sym, ap, ◌∙◌, subst, inl, inr, ◌⊎◌}
 use Rattle.std.specs.Prelude.{not, ◌||◌, map as list_map}
 use Rattle.std.specs.Str.{bytes_eq}
@@ -23,7 +23,7 @@ use Rattle.footprint.specs.KeyLaws.{get-those, part_is}
 use Rattle.footprint.specs.Seeing.{StandsIn, AllStand, is_marked, marked_by, placed_in, taken, taken_all, taken_for}
 use Rattle.footprint.proofs.Those.{some_is, shown_there}
 
--- what is found of entries and chosen is among those that are chosen
+-- an entry that is in the list and is chosen is among the chosen ones
 among_kept : (f : List ℕ → Entry → Bool) (es : List (List ℕ × Entry)) (q : List ℕ) (e : Entry) → find path_cmp q es ≡ Some e → f q e ≡ true → list_any (bytes_eq q) (list_map (λ x. x.0) (filter (λ x. f x.0 x.1) es)) ≡ true
 among_kept f [] q e found chosen = some_is e found
 among_kept f (x ∷ es) q e found chosen = elim (cases_Bool (eq_by_cmp path_cmp q x.0)) [
@@ -97,7 +97,7 @@ module _ (chosen : Chosen) (t : Entries) where
     ]
   ]
 
--- what one of the keys looks at is listed under the name of one
+-- an entry at which one of the keys looks is listed under the name of one of them
 listed_for : (keys : List Key) (t : Entries) (q : List ℕ) (e : Entry) → All (λ key. is_marked key ≡ true) keys → map.get t q ≡ Some e → any_selects keys q e ≡ true → is_listed (any_selects keys) t keys q ≡ true
 listed_for [] t q e marked there here = absurd (true≢false (sym here))
 listed_for (key ∷ keys) t q e marked there here = elim (cases_Bool (selects key q e)) [
@@ -111,7 +111,7 @@ listed_for (key ∷ keys) t q e marked there here = elim (cases_Bool (selects ke
     by_key Presets is this = absurd (true≢false (sym is))
     by_key Links is this = absurd (true≢false (sym is))
 
--- all that the keys look at was looked up
+-- everything at which the keys look was looked up
 pub looked_up_those : (keys : List Key) (t : Entries) → All (λ key. is_marked key ≡ true) keys → taken_for (any_selects keys) t keys map.empty ≡ those (any_selects keys) t
 looked_up_those keys t marked = same_tree _ _ (λ q. by_shown q (chosen_at (any_selects keys) q (map.get t q)) refl ∙ sym (get-those (any_selects keys) t q))
   where
@@ -120,7 +120,7 @@ looked_up_those keys t marked = same_tree _ _ (λ q. by_shown q (chosen_at (any_
     by_shown q (Some e) on = (let there = shown_there (any_selects keys) q (map.get t q) e on in
         for_on (any_selects keys) t keys map.empty q e on (inr (listed_for keys t q e marked there.0 there.1)) ∙ sym on)
 
--- what one key looks at
+-- the entries at which a single key looks
 pub those_of_one : (key : Key) (t : Entries) → those (any_selects (key ∷ [])) t ≡ part key t
 those_of_one key t = same_tree _ _ (λ q. get-those (any_selects (key ∷ [])) t q ∙ same q (map.get t q) ∙ sym (get-those (selects key) t q)) ∙ sym (part_is key t)
   where
@@ -132,7 +132,7 @@ those_of_one key t = same_tree _ _ (λ q. get-those (any_selects (key ∷ [])) t
     same q None = refl
     same q (Some e) = ap (λ b. cond b (Some e) None) (or_none (selects key q e))
 
--- keys none of which is another look at the links that belong to names
+-- if no key is of another kind, all look at the links that belong to names
 pub all_marked : (keys : List Key) → list_any (λ key. not (is_marked key)) keys ≡ false → All (λ key. is_marked key ≡ true) keys
 all_marked [] none = All-nil (λ key. is_marked key ≡ true)
 all_marked (key ∷ keys) none = elim (cases_Bool (is_marked key)) [
@@ -143,7 +143,7 @@ all_marked (key ∷ keys) none = elim (cases_Bool (is_marked key)) [
 pub one_marked : (key : Key) → is_marked key ≡ true → All (λ key. is_marked key ≡ true) (key ∷ [])
 one_marked key marked = All-cons (λ key. is_marked key ≡ true) key [] marked (All-nil (λ key. is_marked key ≡ true))
 
--- such keys are no cells
+-- such keys aren't cells
 pub marked_no_cells : (keys : List Key) → All (λ key. is_marked key ≡ true) keys → All (λ key. is_cell key ≡ false) keys
 marked_no_cells keys marked = All-weaker (λ key. is_marked key ≡ true) (λ key. is_cell key ≡ false) (λ key. no_cell key) keys marked
   where
@@ -153,7 +153,7 @@ marked_no_cells keys marked = All-weaker (λ key. is_marked key ≡ true) (λ ke
     no_cell Presets h = absurd (true≢false (sym h))
     no_cell Links h = absurd (true≢false (sym h))
 
--- what belongs to a name stands in another tree where all that is listed under it does
+-- the links that belong to a name are in another tree if all paths listed under it are
 pub listed_stand : (scope : Scope) (name : List ℕ) (t u : Entries) → All (StandsIn (Marked scope name) t u) (belonging scope name t) → AllStand (Marked scope name) t u
 listed_stand scope name t u all path entry there here = at_path (belonging scope name t) all (listed_under scope name t path entry there here)
   where

@@ -1,4 +1,4 @@
--- Two readings that become one, key by key.
+-- Two readings that are merged into one, key by key.
 use Rattle.std.proofs.Common.{◌≡◌, Bool, true, false, T, ◌&&◌, ◌||◌, List, [], ◌∷◌, ◌++◌, map as list_map, All, Option, Some, None, refl, sym, ap, subst, ◌∙◌}
 use Rattle.std.specs.Option.{MatchOption}
 use Rattle.std.specs.Iterator.{YieldsFirst}
@@ -35,22 +35,22 @@ is_less Less h = refl
 is_less Equal h = absurd h
 is_less Greater h = absurd h
 
--- A key comes before others.
+-- A key is less than each of these.
 abbrev pub Before : Key → List Key → Type 0
 Before key keys = All (λ other. key_cmp key other ≡ Less) keys
 
--- a key before all of a set is put in front
+-- a key that is less than all keys of a set is inserted at the front
 put_first : (key : Key) (es : List (Key × Unit {0})) → Before key (list_map (λ e. e.0) es) → put key_cmp key tt es ≡ (key, tt) ∷ es
 put_first key [] before = refl
 put_first key (e ∷ es) before = ap (λ r. by_order r ((key, tt) ∷ e ∷ es) ((e.0, tt) ∷ es) (e ∷ put key_cmp key tt es)) (All-head (λ other. key_cmp key other ≡ Less) e.0 (list_map (λ e. e.0) es) before)
 
--- a key before others comes first
+-- a key that is less than all others comes first
 first_in_order : (key : Key) (keys : List Key) → Before key keys → in_order (key ∷ keys) ≡ key ∷ in_order keys
 unfolding in_order
 first_in_order key keys before =
     ap (list_map (λ e. e.0)) (map.entries-insert key_cmp_total (set_of keys) key tt ∙ put_first key (map.entries (set_of keys)) (All-in_order (λ other. key_cmp key other ≡ Less) keys before))
 
--- keys are in the same order where the same are among them
+-- two lists that contain the same keys are the same list when ordered
 same_order : (one other : List Key) → ((key : Key) → is_among one key ≡ is_among other key) → in_order one ≡ in_order other
 unfolding in_order
 same_order one other same = ap map.keys (same_keys (set_of one) (set_of other) (λ key. get-set_of one key ∙ ap mark (same key) ∙ sym (get-set_of other key)))
@@ -65,25 +65,25 @@ or_twice : (a b c : Bool) → (a || (b || (a || c))) ≡ (a || (b || c))
 or_twice true b c = refl
 or_twice false b c = refl
 
--- the first of the second list may stand in front of the first
+-- the first key of the second list can be moved to the front of the first list
 moved : (first second : List Key) (key : Key) → in_order (first ++ key ∷ second) ≡ in_order (key ∷ (first ++ second))
 moved first second key = same_order _ _ (λ q.
     among-append first (key ∷ second) q
     ∙ or_swap (is_among first q) (eq_by_cmp key_cmp q key) (is_among second q)
     ∙ ap (λ b. eq_by_cmp key_cmp q key || b) (sym (among-append first second q)))
 
--- and needs to stand there once
+-- and if it is there already, it is needed only once
 once : (first second : List Key) (key : Key) → in_order ((key ∷ first) ++ key ∷ second) ≡ in_order (key ∷ (first ++ second))
 once first second key = same_order _ _ (λ q.
     ap (λ b. eq_by_cmp key_cmp q key || b) (among-append first (key ∷ second) q)
     ∙ or_twice (eq_by_cmp key_cmp q key) (is_among first q) (is_among second q)
     ∙ ap (λ b. eq_by_cmp key_cmp q key || b) (sym (among-append first second q)))
 
--- the first of keys in order comes before the rest
+-- the first of keys in order is less than the rest
 head_before : (key : Key) (keys : List Key) → IsStrictlySortedBy key_cmp (key ∷ keys) → Before key keys
 head_before key keys sorted = All-from_recursion (λ other. key_cmp key other ≡ Less) keys (sorted_head key_cmp key keys sorted)
 
--- and so does what comes before the first
+-- and so is a key that is less than the first
 before_all : (key other : Key) (keys : List Key) → key_cmp key other ≡ Less → IsStrictlySortedBy key_cmp (other ∷ keys) → Before key (other ∷ keys)
 before_all key other keys less sorted =
     All-cons (λ k. key_cmp key k ≡ Less) other keys less
@@ -100,7 +100,7 @@ none_in_order : in_order [] ≡ []
 unfolding in_order
 none_in_order = keys_again [] none_sorted
 
--- what a key saw that it sees is what is observed
+-- if a key still sees what it saw, the observation of it is the same
 as_observed : (t : Entries) (one : Observation) → Holds t one → observed t one.key ≡ one
 as_observed t one holds = ap (λ s. record { key = one.key; seen = s }) holds
 
@@ -108,17 +108,17 @@ none_of : {X : Type 0} (p : X → Bool) (xs : List X) → list_any p xs ≡ fals
 none_of p [] none = All-nil (λ x. p x ≡ false)
 none_of p (x ∷ xs) none = let parts = or_parts (p x) (list_any p xs) none in All-cons (λ x. p x ≡ false) x xs parts.0 (none_of p xs parts.1)
 
--- What a key saw after changes that don't touch it, it sees before them.
+-- What a key saw after changes that don't touch it, it also sees before them.
 pub as_before : (t : Entries) (changes : List Change) (one : Observation) → AreFrom t changes → Holds (after_changes changes t) one → list_any (λ change. touches change one.key) changes ≡ false
     → one ≡ observed t one.key
 as_before t changes one from holds free =
     sym (as_observed t one (agree_untouched one.key changes t from (none_of (λ change. touches change one.key) changes free) ∙ holds))
 
--- the reading of a tree by keys, of which the first is known
+-- the reading of a tree by keys, if the first of them is known
 reading_from : (t : Entries) (keys rest : List Key) (key : Key) → in_order keys ≡ key ∷ in_order rest → reading_of keys t ≡ observed t key ∷ reading_of rest t
 reading_from t keys rest key same = ap (list_map (observed t)) same
 
--- what is left of a reading is one
+-- the rest of a reading is a reading
 left : (t : Entries) (one : Observation) (rest : List Observation) → IsReading t (one ∷ rest) → IsReading t rest
 left t one rest reading = record { holds = All-tail (Holds t) one rest reading.holds; in_order = sorted_tail key_cmp one.key (keys_of rest) reading.in_order }
 
@@ -172,7 +172,7 @@ module _ (t u : Entries) where
   of_none (one ∷ first) greater = cc
 
 module _ (t u : Entries) where
-  -- What the next of two readings is, by which of them has it.
+  -- The next observation of two readings, depending on which of them has it.
   abbrev pub NextIs : (first second after later : List Observation) → Option Observation → Type 0
   NextIs first second after later next =
       MatchOption next (reading_of (keys_of first ++ keys_of second) t ≡ []) (λ one. reading_of (keys_of first ++ keys_of second) t ≡ one ∷ reading_of (keys_of after ++ keys_of later) t)

@@ -1,4 +1,5 @@
--- The keys of a reading are those by which it was made, so operations come to the same where trees agree on either.
+-- The keys of a reading are those by which it was made, so it doesn't matter on which of the two
+-- trees must agree.
 use Rattle.std.proofs.Common.{◌≡◌, Bool, false, List, [], ◌∷◌, map as list_map, All, refl, ap, ◌∙◌, subst}
 use Rattle.std.proofs.lemmas.List.Elements.{All-head, All-tail}
 use Rattle.link_tree.specs.declared.change.Change.{Change}
@@ -21,7 +22,7 @@ keys_observed (key ∷ keys) t = ap (λ ks. key ∷ ks) (keys_observed keys t)
 pub keys_of_reading : (keys : List Key) (t : Entries) → keys_of (reading_of keys t) ≡ in_order keys
 keys_of_reading keys t = keys_observed (in_order keys) t
 
--- changes that touch no key of a reading touch none of those by which it was made
+-- changes that touch no key of a reading touch none of the keys by which it was made
 pub untouched_keys : (changes : List Change) (keys : List Key) (t : Entries) → Untouched changes (keys_of (reading_of keys t)) → Untouched changes keys
 untouched_keys changes keys t free =
     let P : Key → Type 0 = λ key. All (λ change. touches change key ≡ false) changes in
@@ -41,7 +42,7 @@ reading_alike keys t u agree = observed_alike (in_order keys) t u (All-in_order 
 abbrev outcome_by : Effect → List Key → Entries → Outcome
 outcome_by effect keys t = record { answer = effect.answer; changes = effect.changes; reading = reading_of keys t }
 
--- An operation comes to the same in trees that agree on what it looks at.
+-- An operation has the same outcome in trees that agree on what it looks at.
 pub outcome_agrees : {O : Type 0} (meaning : O → Inquiry Effect) (c : O) (t u : Entries) → AgreeOn ((meaning c).keys t) t u → outcome_of meaning c t ≡ outcome_of meaning c u
 outcome_agrees meaning c t u agree =
     let same = (meaning c).agreement t u agree in
@@ -50,14 +51,14 @@ outcome_agrees meaning c t u agree =
     ∙ ap (λ (rs : List Observation). record { answer = ((meaning c).conclusion u).answer; changes = ((meaning c).conclusion u).changes; reading = rs }) (reading_alike ((meaning c).keys t) t u agree)
     ∙ ap (λ (ks : List Key). outcome_by ((meaning c).conclusion u) ks u) same.1
 
--- So it does where they agree on the keys of its reading.
+-- The same for trees that agree on the keys of its reading.
 pub comes_to_the_same : {O : Type 0} (meaning : O → Inquiry Effect) → ComesToTheSame meaning
 comes_to_the_same meaning c t u agree =
     let keys = (meaning c).keys t in
     let P : Key → Type 0 = λ key. Agree key t u in
     outcome_agrees meaning c t u (in_order-All P keys (subst (All P) (keys_of_reading keys t) agree))
 
--- What an operation changes can be taken back.
+-- What an operation changes can be undone.
 pub is_taken_back : {O : Type 0} {asks : O → Bool} {meaning : O → Inquiry Effect} → OperationLaws asks meaning → IsTakenBack meaning
 is_taken_back {meaning = meaning} laws = λ c t.
     let changes = (outcome_of meaning c t).changes in

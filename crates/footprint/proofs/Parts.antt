@@ -26,11 +26,11 @@ use Rattle.footprint.specs.KeyLaws.{get-part, get-those, part_is}
 use Rattle.footprint.proofs.Those.{Standing, shown_there, shown_chosen, some_is, gathered, gathered_those}
 use Rattle.footprint.specs.Seeing.{AllSelected, AllStand}
 
--- all that a key looks at are gathered from a list of what stands in the tree
+-- gathering what a key looks at from a list of all entries of a tree gives the part of the tree
 pub gathered_part : (key : Key) (t : Entries) (xs : List Standing) → IsPermutation xs (map.entries t) → gathered (selects key) map.empty xs ≡ part key t
 gathered_part key t xs same = gathered_those (selects key) t xs same ∙ sym (part_is key t)
 
--- what a key that is no cell looks at stands at a slot
+-- an entry at which a key that isn't a cell looks is at a slot
 pub selected_slot : (key : Key) (path : List ℕ) (entry : Entry) → is_cell key ≡ false → selects key path entry ≡ true → is_slot path ≡ true
 unfolding belongs
 selected_slot (Cell cell) path entry other here = absurd (true≢false other)
@@ -51,7 +51,7 @@ selected_slot Links path entry other here = by_slot (slot_of path) here
     by_slot None h = absurd (true≢false (sym h))
     by_slot (Some slot) h = refl
 
--- what one of several keys looks at that are no cells stands at a slot
+-- an entry at which one of several keys looks, none of them a cell, is at a slot
 pub any_selected_slot : (keys : List Key) (path : List ℕ) (entry : Entry) → All (λ key. is_cell key ≡ false) keys → any_selects keys path entry ≡ true → is_slot path ≡ true
 any_selected_slot [] path entry others here = absurd (true≢false (sym here))
 any_selected_slot (key ∷ keys) path entry others here = elim (cases_Bool (selects key path entry)) [
@@ -63,7 +63,7 @@ pub any_stand_at_slots : (keys : List Key) (t : Entries) → All (λ key. is_cel
 any_stand_at_slots keys t others path entry there =
     any_selected_slot keys path entry others (shown_there (any_selects keys) path (map.get t path) entry (sym (get-those (any_selects keys) t path) ∙ there)).1
 
--- Of all, those that are still to come are among them, and each of the others was found to be so.
+-- The remaining entries are among all, and each of the others was found to satisfy P.
 pub record AreChecked (P : Standing → Type 0) (rest all : List Standing) : Type 0 where
   pub among : (x : Standing) → Contains rest x → Contains all x
   pub checked : All P rest → All P all
@@ -74,18 +74,18 @@ one_checked P x rest all here before = record {
   checked = λ later. before.checked (All-cons P x rest here later);
 }
 
--- all of a tree were found to be so
+-- all entries of a tree were found to satisfy P
 pub all_checked : (P : Standing → Type 0) (t : Entries) (all : List Standing) → IsPermutation all (map.entries t) → AreChecked P [] all → (path : List ℕ) (entry : Entry) → map.get t path ≡ Some entry → P (path, entry)
 all_checked P t all same checked path entry there =
     All-contains P (map.entries t) (path, entry) (All-permutation P all (map.entries t) same (checked.checked (All-nil P))) (all_listed t path entry there)
 
--- one that is still to come stands in the tree
+-- a remaining entry is in the tree
 pub one_stands : (P : Standing → Type 0) (t : Entries) (all : List Standing) (x : Standing) (rest : List Standing) → IsPermutation all (map.entries t) → AreChecked P (x ∷ rest) all → map.get t x.0 ≡ Some x.1
 one_stands P t all x rest same before =
     All-contains (λ x. map.get t x.0 ≡ Some x.1) (map.entries t) x (all_standing t)
     (Contains-permutation all (map.entries t) x same (before.among x (All-head (Contains (x ∷ rest)) x rest (All-contains_itself (x ∷ rest)))))
 
--- a tree is the part of another that a key looks at where these three hold
+-- if these three hold, a tree is the part of another that a key looks at
 pub is_part : (key : Key) (t p : Entries) → AllSelected key p → AllStand key p t → AllStand key t p → part key t ≡ p
 is_part key t p selected back on = same_tree _ _ (λ path. get-part key t path ∙ by_shown path (shown key path (map.get t path)) (map.get p path) refl refl)
   where

@@ -6,7 +6,7 @@ use Rattle.unit_paths.specs.declared.fault.TheConstants.{MAX_PATH}
 use Rattle.std.proofs.lemmas.Bool.{and_parts, and_from, false≢true, lt-ltb}
 use Rattle.unit_paths.specs.Paths.{is_path, is_target, is_absolute, is_text_byte}
 
--- a path may be the target of a link
+-- a path can be the target of a link
 pub path_target : (path : List ℕ) → is_path path ≡ true → is_target path ≡ true
 unfolding is_path is_target is_absolute
 path_target [] is = absurd (false≢true is)

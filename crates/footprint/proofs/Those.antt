@@ -24,14 +24,14 @@ abbrev pub gathered : Chosen → Entries → List Standing → Entries
 gathered chosen found [] = found
 gathered chosen found (x ∷ xs) = gathered chosen (if chosen x.0 x.1 then set_entry found x.0 (Some x.1) else found) xs
 
--- each stands in a tree
+-- each of them is in a tree
 abbrev pub Stand : Entries → List Standing → Type 0
 Stand t xs = All (λ x. map.get t x.0 ≡ Some x.1) xs
 
 pub some_is : {P : Type 0} (entry : Entry) → None ≡ Some entry → P
 some_is entry h = cc
 
--- what is shown at a path stands there, and is looked at
+-- a chosen entry at a path is in the tree, and is one at which the key looks
 pub shown_there : (chosen : Chosen) (path : List ℕ) (there : Option Entry) (entry : Entry) → chosen_at chosen path there ≡ Some entry → (there ≡ Some entry) × (chosen path entry ≡ true)
 shown_there chosen path None entry on = some_is entry on
 shown_there chosen path (Some other) entry on = elim (cases_Bool (chosen path other)) [
@@ -43,7 +43,7 @@ pub shown_chosen : (chosen : Chosen) (path : List ℕ) (entry : Entry) → chose
 shown_chosen chosen path entry here = ap (λ b. cond b (Some entry) None) here
 
 module _ (chosen : Chosen) (t : Entries) where
-  -- what is not shown is not gathered
+  -- an entry that is not chosen is not gathered
   one_off : (x : Standing) (found : Entries) (path : List ℕ) → map.get t x.0 ≡ Some x.1 → chosen_at chosen path (map.get t path) ≡ None
       → map.get (if chosen x.0 x.1 then set_entry found x.0 (Some x.1) else found) path ≡ map.get found path
   one_off x found path stands off = elim (cases_Bool (chosen x.0 x.1)) [
@@ -59,7 +59,7 @@ module _ (chosen : Chosen) (t : Entries) where
   gathered_off (x ∷ xs) found path stand off =
       gathered_off xs _ path (All-tail (λ x. map.get t x.0 ≡ Some x.1) x xs stand) off ∙ one_off x found path (All-head (λ x. map.get t x.0 ≡ Some x.1) x xs stand) off
 
-  -- what was gathered at a path that is shown is what is shown there
+  -- at the path of a chosen entry, that entry is what was gathered
   one_on : (x : Standing) (found : Entries) (path : List ℕ) (entry : Entry) → map.get t x.0 ≡ Some x.1 → chosen_at chosen path (map.get t path) ≡ Some entry
       → (map.get found path ≡ Some entry) ⊎ (bytes_eq path x.0 ≡ true) → map.get (if chosen x.0 x.1 then set_entry found x.0 (Some x.1) else found) path ≡ Some entry
   one_on x found path entry stands on here =
@@ -101,7 +101,7 @@ module _ (chosen : Chosen) (t : Entries) where
   path_among : (xs : List Standing) (path : List ℕ) (entry : Entry) → Contains xs (path, entry) → list_any (λ x. bytes_eq path x.0) xs ≡ true
   path_among xs path entry here = All-contains (λ (y : Standing). list_any (λ (x : Standing). bytes_eq y.0 x.0) xs ≡ true) xs (path, entry) (all_among xs) here
 
-  -- all are gathered from a list of what stands in the tree
+  -- all chosen entries are gathered from a list of all entries of the tree
   pub gathered_those : (xs : List Standing) → IsPermutation xs (map.entries t) → gathered chosen map.empty xs ≡ those chosen t
   gathered_those xs same = same_tree _ _ (λ path. by_shown path (chosen_at chosen path (map.get t path)) refl ∙ sym (get-those chosen t path))
     where

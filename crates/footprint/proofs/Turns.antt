@@ -1,4 +1,4 @@
--- Arguments that are taken one after another, each in the tree that the earlier ones left.
+-- Arguments that are processed one after another, each in the tree that the earlier ones left.
 use Rattle.std.proofs.Common.{◌≡◌, ℕ, ◌+◌, ◌<◌, ◌≤◌, List, [], ◌∷◌, ◌++◌, length, drop, get_or, Result, Ok, Err, refl, sym, ap, ◌∙◌}
 use Rattle.std.proofs.lemmas.List.{append_assoc, append-nil, drop_more, drop_all}
 use Rattle.link_tree.specs.Trees.{Entries, set_entry}
@@ -20,7 +20,7 @@ abbrev pub goes_on : (Entries → Result Entries Refusal) → Result Entries Ref
 goes_on on (Ok u) = on u
 goes_on on (Err refusal) = Err refusal
 
--- the tree that is left when one argument is taken after another
+-- the tree that is left after the arguments are processed one after another
 abbrev pub in_turn : {A : Type 0} → (A → Step) → List A → Entries → Result Entries Refusal
 in_turn step [] t = Ok t
 in_turn step (a ∷ rest) t = goes_on (in_turn step rest) (leaves (step a) t)
@@ -29,12 +29,12 @@ abbrev pub looks_on : (Entries → List Key) → Result Entries Refusal → List
 looks_on on (Ok u) = on u
 looks_on on (Err refusal) = []
 
--- the keys by which is looked then
+-- the keys at which these steps look
 abbrev pub keys_in_turn : {A : Type 0} → (A → Step) → List A → Entries → List Key
 keys_in_turn step [] t = []
 keys_in_turn step (a ∷ rest) t = (step a).keys t ++ looks_on (keys_in_turn step rest) (leaves (step a) t)
 
--- what is placed in two parts is placed one part after the other
+-- placing two lists joined is placing one after the other
 placed_in-append : (first second : List Placed) (t : Entries) → placed_in (first ++ second) t ≡ placed_in second (placed_in first t)
 placed_in-append [] second t = refl
 placed_in-append (p ∷ first) second t = placed_in-append first second (set_entry t p.0 p.1)
@@ -43,7 +43,7 @@ pub left_more : (placed : List Placed) (ruling : Ruling) (t : Entries) → left_
 left_more placed (Ok more) t = ap (λ u. Ok u) (placed_in-append placed more t)
 left_more placed (Err refusal) t = refl
 
--- the tree that a step leaves, and then another
+-- the tree that a step and then another leave
 left_then : (ruling : Ruling) (next : Step) (t : Entries) → left_by (concluded_after ruling next.conclusion t) t ≡ goes_on (leaves next) (left_by ruling t)
 left_then (Ok placed) next t = left_more placed (next.conclusion (placed_in placed t)) t
 left_then (Err refusal) next t = refl
@@ -53,12 +53,12 @@ looked_then (Ok placed) next t = refl
 looked_then (Err refusal) next t = refl
 
 module _ {A : Type 0} (step : A → Step) where
-  -- what is placed in turn leaves the tree that the arguments leave in turn
+  -- placing for each argument in turn leaves the tree that the arguments leave in turn
   pub all_turns : (args : List A) (t : Entries) → left_by ((each_in_turn step args).conclusion t) t ≡ in_turn step args t
   all_turns [] t = refl
   all_turns (a ∷ rest) t = left_then ((step a).conclusion t) (each_in_turn step rest) t ∙ ap (λ on. goes_on on (leaves (step a) t)) (λ i u. all_turns rest u i)
 
-  -- and its keys are theirs
+  -- and its keys are the keys of those steps
   pub all_keys : (args : List A) (t : Entries) → (each_in_turn step args).keys t ≡ keys_in_turn step args t
   all_keys [] t = refl
   all_keys (a ∷ rest) t =
@@ -74,7 +74,7 @@ pub stepped_off : (ruling : Ruling) (edit : Entries × Entries) (refusal : Refus
 stepped_off (Ok placed) edit refusal is = cc
 stepped_off (Err other) edit refusal is = cc
 
--- an edit is what a ruling says
+-- an edit with the tree that a ruling leaves is the result of the ruling
 pub begun_ok : (ruling : Ruling) (begun edit : Entries × Entries) → edit.0 ≡ begun.0 → left_by ruling begun.1 ≡ Ok edit.1 → Ok edit ≡ stepped ruling begun
 begun_ok (Ok placed) begun edit first is = let same : placed_in placed begun.1 ≡ edit.1 = cc in λ i. Ok (first i, sym same i)
 begun_ok (Err refusal) begun edit first is = cc
@@ -83,15 +83,15 @@ pub begun_err : (ruling : Ruling) (begun : Entries × Entries) (refusal : Refusa
 begun_err (Ok placed) begun refusal is = cc
 begun_err (Err other) begun refusal is = cc
 
--- The arguments from one on, in the tree as it is now, lead where all of them do from the first tree, and what is still to be
--- looked at is all that is.
+-- The arguments from number i on, in the tree as it is now, lead to the tree to which all of them
+-- lead from the first tree, and the keys so far with those still to come are all keys.
 pub record HasCome {A : Type 0} (step : A → Step) (args : List A) (i : ℕ) (first : Entries) (edit : Entries × Entries) (before now : List Key) : Type 0 where
   pub begun : edit.0 ≡ first
   pub leads : in_turn step (drop i args) edit.1 ≡ in_turn step args first
   pub looks : now ++ keys_in_turn step (drop i args) edit.1 ≡ before ++ keys_in_turn step args first
 
 module _ {A : Type 0} (step : A → Step) (args : List A) (i : ℕ) (first : Entries) (edit : Entries × Entries) (before now : List Key) (come : HasCome step args i first edit before now) where
-  -- one argument more
+  -- one more argument
   module _ (a : A) (is : a ≡ get_or args i a) (within : i < length args) where
     rest_is : drop i args ≡ a ∷ drop (i + 1) args
     rest_is = drop_more args i a within ∙ ap (λ x. x ∷ drop (i + 1) args) (sym is)
@@ -124,7 +124,7 @@ module _ {A : Type 0} (step : A → Step) (args : List A) (i : ℕ) (first : Ent
           sym (append-nil then) ∙ more_keys then goes.1 (Err refusal) off ∙ ap (λ keys. before ++ keys) (sym (all_keys step args first)),
         )
 
-  -- all arguments are through
+  -- all arguments are processed
   pub last_turn : length args ≤ i → GoesOn (each_in_turn step args) (first, first) before now (Ok edit)
   last_turn through = (
     begun_ok ((each_in_turn step args).conclusion first) (first, first) edit come.begun

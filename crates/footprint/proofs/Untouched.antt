@@ -1,4 +1,4 @@
--- Changes that touch nothing of what an operation looks at.
+-- Changes that touch nothing at which an operation looks.
 use Rattle.std.proofs.Common.{◌≡◌, ◌||◌, ℕ, Bool, true, false, cond, List, [], ◌∷◌, Option, Some, None, All, Contains, refl, sym, ap, ◌∙◌, subst, inl, inr}
 use Rattle.std.specs.FinMap as map
 use Rattle.std.specs.Str.{bytes_eq}
@@ -39,7 +39,7 @@ shows_links : (path : List ℕ) (there : Option Entry) → is_dependency (slot_o
 shows_links path None h = refl
 shows_links path (Some entry) h = h
 
--- a key that a change doesn't touch shows nothing of what stood there, nor of what stands there after it
+-- a key that a change doesn't touch sees neither the entry before the change nor the entry after it
 hidden_both : (key : Key) (c : Change) → touches c key ≡ false → (shown key c.path c.before ≡ None) × (shown key c.path c.after ≡ None)
 hidden_both (Cell cell) c h = (hidden (Cell cell) c.path c.before (shows_cell cell c.path c.before h), hidden (Cell cell) c.path c.after (shows_cell cell c.path c.after h))
 hidden_both (Marked scope name) c h =
@@ -63,7 +63,7 @@ one_change key c t from free path = elim (cases_Bool (bytes_eq path c.path)) [
   | inr away ↦ ap (shown key path) (sym (after_one c t path ∙ ap (λ b. cond b c.after (map.get t path)) away))
 ]
 
--- a change of another path leaves what the rest are from
+-- after a change at a path that the rest don't change, the tree still has what the rest start from
 from_after : (c : Change) (cs : List Change) (t : Entries) → KeepsPath c.path cs → AreFrom t cs → AreFrom (after_change c t) cs
 from_after c [] t apart h = tt
 from_after c (d ∷ cs) t apart h =
@@ -86,7 +86,7 @@ or_other true false = refl
 or_other false true = refl
 or_other false false = refl
 
--- taken back, a change touches the same keys
+-- a change touches the same keys as its inverse
 touches-taken_back : (c : Change) (key : Key) → touches (taken_back c) key ≡ touches c key
 touches-taken_back c (Cell path) = refl
 touches-taken_back c (Marked scope name) = or_other (is_marked scope name c.path c.after) (is_marked scope name c.path c.before)
@@ -108,14 +108,15 @@ untouched-inverse cs keys h =
 abbrev pub AreApart : List Change → List Change → Type 0
 AreApart ds cs = (path : List ℕ) → is_changed ds path ≡ true → is_changed cs path ≡ false
 
--- the path of a cell that they don't touch is not changed
+-- if no change touches a cell, its path is not changed
 cell_kept : (cs : List Change) (path : List ℕ) → All (λ c. touches c (Cell path) ≡ false) cs → is_changed cs path ≡ false
 cell_kept [] path h = refl
 cell_kept (c ∷ cs) path h =
     ap (λ b. cond b true (is_changed cs path)) (other_bytes c.path path (All-head (λ d. touches d (Cell path) ≡ false) c cs h))
     ∙ cell_kept cs path (All-tail (λ d. touches d (Cell path) ≡ false) c cs h)
 
--- what an operation changes it looks at, so changes that touch nothing of that are of other paths
+-- an operation looks at what it changes, so changes that touch nothing at which it looks are at
+-- other paths
 pub apart_from : (keys : List Key) (ds cs : List Change) → All (λ d. Contains keys (Cell d.path)) ds → Untouched cs keys → AreApart ds cs
 apart_from keys ds cs confined free path here =
     at_changed (λ p. is_changed cs p ≡ false) ds path
@@ -133,7 +134,7 @@ changes_apart ds cs t apart = same_tree _ _ (λ path.
     ])
     ∙ sym (get-after_changes cs (after_changes ds t) path ∙ ap (after_at cs path) (get-after_changes ds t path)))
 
--- each change is of a changed path
+-- the path of each change is a changed path
 changed_itself : (c : Change) (cs : List Change) → is_changed (c ∷ cs) c.path ≡ true
 changed_itself c cs = ap (λ b. cond b true (is_changed cs c.path)) ((bytes_eq-Decides c.path c.path).1 refl)
 
@@ -149,7 +150,7 @@ not_changed ds cs path apart h = elim (cases_Bool (is_changed ds path)) [
   | inr away ↦ away
 ]
 
--- and changes are from the tree after others that are apart from them
+-- and changes that start from a tree also start from the tree after others at other paths
 pub from_apart : (ds cs : List Change) (t : Entries) → AreApart ds cs → AreFrom t cs → AreFrom (after_changes ds t) cs
 from_apart ds [] t apart h = tt
 from_apart ds (c ∷ cs) t apart h =
@@ -161,8 +162,9 @@ from_apart ds (c ∷ cs) t apart h =
     (get-after_changes ds t c.path ∙ unchanged ds c.path (map.get t c.path) here ∙ h.0, h.1, from_apart ds cs t rest h.2)
 
 module _ {O : Type 0} {asks : O → Bool} {meaning : O → Inquiry Effect} (laws : OperationLaws asks meaning) where
-  -- An operation on a tree with some changes that touch nothing of what it looks at: it comes to the same, the order doesn't
-  -- matter to the tree, and the changes are from the tree after it.
+  -- An operation, and some changes to its tree that touch nothing at which it looks: its outcome is
+  -- the same after the changes, both orders lead to the same tree, and the changes also start from
+  -- the tree after the operation.
   pub untouched_step : (cs : List Change) (c : O) (t : Entries) → AreFrom t cs → Untouched cs ((meaning c).keys t)
       → (outcome_of meaning c t ≡ outcome_of meaning c (after_changes cs t))
       × (after_changes (outcome_of meaning c t).changes (after_changes cs t) ≡ after_changes cs (after_changes (outcome_of meaning c t).changes t))

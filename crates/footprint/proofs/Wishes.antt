@@ -31,35 +31,36 @@ Link = List ℕ × Option (List ℕ)
 abbrev pub ruling_at : Entries → Link → Result (Option Entry) Refusal
 ruling_at t link = wanted_at link.1 link.0 (map.get t link.0)
 
--- The links that are still to come stand at slots, and leave in the tree as it is now what all leave in the tree in which they began.
+-- The remaining links are at slots, and making them in the tree as it is now leaves what making all
+-- of them leaves in the first tree.
 pub record AreComing (begun edit : Entries × Entries) (rest all : List Link) : Type 0 where
   pub first : edit.0 ≡ begun.0
   pub leave : left_by (all_wanted rest begun.1) edit.1 ≡ left_by (all_wanted all begun.1) begun.1
   pub at_slots : All (λ link. is_slot link.0 ≡ true) rest
 
--- nothing is wanted
+-- an empty map of wanted links
 pub none_at_slots : AreAtSlots map.empty
 none_at_slots path link there = none_some link (sym (map.get-empty path_cmp path) ∙ there)
 
--- a link is wanted at one slot more
+-- one more slot with a wanted link
 pub one_at_slots : (wanted : Wanted) (slot : List ℕ) (link : Option (List ℕ)) → is_slot slot ≡ true → AreAtSlots wanted → AreAtSlots (map.insert wanted slot link)
 one_at_slots wanted slot link here all path other there = elim (cases_Bool (is_at path slot)) [
   | inl at ↦ ap is_slot (same_key path slot at) ∙ here
   | inr away ↦ all path other (sym (map.get-insert nat_list_cmp_total wanted slot link path ∙ ap (λ b. cond b (Some link) (map.get wanted path)) away) ∙ there)
 ]
 
--- nothing is wanted any longer at a path
+-- one path fewer with a wanted link
 pub fewer_at_slots : (wanted : Wanted) (slot : List ℕ) → AreAtSlots wanted → AreAtSlots (map.remove wanted slot)
 fewer_at_slots wanted slot all path link there = elim (cases_Bool (is_at path slot)) [
   | inl at ↦ absurd (none_some link (sym (map.get-remove nat_list_cmp_total wanted slot path ∙ ap (λ b. cond b None (map.get wanted path)) at) ∙ there))
   | inr away ↦ all path link (sym (map.get-remove nat_list_cmp_total wanted slot path ∙ ap (λ b. cond b None (map.get wanted path)) away) ∙ there)
 ]
 
--- so the links that are listed are at slots
+-- so all links in the list are at slots
 pub listed_at_slots : (wanted : Wanted) → AreAtSlots wanted → All (λ link. is_slot link.0 ≡ true) (map.entries wanted)
 listed_at_slots wanted all = All-weaker (λ link. map.get wanted link.0 ≡ Some link.1) (λ link. is_slot link.0 ≡ true) (λ link there. all link.0 link.1 there) (map.entries wanted) (all_standing wanted)
 
--- all are still to come
+-- at first, all links remain
 pub none_made : (begun edit : Entries × Entries) (rest all : List Link) → edit ≡ begun → rest ≡ all → All (λ link. is_slot link.0 ≡ true) all → AreComing begun edit rest all
 none_made begun edit rest all new same slots = record {
   first = ap (λ e. e.0) new;
@@ -90,7 +91,7 @@ one_made begun edit next link rest all come is = by_ruling (ruling_at begun.1 li
     by_ruling (Err refusal) at =
         let made : Ok next ≡ stepped (ruled_at link.0 (Err refusal)) edit = is ∙ ap (λ r. stepped (ruled_at link.0 r) edit) at in cc
 
--- something is in the way of one
+-- something is in the way of one link
 pub one_refused : (begun edit : Entries × Entries) (refusal : Refusal) (link : Link) (rest all : List Link) → AreComing begun edit (link ∷ rest) all
     → Err refusal ≡ stepped (ruled_at link.0 (ruling_at begun.1 link)) edit → Err refusal ≡ stepped (all_wanted all begun.1) begun
 one_refused begun edit refusal link rest all come is = by_ruling (ruling_at begun.1 link) refl
@@ -104,11 +105,11 @@ one_refused begun edit refusal link rest all come is = by_ruling (ruling_at begu
         begun_err (all_wanted all begun.1) begun refusal
         (sym come.leave ∙ ap (λ r. left_by (concluded_after (ruled_at link.0 r) (λ left. all_wanted rest begun.1) begun.1) edit.1) at ∙ ap (λ (e : Refusal). Err e) same)
 
--- all are made
+-- all links are made
 pub all_made : (begun edit : Entries × Entries) (all : List Link) → AreComing begun edit [] all → Ok edit ≡ stepped (all_wanted all begun.1) begun
 all_made begun edit all come = begun_ok (all_wanted all begun.1) begun edit come.first (sym come.leave)
 
--- whether a path comes before another or is the same
+-- whether a path is less than or equal to another
 abbrev upto : List ℕ → List ℕ → Bool
 upto path other = is_le (path_cmp path other)
 
@@ -121,7 +122,7 @@ upto_below path other is = ap is_le is
 not_upto : (path other : List ℕ) → path_cmp path other ≡ Less → upto other path ≡ false
 not_upto path other is = ap is_le (nat_list_cmp_total.antisymm other path ∙ ap ordering_reverse is)
 
--- what is found among links that come later comes later
+-- a path found among links that are all greater than a path is greater than it
 below_found : (path : List ℕ) (links : List Link) (other : List ℕ) (wanted : Option (List ℕ)) → T (below_all path_cmp path links) → find path_cmp other links ≡ Some wanted → path_cmp path other ≡ Less
 below_found path [] other wanted below found = none_some wanted found
 below_found path (link ∷ links) other wanted below found = elim (cases_Bool (is_at other link.0)) [
@@ -137,7 +138,7 @@ module _ (t : Entries) where
   abbrev IsLeast : List Link → Refusal → Type 0
   IsLeast links refusal = (path : List ℕ) × IsInTheWay links path refusal × ((other : List ℕ) (why : Refusal) → IsInTheWay links other why → upto path other ≡ true)
 
-  -- what is in the way of one of the links is in the way of the first or of a later one
+  -- what is in the way of one of the links is in the way of the first or of one of the rest
   in_the_way : (link : Link) (links : List Link) (path : List ℕ) (refusal : Refusal) → IsInTheWay (link ∷ links) path refusal
       → ((path ≡ link.0) × (ruling_at t link ≡ Err refusal)) ⊎ IsInTheWay links path refusal
   in_the_way link links path refusal way = elim (cases_Bool (is_at path link.0)) [
@@ -162,7 +163,7 @@ module _ (t : Entries) where
   later_refused link entry refusal (Ok placed) h = cc
   later_refused link entry refusal (Err other) h = h
 
-  -- what all come to, by what the first comes to
+  -- the result of all links, given the result of the first
   abbrev after_first : Link → List Link → Result (Option Entry) Refusal → Ruling
   after_first link links r = concluded_after (ruled_at link.0 r) (λ left. all_wanted links t) t
 
@@ -207,12 +208,13 @@ module _ (t : Entries) where
   least_refused [] refusal order least = none_some least.1.0 least.1.1
   least_refused (link ∷ links) refusal order least = refused_of link links refusal order least (least_refused links refusal (second _ _ order)) (ruling_at t link) refl
 
-  -- what is left at a path: what the link that is wanted there leaves by what stood there first, or what stands there now
+  -- the entry at a path: what the wanted link there leaves, given what was there first, or what is
+  -- there now
   abbrev IsLeftOn : (wanted : Option (Option (List ℕ))) → List ℕ → (first now after : Option Entry) → Type 0
   IsLeftOn None path first now after = after ≡ now
   IsLeftOn (Some wanted) path first now after = wanted_at wanted path first ≡ Ok after
 
-  -- after the first of the links, and then the rest
+  -- after the first of the links is made, and then the rest
   module _ (link : Link) (links : List Link) (path : List ℕ) (order : T (is_sorted path_cmp (link ∷ links))) (u : Entries) (entry : Option Entry) (at : ruling_at t link ≡ Ok entry) (more : List Placed) where
     abbrev set : Entries
     set = set_entry u link.0 entry
@@ -262,7 +264,7 @@ module _ (t : Entries) where
   left_each (link ∷ links) placed u path order is =
       left_of link links placed u path order (λ more v here. left_each links more v path (second _ _ order) here) (ruling_at t link) refl (all_wanted links t) refl is
 
--- what is wanted at a path, as the list has it
+-- if something is in the way of a wanted link, it is in the way of a link in the list
 way_listed : (wanted : Wanted) (t : Entries) (path : List ℕ) (refusal : Refusal) → IsRefusedAt wanted t path refusal → IsInTheWay t (map.entries wanted) path refusal
 way_listed wanted t path refusal way = (way.0, sym (map.get-entries wanted path) ∙ way.1, way.2)
 

@@ -1,4 +1,4 @@
--- What commands ask of a tree, and what effect that has.
+-- What commands look up in a tree, and what effect that has.
 use Rattle.std.specs.Prelude.{Result, Ok, Err}
 use Rattle.std.specs.FinMap as map
 use Rattle.unit_file.specs.Notices.{NoticeMap}
@@ -10,16 +10,16 @@ use Rattle.footprint.specs.Placing.{effect}
 use Rattle.footprint.specs.PlacingLaws.{effects_agree}
 use Rattle.footprint.specs.Steps.{Step, refuse}
 
--- A command asks, and by what that comes to it tells of words that it skipped and takes a step. Where the step is refused, it tells
--- nothing of them.
+-- A command looks things up, and from the result determines the notices of arguments that it
+-- skipped and a step. If the step is refused, the notices are not reported.
 abbrev pub Command : Type 0
 Command = Inquiry (NoticeMap × Step)
 
--- a step, with what is told
+-- a step, with the notices that are reported
 abbrev pub telling : NoticeMap → Step → Command
 telling notices step = over (notices, step)
 
--- a step alone
+-- a step without notices
 abbrev pub silent : Step → Command
 silent step = telling map.empty step
 
@@ -28,7 +28,7 @@ abbrev pub unless_refused : {X : Type 0} → (X → Command) → Result X Refusa
 unless_refused on (Ok x) = on x
 unless_refused on (Err refusal) = silent (refuse refusal)
 
--- what a step comes to, with what is told
+-- the effect of a step, with its notices
 abbrev pub taken : NoticeMap × Step → Inquiry Effect
 taken told = record {
   conclusion = λ t. effect t told.0 (told.1.conclusion t);
@@ -36,6 +36,6 @@ taken told = record {
   agreement = effects_agree told.1.conclusion told.1.keys told.1.agreement told.1.looked told.0;
 }
 
--- What a command asks of a tree, and what effect that has.
+-- What a command looks up in a tree, and what effect that has.
 abbrev pub carried_out : Command → Inquiry Effect
 carried_out command = command >>= taken

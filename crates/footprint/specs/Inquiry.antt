@@ -1,4 +1,4 @@
--- What is asked of a tree by keys.
+-- What is looked up in a tree by keys.
 use Rattle.std.specs.Prelude.{◌≡◌, ℕ, List, [], ◌∷◌, ◌++◌, map as list_map, Option, refl}
 use Rattle.std.proofs.Common.{ap}
 use Rattle.std.proofs.lemmas.List.Elements.{All-head}
@@ -12,8 +12,8 @@ use Rattle.footprint.specs.declared.reading.Seen.{Seen}
 use Rattle.footprint.specs.Keys.{seen, those, any_selects, part, Agree, AgreeOn}
 use Rattle.footprint.specs.KeyLaws.{same_cells, same_part, same_any, agree_at, agree_on_after, both_agree}
 
--- What an inquiry comes to in a tree, the keys that it looks at, in order, and that it comes to the same, by the same keys, in a
--- tree that agrees on them.
+-- The result of an inquiry in a tree; the keys that it looks at, in order; and a proof that the
+-- result and the keys are the same in each tree that agrees on the keys.
 pub record Inquiry (X : Type 0) : Type 0 where
   pub conclusion : Entries → X
   pub keys : Entries → List Key
@@ -39,7 +39,7 @@ entries_seen key = record {
   agreement = λ t u agree. (same_part key t u (agree_at key t u (All-head (λ key. Agree key t u) key [] agree)), refl);
 }
 
--- the entries at which one of several keys looks
+-- the entries at which at least one of several keys looks
 abbrev pub entries_of_all : List Key → Inquiry Entries
 entries_of_all keys = record {
   conclusion = those (any_selects keys);
@@ -47,11 +47,11 @@ entries_of_all keys = record {
   agreement = λ t u agree. (same_any keys t u agree, refl);
 }
 
--- these keys are looked at too
+-- the result is nothing, but these keys are looked at too
 abbrev pub beside : List Key → Inquiry (Unit {0})
 beside keys = record { conclusion = λ t. tt; keys = λ t. keys; agreement = λ t u agree. (refl, refl) }
 
--- a search among cells
+-- a search that looks at cells
 abbrev pub by_cells : {X : Type 0} → Search X → Inquiry X
 by_cells s = record {
   conclusion = s.conclusion;
@@ -59,11 +59,11 @@ by_cells s = record {
   agreement = λ t u agree. let same = s.agreement t u (same_cells (s.cells t) t u agree) in (same.0, ap (list_map Cell) same.1);
 }
 
--- what stands at a path
+-- the entry at a path
 abbrev pub stands_at : List ℕ → Inquiry (Option Entry)
 stands_at path = by_cells (look_at_cell path)
 
--- by what it comes to
+-- a function of the result
 abbrev pub giving : {X Y : Type 0} → Inquiry X → (X → Y) → Inquiry Y
 giving q f = record {
   conclusion = λ t. f (q.conclusion t);
@@ -79,7 +79,7 @@ after changes q = record {
   agreement = λ t u agree. q.agreement (after_changes changes t) (after_changes changes u) (agree_on_after (q.keys (after_changes changes t)) changes t u agree);
 }
 
--- one after another
+-- an inquiry, and then another that depends on the result of the first
 infixl 10 ◌>>=◌
 abbrev pub ◌>>=◌ : {X Y : Type 0} → Inquiry X → (X → Inquiry Y) → Inquiry Y
 q >>= f = record {
@@ -88,6 +88,7 @@ q >>= f = record {
   agreement = both_agree q.conclusion q.keys (λ x. (f x).conclusion) (λ x. (f x).keys) q.agreement (λ x. (f x).agreement);
 }
 
--- For functions that ask: the inquiry comes to x in the tree, and its keys have been added to those before.
+-- For functions that look things up: the result of the inquiry in the tree is x, and its keys have
+-- been appended to the earlier ones.
 abbrev pub Asks : {X : Type 0} → Entries → Inquiry X → (before after : List Key) → X → Type 0
 Asks t q before after x = (x ≡ q.conclusion t) × (after ≡ before ++ q.keys t)

@@ -1,5 +1,5 @@
--- For the proofs of this crate: the definitions cite it where an agreement is to be shown, and a reader needs nothing of it. What
--- keys see of trees, path by path, and after changes.
+-- For the proofs of this crate: the definitions cite it if an agreement must be shown, and a reader
+-- can skip it. What keys see in trees, path by path, and after changes.
 use Rattle.std.proofs.Common.{◌≡◌, All, ℕ, Bool, true, false, ◌||◌, cond, List, [], ◌∷◌, ◌++◌, map as list_map, Contains, Option, Some, None, refl, sym, ap, ◌∙◌, inl, inr, subst}
 use Rattle.std.specs.FinMap as map
 use Rattle.std.specs.FinMap.{get-retain_keys}
@@ -22,19 +22,19 @@ use Rattle.footprint.specs.Keys.{Chosen, is_chosen, chosen_at, those, selects, a
 abbrev pub AgreeAt : Key → Entries → Entries → Type 0
 AgreeAt key t u = (path : List ℕ) → shown key path (map.get t path) ≡ shown key path (map.get u path)
 
--- what stands at a path among the chosen entries of a tree
+-- the entry at a path among the chosen entries of a tree
 pub get-those : (chosen : Chosen) (t : Entries) (path : List ℕ) → map.get (those chosen t) path ≡ chosen_at chosen path (map.get t path)
 unfolding those
 get-those chosen t path =
     get-retain_keys t (λ p. is_chosen chosen p (map.get t p)) path (λ x same. ap (λ p. is_chosen chosen p (map.get t p)) (sym (exact_bytes path x same)))
 
--- what stands in the part of a tree that a key looks at
+-- the entry at a path in the part of a tree that a key looks at
 pub get-part : (key : Key) (t : Entries) (path : List ℕ) → map.get (part key t) path ≡ shown key path (map.get t path)
 unfolding part
 get-part key t path =
     get-retain_keys t (λ p. shows key p (map.get t p)) path (λ x same. ap (λ p. shows key p (map.get t p)) (sym (exact_bytes path x same)))
 
--- which is the same as those that it selects
+-- which is the same as the part that it selects
 pub part_is : (key : Key) (t : Entries) → part key t ≡ those (selects key) t
 part_is key t = same_tree _ _ (λ path. get-part key t path ∙ sym (get-those (selects key) t path))
 
@@ -58,7 +58,7 @@ module _ (path : List ℕ) where
   shown_is_some key None is none = absurd (false≢true is)
   shown_is_some key (Some entry) is none = cc
 
-  -- what one key sees alike, and the others too, they all see alike
+  -- if one key sees the same in both, and the others do too, then all together do
   first_alike : (key : Key) (keys : List Key) (there other : Option Entry) → shown key path there ≡ shown key path other
       → chosen_at (any_selects keys) path there ≡ chosen_at (any_selects keys) path other → chosen_at (any_selects (key ∷ keys)) path there ≡ chosen_at (any_selects (key ∷ keys)) path other
   first_alike key keys there other same rest = more_select key keys there ∙ by_shown (shows key path there) refl (shows key path other) refl ∙ sym (more_select key keys other)
@@ -91,11 +91,11 @@ cell_alike cell t u same path = elim (cases_Bool (bytes_eq path cell)) [
   | inr away ↦ shown_other cell path (map.get t path) away ∙ sym (shown_other cell path (map.get u path) away)
 ]
 
--- where trees agree on a cell, the same stands there
+-- if trees agree on a cell, they have the same entry there
 pub same_there : (cell : List ℕ) (t u : Entries) → Agree (Cell cell) t u → map.get t cell ≡ map.get u cell
 same_there cell t u agree = cc
 
--- trees agree on a key where it sees the same at each path
+-- trees agree on a key if it sees the same at each path
 pub agree_from : (key : Key) (t u : Entries) → AgreeAt key t u → Agree key t u
 agree_from (Cell cell) t u alike = ap seens.Entry (sym (shown_itself cell (map.get t cell)) ∙ alike cell ∙ shown_itself cell (map.get u cell))
 agree_from (Marked scope name) t u alike = ap seens.Entries (same_part (Marked scope name) t u alike)
@@ -108,7 +108,7 @@ agree_at (Marked scope name) t u agree = let same : part (Marked scope name) t �
 agree_at Presets t u agree = let same : part Presets t ≡ part Presets u = cc in part_alike Presets t u same
 agree_at Links t u agree = let same : part Links t ≡ part Links u = cc in part_alike Links t u same
 
--- Trees that agree on several keys have the same entries at which one of them looks.
+-- Trees that agree on several keys have the same entries at which one of these looks.
 pub same_any : (keys : List Key) (t u : Entries) → AgreeOn keys t u → those (any_selects keys) t ≡ those (any_selects keys) u
 same_any keys t u agree = same_tree _ _ (λ path. get-those (any_selects keys) t path ∙ alike keys path agree ∙ sym (get-those (any_selects keys) u path))
   where
@@ -118,7 +118,7 @@ same_any keys t u agree = same_tree _ _ (λ path. get-those (any_selects keys) t
         first_alike path key keys (map.get t path) (map.get u path) (agree_at key t u (All-head (λ key. Agree key t u) key keys agree) path)
         (alike keys path (All-tail (λ key. Agree key t u) key keys agree))
 
--- whether some change is of the path
+-- whether one of the changes is at the path
 abbrev pub is_changed : List Change → List ℕ → Bool
 is_changed [] path = false
 is_changed (change ∷ changes) path = cond (bytes_eq path change.path) true (is_changed changes path)
@@ -133,7 +133,7 @@ unchanged (c ∷ cs) path there away = elim (cases_Bool (bytes_eq path c.path)) 
     true_false : true ≡ false → ⊥
     true_false h = cc
 
--- what holds of each changed path holds of a path that is changed
+-- what holds for each changed path holds for a path that is changed
 pub at_changed : (P : List ℕ → Type 0) (ds : List Change) (path : List ℕ) → All (λ d. P d.path) ds → is_changed ds path ≡ true → P path
 at_changed P [] path all h = absurd (false≢true h)
 at_changed P (d ∷ ds) path all h = elim (cases_Bool (bytes_eq path d.path)) [
@@ -141,7 +141,7 @@ at_changed P (d ∷ ds) path all h = elim (cases_Bool (bytes_eq path d.path)) [
   | inr away ↦ at_changed P ds path (All-tail (λ x. P x.path) d ds all) (sym (ap (λ b. cond b true (is_changed ds path)) away) ∙ h)
 ]
 
--- what changes leave at a path that one of them is of, whatever stood there
+-- what changes leave at a path that one of them changes, whatever was there before
 pub after_any : (changes : List Change) (path : List ℕ) (there other : Option Entry) → is_changed changes path ≡ true → after_at changes path there ≡ after_at changes path other
 after_any [] path there other changed = cc
 after_any (c ∷ cs) path there other changed = elim (cases_Bool (bytes_eq path c.path)) [
@@ -152,7 +152,7 @@ after_any (c ∷ cs) path there other changed = elim (cases_Bool (bytes_eq path 
       ∙ sym (ap (λ b. after_at cs path (cond b c.after other)) away)
 ]
 
--- Trees that agree on a key agree on it after the same changes.
+-- Trees that agree on a key still agree on it after the same changes.
 pub agree_after : (key : Key) (changes : List Change) (t u : Entries) → Agree key t u → Agree key (after_changes changes t) (after_changes changes u)
 agree_after key changes t u agree = agree_from key (after_changes changes t) (after_changes changes u) (λ path.
     ap (shown key path) (get-after_changes changes t path) ∙ (elim (cases_Bool (is_changed changes path)) [
@@ -163,7 +163,7 @@ agree_after key changes t u agree = agree_from key (after_changes changes t) (af
 pub agree_on_after : (keys : List Key) (changes : List Change) (t u : Entries) → AgreeOn keys t u → AgreeOn keys (after_changes changes t) (after_changes changes u)
 agree_on_after keys changes t u agree = All-weaker (λ key. Agree key t u) (λ key. Agree key (after_changes changes t) (after_changes changes u)) (λ key. agree_after key changes t u) keys agree
 
--- where trees agree on cells, the same stands in each
+-- if trees agree on cells, they have the same entry at each
 pub same_cells : (cells : List (List ℕ)) (t u : Entries) → AgreeOn (list_map Cell cells) t u → SameAt cells t u
 same_cells [] t u agree = All-nil (λ cell. map.get t cell ≡ map.get u cell)
 same_cells (cell ∷ cells) t u agree =
@@ -181,7 +181,8 @@ agree_on_second first second t u agree =
     All-weaker (λ key. Contains second key) (λ key. Agree key t u)
     (λ key here. All-contains (λ key. Agree key t u) (first ++ second) key agree (Contains-append_right first second key here)) second (All-contains_itself second)
 
--- What is asked by keys, and then more by what that comes to: trees that agree on all these keys give the same.
+-- What is looked up by keys, and then further keys that depend on the result: trees that agree on
+-- all these keys give the same result.
 pub both_agree : {X Y : Type 0} (first : Entries → X) (keys : Entries → List Key) (second : X → Entries → Y) (more : X → Entries → List Key)
     → ((t u : Entries) → AgreeOn (keys t) t u → (first t ≡ first u) × (keys t ≡ keys u))
     → ((x : X) (t u : Entries) → AgreeOn (more x t) t u → (second x t ≡ second x u) × (more x t ≡ more x u))

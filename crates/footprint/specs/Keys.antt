@@ -19,14 +19,14 @@ abbrev pub is_cell : Key → Bool
 is_cell (Cell path) = true
 is_cell key = false
 
--- whether a key looks at an entry that stands at a path
+-- whether a key looks at an entry at a path
 abbrev pub selects : Key → (path : List ℕ) → Entry → Bool
 selects (Cell cell) path entry = bytes_eq path cell
 selects (Marked scope name) path entry = belongs scope name path entry
 selects Presets path entry = is_preset (slot_of path)
 selects Links path entry = is_dependency (slot_of path)
 
--- which entries are chosen, by their paths
+-- which entries are chosen, given their paths
 abbrev pub Chosen : Type 0
 Chosen = (path : List ℕ) → Entry → Bool
 
@@ -37,7 +37,7 @@ is_chosen chosen path (Some entry) = chosen path entry
 abbrev pub chosen_at : Chosen → (path : List ℕ) → Option Entry → Option Entry
 chosen_at chosen path there = if is_chosen chosen path there then there else None
 
--- whether a key looks at what stands there, if anything does
+-- whether a key looks at what is there, if anything is
 abbrev pub shows : Key → (path : List ℕ) → Option Entry → Bool
 shows key path there = is_chosen (selects key) path there
 
@@ -57,22 +57,22 @@ part key t = map.retain_keys t (λ path. shows key path (map.get t path))
 abbrev pub any_selects : List Key → Chosen
 any_selects keys path entry = list_any (λ key. selects key path entry) keys
 
--- Entries stand at slots alone.
+-- There are entries only at slots.
 abbrev pub StandAtSlots : Entries → Type 0
 StandAtSlots t = (path : List ℕ) (entry : Entry) → map.get t path ≡ Some entry → is_slot path ≡ true
 
--- What a key sees of a tree: what stands at the cell, or the set of entries that it looks at.
+-- What a key sees of a tree: the entry at the cell, or the set of entries that it looks at.
 abbrev pub seen : Key → Entries → Seen
 seen (Cell path) t = seens.Entry (map.get t path)
 seen (Marked scope name) t = seens.Entries (part (Marked scope name) t)
 seen Presets t = seens.Entries (part Presets t)
 seen Links t = seens.Entries (part Links t)
 
--- Two trees agree on a key where it sees the same in both,
+-- Two trees agree on a key if it sees the same in both,
 abbrev pub Agree : Key → Entries → Entries → Type 0
 Agree key t u = seen key t ≡ seen key u
 
--- and on keys where they agree on each.
+-- and on keys if they agree on each.
 abbrev pub AgreeOn : List Key → Entries → Entries → Type 0
 AgreeOn keys t u = All (λ key. Agree key t u) keys
 
@@ -81,8 +81,9 @@ abbrev pub is_marked : Scope → (name path : List ℕ) → Option Entry → Boo
 is_marked scope name path None = false
 is_marked scope name path (Some entry) = belongs scope name path entry
 
--- A change touches the cell of its path, the names in a scope to which its entry before or after belongs, the presets if
--- its path is one of their slots, and the links if it is the slot of a dependency.
+-- A change touches the cell of its path, the names in a scope to which its entry before or after
+-- belongs, the presets if its path is one of their slots, and the links if it is the slot of a
+-- dependency.
 abbrev pub touches : Change → Key → Bool
 touches change (Cell path) = bytes_eq change.path path
 touches change (Marked scope name) = is_marked scope name change.path change.before || is_marked scope name change.path change.after

@@ -1,4 +1,4 @@
--- For the proofs of this crate: no public contract cites it. How two readings become one.
+-- For the proofs of this crate: no public contract cites it. How two readings are merged into one.
 use Rattle.std.specs.Prelude.{List, [], ◌∷◌}
 use Rattle.std.specs.List.Sorted.{IsStrictlySortedBy}
 use Rattle.std.specs.declared.cmp.Ordering.{Ordering}
@@ -8,12 +8,13 @@ use Rattle.footprint.specs.declared.reading.Observation.{Observation}
 use Rattle.footprint.specs.Order.{key_cmp}
 use Rattle.footprint.specs.Readings.{keys_of, HoldsIn}
 
--- A reading of a tree, or what is left of one: each key once, in the order of keys, with what it sees.
+-- A reading of a tree, or the rest of one: each key once, in the order of keys, with what it sees.
 pub record IsReading (t : Entries) (reading : List Observation) : Type 0 where
   pub holds : HoldsIn t reading
   pub in_order : IsStrictlySortedBy key_cmp (keys_of reading)
 
--- Which of two readings has the next key: `Equal` where both have it, `Greater` where the second has it or none is left.
+-- Which of two readings has the next key: `Equal` if both have it, `Greater` if the second has it
+-- or none is left.
 abbrev pub turn : (first second : List Observation) → Ordering
 turn [] second = Greater
 turn (one ∷ first) [] = Less

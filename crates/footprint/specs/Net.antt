@@ -1,4 +1,4 @@
--- What changes make in all, one list of them after another.
+-- The net changes of one list of changes after another.
 use Rattle.std.specs.Prelude.{ℕ, if◌then◌else◌, List, [], ◌∷◌, ◌++◌, map as list_map, Option, Some, None}
 use Rattle.std.specs.List.{flat_map}
 use Rattle.std.specs.Str.{bytes_eq}
@@ -7,12 +7,13 @@ use Rattle.link_tree.specs.declared.change.Change.{Change}
 use Rattle.link_tree.specs.Trees.{path_cmp}
 use Rattle.link_tree.specs.Differences.{same, change}
 
--- the change of a path, if there is one
+-- the change at a path, if there is one
 abbrev pub change_of : List Change → List ℕ → Option Change
 change_of [] path = None
 change_of (change ∷ changes) path = if bytes_eq path change.path then Some change else change_of changes path
 
--- Two changes of one path, the second after the first: none where what stood there before the first stands there again.
+-- Two changes at one path, the second after the first: none if what was there before the first is
+-- there again.
 abbrev pub net_change : (first second : Option Change) → Option Change
 net_change None second = second
 net_change (Some first) None = Some first
@@ -26,7 +27,7 @@ row path (Some change) = (path, change) ∷ []
 abbrev pub paths_of : List Change → List (List ℕ)
 paths_of changes = list_map (λ change. change.path) changes
 
--- the net changes of each path, by their paths
+-- the net change at each path, by path
 unfoldable pub net_map : (first second : List Change) → map.FinMap path_cmp Change
 net_map first second = map.from_entries (flat_map (λ path. row path (net_change (change_of first path) (change_of second path))) (paths_of first ++ paths_of second))
 

@@ -1,4 +1,5 @@
--- For the proofs of this crate: no public contract cites it. Net changes are those from the first tree to the last.
+-- For the proofs of this crate: no public contract cites it. Net changes are those from the first
+-- tree to the last.
 use Rattle.std.proofs.Common.{◌≡◌, ◌≢◌, ℕ, Bool, true, false, cond, ◌||◌, List, [], ◌∷◌, ◌++◌, Option, Some, None, All, refl, sym, ◌∙◌, ap, subst, inl, inr}
 use Rattle.std.specs.Option.{option_or}
 use Rattle.std.specs.List.{flat_map, list_any}
@@ -18,7 +19,7 @@ use Rattle.link_tree.proofs.Differences.{change_at, get-differences, same_differ
 use Rattle.footprint.specs.Net.{change_of, net_change, row, paths_of, net_map, net}
 use Rattle.footprint.specs.Operations.{AreChanges}
 
--- the change from what stands somewhere to something, if it is another
+-- the change from one entry to another at a path, if the two differ
 abbrev from_to : List ℕ → Option Entry → Option Entry → Option Change
 from_to q before after = cond (same before after) None (Some (change q before after))
 
@@ -28,7 +29,7 @@ other before after apart = elim (cases_Bool (same before after)) [
   | inr away ↦ away
 ]
 
--- the change of a path says what stood there and what stands there then
+-- the change at a path records what was there before and what is there after
 change_there : (t : Entries) (cs : List Change) (q : List ℕ) → AreFrom t cs → All (λ c. c.before ≢ c.after) cs → change_of cs q ≡ from_to q (map.get t q) (after_at cs q (map.get t q))
 change_there t [] q from real = ap (λ b. cond b None (Some (change q (map.get t q) (map.get t q)))) (sym (same-itself (map.get t q)))
 change_there t (c ∷ cs) q from real = elim (cases_Bool (bytes_eq q c.path)) [

@@ -1,4 +1,4 @@
--- What an operation means, and the laws that it keeps.
+-- What an operation means, and the laws that it obeys.
 use Rattle.std.specs.Prelude.{◌≡◌, ◌≢◌, Bool, true, false, List, [], map as list_map, All, Contains}
 use Rattle.std.specs.List.Sorted.{IsStrictlySortedBy}
 use Rattle.link_tree.specs.declared.change.Change.{Change}
@@ -24,7 +24,8 @@ is_question (Done notices) = false
 is_question (Refused refusal) = false
 is_question answer = true
 
--- What an operation comes to in a tree, by what it asks of it: its effect, and the reading of the tree by its keys.
+-- The outcome of an operation in a tree, given its inquiry: its effect, and the reading of the tree
+-- by its keys.
 abbrev pub outcome_of : {O : Type 0} → (O → Inquiry Effect) → O → Entries → Outcome
 outcome_of meaning c t = record {
   answer = ((meaning c).conclusion t).answer;
@@ -32,20 +33,21 @@ outcome_of meaning c t = record {
   reading = reading_of ((meaning c).keys t) t;
 }
 
--- Changes of a tree: each from what stands there to something else, in byte order of their paths, each path once.
+-- Changes of a tree: each from what is there to something else, in byte order of their paths, each
+-- path once.
 pub record AreChanges (t : Entries) (changes : List Change) : Type 0 where
   pub from : AreFrom t changes
   pub real : All (λ change. change.before ≢ change.after) changes
   pub in_order : IsStrictlySortedBy path_cmp (list_map (λ change. change.path) changes)
 
--- What operations keep, by what they ask of trees, and which of them only ask. That each does the same in trees that agree on
--- what it looks at is part of its inquiry.
+-- The laws of operations, stated for what they look up in trees and for whether they are questions.
+-- That each does the same in trees that agree on what it looks at is part of its inquiry.
 pub record OperationLaws {O : Type 0} (asks_only : O → Bool) (meaning : O → Inquiry Effect) : Type 0 where
   -- it looks at each cell that it changes
   pub confinement : (c : O) (t : Entries) → All (λ change. Contains ((meaning c).keys t) (Cell change.path)) ((meaning c).conclusion t).changes
-  -- its changes are from what stands in the tree
+  -- its changes start from what is in the tree
   pub changes : (c : O) (t : Entries) → AreChanges t ((meaning c).conclusion t).changes
   -- a refusal changes nothing
   pub refusal : (c : O) (t : Entries) → is_refused ((meaning c).conclusion t).answer ≡ true → ((meaning c).conclusion t).changes ≡ []
-  -- nor does what only asks
+  -- nor does a question
   pub question : (c : O) (t : Entries) → asks_only c ≡ true → ((meaning c).conclusion t).changes ≡ []

@@ -1,4 +1,4 @@
--- The order of keys, which is that of a reading.
+-- The order of keys, which is also their order in a reading.
 use Rattle.std.specs.Prelude.{ℕ, List, [], ◌∷◌, map as list_map}
 use Rattle.std.specs.Ordering.{on}
 use Rattle.std.specs.FinSet as set
@@ -20,8 +20,9 @@ rank (Marked scope name) = 1
 rank Presets = 2
 rank Links = 3
 
--- Keys are told apart and ordered by these texts: cells come first, in byte order of their paths, then the links that belong
--- to names, those of /etc first, in byte order of the names, then the presets and then the links.
+-- Keys are distinguished and ordered by these texts: cells come first, in byte order of their
+-- paths, then the links that belong to names, those of /etc first, in byte order of the names, then
+-- the presets and then the links.
 abbrev pub spelling : Key → List ℕ
 spelling (Cell path) = 0 ∷ path
 spelling (Marked scope name) = 1 ∷ rank_of_scope scope ∷ name
@@ -35,7 +36,7 @@ key_cmp = on spelling path_cmp
 abbrev pub KeySet : Type 0
 KeySet = set.FinSet key_cmp
 
--- a key as the set's map holds it
+-- a key as it is stored in the set's map
 abbrev pub entry : Key → Key × Unit {0}
 entry key = (key, tt)
 

@@ -1,5 +1,5 @@
--- For the proofs of this crate: no public contract says anything by it. The order of keys is total, and sets of keys are values that
--- can be told apart.
+-- For the proofs of this crate: no public contract mentions it. The order of keys is total, and
+-- equality of sets of keys is decidable.
 use Rattle.std.specs.Prelude.{◌≡◌, ℕ, Bool, true, false, List, ◌⊎◌, refl}
 use Rattle.std.proofs.Common.{inl, inr, sym, ap, ◌∙◌}
 use Rattle.std.specs.Coded.{Coded, code_by, coded×, coded⊎, coded_bool}
@@ -40,7 +40,7 @@ of_own_parts (Marked Run name) = refl
 of_own_parts Presets = refl
 of_own_parts Links = refl
 
--- keys with one spelling have the same parts
+-- keys with the same encoding have the same parts
 same_parts : (key other : Key) → spelling key ≡ spelling other → parts_of key ≡ parts_of other
 same_parts (Cell path) (Cell other) same = let here : path ≡ other = cc in ap inl here
 same_parts (Marked Etc name) (Marked Etc other) same = let here : name ≡ other = cc in ap (λ n. inr (inl (false, n))) here
@@ -62,14 +62,14 @@ same_parts Links (Cell other) same = cc
 same_parts Links (Marked scope other) same = cc
 same_parts Links Presets same = cc
 
--- how keys are told apart
+-- an encoding of keys, by which their equality is decidable
 abbrev pub coded_key : Coded Key
 coded_key = code_by (List ℕ ⊎ (Bool × List ℕ) ⊎ Bool) (coded⊎ coded_path (coded⊎ (coded× coded_bool coded_path) coded_bool)) parts_of of_parts of_own_parts
 
--- keys that are ordered alike are one
+-- keys that compare as equal are equal
 pub exact_keys : IsAntisymmetric key_cmp
 exact_keys key other alike = sym (of_own_parts key) ∙ ap of_parts (same_parts key other (exact_bytes (spelling key) (spelling other) alike)) ∙ of_own_parts other
 
--- how sets of keys are told apart
+-- an encoding of sets of keys, by which their equality is decidable
 abbrev pub coded_keys : Coded KeySet
 coded_keys = set.code coded_key

@@ -1,4 +1,4 @@
--- What commands place: which entries are to stand where, and what that does to a tree.
+-- What commands place: which entries are wanted at which paths, and what that does to a tree.
 use Rattle.std.specs.FinMap as map
 use Rattle.std.specs.Prelude.{ℕ, List, [], ◌∷◌, ◌++◌, map as list_map, All, Contains, Option, Some, None, Result, Ok, Err}
 use Rattle.unit_file.specs.Notices.{NoticeMap}
@@ -12,11 +12,11 @@ use Rattle.footprint.specs.declared.refusal.Refusal.{Refusal}
 use Rattle.footprint.specs.Operations.{Effect}
 use Rattle.footprint.specs.Rules.{Rule, link_at}
 
--- what is to stand at a path: an entry, or nothing
+-- what is wanted at a path: an entry, or nothing
 abbrev pub Placed : Type 0
 Placed = List ℕ × Option Entry
 
--- what is to stand at which paths, in order, or why the command is refused
+-- what is wanted at which paths, in order, or why the command is refused
 abbrev pub Ruling : Type 0
 Ruling = Result (List Placed) Refusal
 
@@ -25,13 +25,13 @@ abbrev pub placed_in : List Placed → Entries → Entries
 placed_in [] t = t
 placed_in (p ∷ placed) t = placed_in placed (set_entry t p.0 p.1)
 
--- What a ruling on a tree answers and changes, with what is told of skipped words: a refusal changes nothing, and tells nothing
--- of them.
+-- The answer and changes of a ruling on a tree, with the notices of skipped arguments: a refusal
+-- changes nothing, and drops the notices.
 abbrev pub effect : Entries → NoticeMap → Ruling → Effect
 effect t notices (Ok placed) = record { answer = Done notices; changes = changes_between t (placed_in placed t) }
 effect t notices (Err refusal) = record { answer = Refused refusal; changes = [] }
 
--- The cell of each path where something is to stand is among these keys.
+-- The cell of each path at which something is placed is among these keys.
 abbrev pub IsLookedAt : List Key → Ruling → Type 0
 IsLookedAt keys (Ok placed) = All (λ p. Contains keys (Cell p.0)) placed
 IsLookedAt keys (Err refusal) = Unit {0}
@@ -41,35 +41,37 @@ abbrev pub ruled_at : List ℕ → Result (Option Entry) Refusal → Ruling
 ruled_at path (Ok entry) = Ok ((path, entry) ∷ [])
 ruled_at path (Err refusal) = Err refusal
 
--- these, and what a later ruling places, unless that is a refusal
+-- these, and then what a later ruling places, unless that is a refusal
 abbrev pub placed_before : List Placed → Ruling → Ruling
 placed_before placed (Ok more) = Ok (placed ++ more)
 placed_before placed (Err refusal) = Err refusal
 
--- What is concluded next, in the tree that a ruling leaves; nothing follows a refusal.
+-- The next ruling, in the tree that a ruling leaves; nothing follows a refusal.
 abbrev pub concluded_after : Ruling → (Entries → Ruling) → Entries → Ruling
 concluded_after (Ok placed) next t = placed_before placed (next (placed_in placed t))
 concluded_after (Err refusal) next t = Err refusal
 
--- the keys by which is looked next, in the tree that a ruling leaves
+-- the keys at which the next step looks, in the tree that a ruling leaves
 abbrev pub keys_after : Ruling → (Entries → List Key) → Entries → List Key
 keys_after (Ok placed) next t = next (placed_in placed t)
 keys_after (Err refusal) next t = []
 
--- Links that are wanted, by their paths: the path of the file to which each is to lead, or none where nothing is to stand.
+-- Links that are wanted, by their paths: the path of the file to which each must lead, or none if
+-- the path must be empty.
 abbrev pub Wanted : Type 0
 Wanted = map.FinMap path_cmp (Option (List ℕ))
 
--- nothing is to stand where these entries are
+-- the paths of these entries must be empty
 unfoldable pub cleared : Entries → Wanted
 cleared t = map.from_entries (list_map (λ e. (e.0, None)) (map.entries t))
 
--- what a wanted link leaves at its path: nothing where nothing is to stand, whatever stands there
+-- what a wanted link leaves at its path: nothing if the path must be empty, whatever is there
 abbrev pub wanted_at : Option (List ℕ) → Rule
 wanted_at (Some file) path there = link_at file path there
 wanted_at None path there = Ok None
 
--- what is left at these paths, at each by what stands there in the tree, or the refusal at the first of them that has one
+-- what is left at these paths, at each given what is in the tree there, or the refusal at the first
+-- of them that has one
 abbrev pub all_wanted : List (List ℕ × Option (List ℕ)) → Entries → Ruling
 all_wanted [] t = Ok []
 all_wanted (link ∷ links) t = concluded_after (ruled_at link.0 (wanted_at link.1 link.0 (map.get t link.0))) (λ left. all_wanted links t) t

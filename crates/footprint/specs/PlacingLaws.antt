@@ -1,5 +1,5 @@
--- For the proofs of this crate: the definitions cite it where an agreement is to be shown, and a reader needs nothing of it. Trees
--- that agree on what was looked at change alike.
+-- For the proofs of this crate: the definitions cite it if an agreement must be shown, and a reader
+-- can skip it. Trees that agree on what was looked at change in the same way.
 use Rattle.std.specs.Prelude.{◌≡◌, ℕ, Bool, true, false, List, [], ◌∷◌, ◌++◌, map as list_map, All, Contains, Option, Some, None, Result, Ok, Err, refl}
 use Rattle.std.proofs.Common.{cond, ap, sym, subst, ◌∙◌, inl, inr}
 use Rattle.std.specs.List.{list_any}
@@ -22,7 +22,7 @@ use Rattle.footprint.specs.Keys.{Agree, AgreeOn}
 use Rattle.footprint.specs.KeyLaws.{same_there, agree_on_after}
 use Rattle.footprint.specs.Placing.{Placed, Ruling, placed_in, effect, IsLookedAt, ruled_at, placed_before, concluded_after, keys_after}
 
--- what is the same at a path is the same there after the same placing
+-- if two trees have the same entry at a path, they still do after the same placing
 placed_alike : (placed : List Placed) (t u : Entries) (path : List ℕ) → map.get t path ≡ map.get u path → map.get (placed_in placed t) path ≡ map.get (placed_in placed u) path
 placed_alike [] t u path same = same
 placed_alike (p ∷ placed) t u path same =
@@ -37,17 +37,17 @@ placed_changes : (placed : List Placed) (t : Entries) → after_changes (as_chan
 placed_changes [] t = refl
 placed_changes (p ∷ placed) t = placed_changes placed (set_entry t p.0 p.1)
 
--- trees that agree on keys agree on them after the same placing
+-- trees that agree on keys still agree on them after the same placing
 agree_placed : (keys : List Key) (placed : List Placed) (t u : Entries) → AgreeOn keys t u → AgreeOn keys (placed_in placed t) (placed_in placed u)
 agree_placed keys placed t u agree =
     subst (λ m. AgreeOn keys m (placed_in placed u)) (placed_changes placed t)
     (subst (λ m. AgreeOn keys (after_changes (as_changes placed) t) m) (placed_changes placed u) (agree_on_after keys (as_changes placed) t u agree))
 
--- where trees agree on keys, the same stands in a cell that is one of them
+-- if trees agree on keys, they have the same entry at a cell that is one of them
 same_at : (keys : List Key) (t u : Entries) (path : List ℕ) → AgreeOn keys t u → Contains keys (Cell path) → map.get t path ≡ map.get u path
 same_at keys t u path agree here = same_there path t u (All-contains (λ key. Agree key t u) keys (Cell path) agree here)
 
--- whether something is to stand at a path
+-- whether something is placed at a path
 abbrev is_placed : List Placed → List ℕ → Bool
 is_placed placed path = list_any (λ p. bytes_eq path p.0) placed
 
@@ -64,7 +64,7 @@ placed_at_key keys (p ∷ placed) path all here = elim (cases_Bool (bytes_eq pat
   | inr away ↦ placed_at_key keys placed path (All-tail (λ p. Contains keys (Cell p.0)) p placed all) (rw away at here)
 ]
 
--- where trees differ after something was placed, it was placed
+-- if a tree differs at a path after placing, something was placed there
 pub differs_at_key : (keys : List Key) (placed : List Placed) (t : Entries) → All (λ p. Contains keys (Cell p.0)) placed
     → (path : List ℕ) → same (map.get t path) (map.get (placed_in placed t) path) ≡ false → Contains keys (Cell path)
 differs_at_key keys placed t all path differs = elim (cases_Bool (is_placed placed path)) [
@@ -72,7 +72,7 @@ differs_at_key keys placed t all path differs = elim (cases_Bool (is_placed plac
   | inr away ↦ absurd (true≢false (sym (ap (same (map.get t path)) (placed_other placed t path away) ∙ same-itself (map.get t path)) ∙ differs))
 ]
 
--- what changes at a path, where the same stood there
+-- what changes at a path, if the same entry was there
 changes_alike : (keys : List Key) (placed : List Placed) (t u : Entries) → All (λ p. Contains keys (Cell p.0)) placed → AgreeOn keys t u
     → (path : List ℕ) → change_at t (placed_in placed t) path ≡ change_at u (placed_in placed u) path
 changes_alike keys placed t u all agree path = elim (cases_Bool (is_placed placed path)) [
@@ -86,7 +86,8 @@ changes_alike keys placed t u all agree path = elim (cases_Bool (is_placed place
     unchanged m away = ap (λ there. cond (same (map.get m path) there) None (Some (record { path = path; before = map.get m path; after = there }))) (placed_other placed m path away)
         ∙ ap (λ b. cond b None (Some (record { path = path; before = map.get m path; after = map.get m path }))) (same-itself (map.get m path))
 
--- a ruling has the same effect on trees that agree on keys among which the cells are where something is to stand
+-- a ruling has the same effect on trees that agree on keys, if these include the cells of all paths
+-- at which it places something
 effect_alike : (keys : List Key) (notices : NoticeMap) (ruling : Ruling) (t u : Entries) → IsLookedAt keys ruling → AgreeOn keys t u → effect t notices ruling ≡ effect u notices ruling
 unfolding changes_between
 effect_alike keys notices (Ok placed) t u looked agree =
@@ -95,7 +96,7 @@ effect_alike keys notices (Ok placed) t u looked agree =
     ap (λ changes. record { answer = Done notices; changes = map.values changes }) same_changes
 effect_alike keys notices (Err refusal) t u looked agree = refl
 
--- more keys before the first, or behind the last
+-- more keys before the first, or after the last
 more_keys : (before keys : List Key) (placed : List Placed) → All (λ p. Contains keys (Cell p.0)) placed → All (λ p. Contains (before ++ keys) (Cell p.0)) placed
 more_keys before keys placed looked = All-weaker (λ p. Contains keys (Cell p.0)) (λ p. Contains (before ++ keys) (Cell p.0)) (λ p here. Contains-append_right before keys (Cell p.0) here) placed looked
 
@@ -117,7 +118,7 @@ pub more_looked_at : (before keys : List Key) (placed : List Placed) (ruling : R
 more_looked_at before keys placed (Ok more) first looked = All-append (λ p. Contains (before ++ keys) (Cell p.0)) placed more (later_keys before keys placed first) (more_keys before keys more looked)
 more_looked_at before keys placed (Err refusal) first looked = tt
 
--- what a step concludes, by the keys by which it looks
+-- the ruling of a step, given the keys at which it looks
 module _ (conclusion : Entries → Ruling) (keys : Entries → List Key)
     (agreement : (t u : Entries) → AgreeOn (keys t) t u → (conclusion t ≡ conclusion u) × (keys t ≡ keys u))
     (looked : (t : Entries) → IsLookedAt (keys t) (conclusion t)) where
@@ -127,7 +128,7 @@ module _ (conclusion : Entries → Ruling) (keys : Entries → List Key)
       let found = agreement t u agree in
       (effect_alike (keys t) notices (conclusion t) t u (looked t) agree ∙ ap (effect u notices) found.0, found.1)
 
-  -- and comes to the same after the same ruling on either
+  -- and has the same result after the same ruling on either
   pub agreement_after : (first : Ruling) (t u : Entries) → AgreeOn (keys_after first keys t) t u
       → (concluded_after first conclusion t ≡ concluded_after first conclusion u) × (keys_after first keys t ≡ keys_after first keys u)
   agreement_after (Ok placed) t u agree =

@@ -23,15 +23,15 @@ reading_of keys t = list_map (observed t) (in_order keys)
 abbrev pub keys_of : List Observation → List Key
 keys_of reading = list_map (λ observation. observation.key) reading
 
--- In a tree a key sees what it saw.
+-- In a tree, a key sees what it saw.
 abbrev pub Holds : Entries → Observation → Type 0
 Holds t observation = seen observation.key t ≡ observation.seen
 
--- A tree agrees with a reading where each key sees in it what it saw.
+-- A tree agrees with a reading if each key sees in it what it saw.
 abbrev pub HoldsIn : Entries → List Observation → Type 0
 HoldsIn t reading = All (Holds t) reading
 
--- The first key that sees in a tree what it didn't see.
+-- The first key that sees in a tree something other than it saw.
 abbrev pub IsFirstOther : Entries → List Observation → Key → Type 0
 IsFirstOther t reading key =
     (before : List Observation) × (observation : Observation) × (later : List Observation)

@@ -8,15 +8,15 @@ use Rattle.footprint.specs.declared.key.Key.{Key}
 use Rattle.footprint.specs.declared.key.Key.TheVariants.{Marked, Presets, Links}
 use Rattle.footprint.specs.Keys.{Chosen, chosen_at, selects, part}
 
--- All entries of a tree that a key looks at stand in another.
+-- All entries of a tree that a key looks at are also in another.
 abbrev pub AllStand : Key → Entries → Entries → Type 0
 AllStand key t u = (path : List ℕ) (entry : Entry) → map.get t path ≡ Some entry → selects key path entry ≡ true → map.get u path ≡ Some entry
 
--- All entries of a tree are such as a key looks at.
+-- A key looks at all entries of a tree.
 abbrev pub AllSelected : Key → Entries → Type 0
 AllSelected key t = (path : List ℕ) (entry : Entry) → map.get t path ≡ Some entry → selects key path entry ≡ true
 
--- What stands at a path, if a key looks at it, stands in another tree.
+-- The entry at a path, if a key looks at it, is also in another tree.
 abbrev pub StandsIn : Key → Entries → Entries → List ℕ → Type 0
 StandsIn key t u path = (entry : Entry) → map.get t path ≡ Some entry → selects key path entry ≡ true → map.get u path ≡ Some entry
 
@@ -25,13 +25,13 @@ abbrev pub is_marked : Key → Bool
 is_marked (Marked scope name) = true
 is_marked key = false
 
--- whether all entries are gone through for a key
+-- whether all entries are scanned for a key
 abbrev pub walks : Key → Bool
 walks Presets = true
 walks Links = true
 walks key = false
 
--- A key for which all entries are gone through sees the same in two trees.
+-- A key for which all entries are scanned sees the same in two trees.
 abbrev pub SeesTheSame : Entries → Entries → Key → Type 0
 SeesTheSame t u key = walks key ≡ true → part key t ≡ part key u
 
@@ -44,16 +44,16 @@ abbrev pub placed_in : Entries → List ℕ → Option Entry → Entries
 placed_in found path None = found
 placed_in found path (Some entry) = set_entry found path (Some entry)
 
--- what stands at a path in a tree comes to what was found, if it is chosen
+-- the entry at a path in a tree is added to what was found, if it is chosen
 abbrev pub taken : Chosen → Entries → List ℕ → Entries → Entries
 taken chosen t path found = placed_in found path (chosen_at chosen path (map.get t path))
 
--- so it does at each of the paths,
+-- the same for each of the paths,
 abbrev pub taken_all : Chosen → Entries → List (List ℕ) → Entries → Entries
 taken_all chosen t [] found = found
 taken_all chosen t (path ∷ paths) found = taken_all chosen t paths (taken chosen t path found)
 
--- and for each of the keys.
+-- and for the paths of each of the keys.
 abbrev pub taken_for : Chosen → Entries → List Key → Entries → Entries
 taken_for chosen t [] found = found
 taken_for chosen t (key ∷ keys) found = taken_for chosen t keys (taken_all chosen t (marked_by key t) found)

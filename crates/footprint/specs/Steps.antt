@@ -1,4 +1,5 @@
--- What commands are made of: steps, which look at a tree and come to what is to stand where.
+-- What commands are made of: steps, which look at a tree and determine which entries are wanted at
+-- which paths.
 use Rattle.std.specs.FinMap as map
 use Rattle.std.specs.Prelude.{◌≡◌, ℕ, List, [], ◌∷◌, ◌++◌, map as list_map, Result, Ok, Err}
 use Rattle.link_tree.specs.Trees.{Entries}
@@ -13,8 +14,8 @@ use Rattle.footprint.specs.PlacingLaws.{none_looked_at, path_looked_at, looked_b
 use Rattle.footprint.specs.Rules.{Rule}
 use Rattle.footprint.specs.WantedLaws.{all_wanted_agree, all_wanted_looked_at}
 
--- A step of a command is an inquiry for what is to stand where, or for the reason to refuse, that looks at the cell of each path
--- where something is to stand.
+-- A step of a command is an inquiry that determines what is wanted at which paths, or the reason to
+-- refuse, and that looks at the cell of each path at which something is placed.
 pub record Step : Type 0 where
   pub conclusion : Entries → Ruling
   pub keys : Entries → List Key
@@ -24,7 +25,7 @@ pub record Step : Type 0 where
 abbrev pub step_of : (q : Inquiry Ruling) → ((t : Entries) → IsLookedAt (q.keys t) (q.conclusion t)) → Step
 step_of q looked = record { conclusion = q.conclusion; keys = q.keys; agreement = q.agreement; looked = looked }
 
--- all stays
+-- all stays as it is
 abbrev pub nothing : Step
 nothing = step_of (over (Ok [])) (λ t. none_looked_at)
 
@@ -32,11 +33,11 @@ nothing = step_of (over (Ok [])) (λ t. none_looked_at)
 abbrev pub refuse : Refusal → Step
 refuse refusal = step_of (over (Err refusal)) (λ t. tt)
 
--- a path is left as a rule says by what stands there
+-- a path is left as a rule says, given what is there
 abbrev pub ruled : Rule → List ℕ → Step
 ruled rule path = step_of (giving (stands_at path) (λ there. ruled_at path (rule path there))) (λ t. path_looked_at path (rule path (map.get t path)))
 
--- what an inquiry comes to decides the step
+-- the result of an inquiry decides the step
 infixl 10 ◌>>=◌
 abbrev pub ◌>>=◌ : {X : Type 0} → Inquiry X → (X → Step) → Step
 q >>= f = record {
@@ -51,7 +52,7 @@ abbrev pub unless_refused : {X : Type 0} → (X → Step) → Result X Refusal �
 unless_refused on (Ok x) = on x
 unless_refused on (Err refusal) = refuse refusal
 
--- a step, and then another in the tree that the first leaves; a refusal of either refuses both
+-- a step, and then another in the tree that the first leaves; if either is refused, both are
 abbrev pub and_then : (first second : Step) → Step
 and_then first second = record {
   conclusion = λ t. concluded_after (first.conclusion t) second.conclusion t;
@@ -66,8 +67,9 @@ abbrev pub each_in_turn : {A : Type 0} → (A → Step) → List A → Step
 each_in_turn step [] = nothing
 each_in_turn step (a ∷ rest) = and_then (step a) (each_in_turn step rest)
 
--- The other: all at once. The cell of every path is looked at, also where something else stands or nothing is done; in byte order of
--- the paths, the first where something else stands is refused.
+-- The other: all at once. The cell of every path is looked at, even if something else is there or
+-- nothing is done. The refusal is that of the first path, in byte order, at which something is in
+-- the way.
 abbrev pub all_at_once : Wanted → Step
 all_at_once wanted = record {
   conclusion = all_wanted (map.entries wanted);

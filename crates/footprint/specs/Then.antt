@@ -11,19 +11,19 @@ use Rattle.footprint.specs.Net.{net}
 use Rattle.footprint.specs.Operations.{Effect, is_refused}
 use Rattle.footprint.specs.Readings.{keys_of, reading_of}
 
--- the answer of the second, with the notices of both where both are done
+-- the answer of the second, with the notices of both if both are done
 abbrev pub answer_of_both : (first second : Answer) → Answer
 answer_of_both (Done notices) (Done more) = Done (joined notices more)
 answer_of_both first second = second
 
--- The effect of both: a refusal of the second drops the changes of the first.
+-- The effect of both: if the second is refused, the changes of the first are dropped.
 abbrev pub effect_of_both : (first second : Effect) → Effect
 effect_of_both first second = record {
   answer = answer_of_both first.answer second.answer;
   changes = if is_refused second.answer then [] else net first.changes second.changes;
 }
 
--- What comes after the first: nothing where it is refused, else the second on the tree after its changes.
+-- What follows the first: nothing if it is refused, else the second on the tree after its changes.
 abbrev pub continued : (second : Inquiry Effect) → (first : Effect) → Inquiry Effect
 continued second first = if is_refused first.answer then over first else giving (after first.changes second) (effect_of_both first)
 
@@ -31,15 +31,16 @@ continued second first = if is_refused first.answer then over first else giving 
 abbrev pub followed_by : (first second : Inquiry Effect) → Inquiry Effect
 followed_by first second = first >>= continued second
 
--- What two operations ask of a tree, and what effect they have.
+-- What two operations look up in a tree, and what effect they have.
 abbrev pub then_meaning : {A B : Type 0} → (A → Inquiry Effect) → (B → Inquiry Effect) → Then A B → Inquiry Effect
 then_meaning first second c = followed_by (first c.first) (second c.second)
 
--- Both only ask where each does.
+-- Both together are a question if each is.
 abbrev pub both_ask : {A B : Type 0} → (A → Bool) → (B → Bool) → Then A B → Bool
 both_ask first second c = first c.first && second c.second
 
--- For functions that make the outcome of both on a tree, of those of the first there and of the second on the tree after it.
+-- For functions that compute the outcome of both on a tree from that of the first there and that of
+-- the second on the tree after it.
 abbrev pub outcome_of_both : Entries → (first second : Outcome) → Outcome
 outcome_of_both t first second = record {
   answer = answer_of_both first.answer second.answer;

@@ -1,4 +1,5 @@
--- For the proofs of this crate: no public contract cites it. Two operations, one after the other, keep the laws that each keeps.
+-- For the proofs of this crate: no public contract cites it. Two operations, one after the other,
+-- obey the laws that each obeys.
 use Rattle.std.proofs.Common.{◌≡◌, ◌≢◌, ℕ, Bool, true, false, cond, List, [], ◌++◌, map as list_map, All, Contains, refl, sym, ◌∙◌, ap, subst, inl, inr}
 use Rattle.std.specs.List.Sorted.{IsStrictlySortedBy}
 use Rattle.std.specs.FinMap as map
@@ -26,7 +27,7 @@ use Rattle.footprint.specs.Operations.{Effect, AreChanges, OperationLaws, is_ref
 use Rattle.footprint.specs.Then.{answer_of_both, effect_of_both, then_meaning, both_ask}
 use Rattle.footprint.specs.NetLaws.{net_between}
 
--- both are refused where the second is
+-- both are refused if the second is
 pub refused_of_both : (first second : Answer) → is_refused (answer_of_both first second) ≡ is_refused second
 refused_of_both (Done notices) (Done more) = refl
 refused_of_both (Done notices) (State word) = refl
@@ -42,21 +43,21 @@ none_in_order : IsStrictlySortedBy path_cmp []
 unfolding IsStrictlySortedBy
 none_in_order = tt
 
--- no changes are changes of any tree
+-- an empty list of changes is valid for every tree
 pub no_changes : (t : Entries) → AreChanges t []
 no_changes t = record { from = tt; real = All-nil (λ change. change.before ≢ change.after); in_order = none_in_order }
 
 pub changes_between_are : (t u : Entries) → AreChanges t (changes_between t u)
 changes_between_are t u = let these = leads t u in record { from = these.from; real = these.real; in_order = these.in_order }
 
--- where trees differ after changes, something was changed
+-- if trees differ at a path after changes, something was changed there
 changed_where : (t : Entries) (cs : List Change) (path : List ℕ) → same (map.get t path) (map.get (after_changes cs t) path) ≡ false → is_changed cs path ≡ true
 changed_where t cs path differs = elim (cases_Bool (is_changed cs path)) [
   | inl here ↦ here
   | inr away ↦ absurd (false≢true (sym differs ∙ ap (same (map.get t path)) (get-after_changes cs t path ∙ unchanged cs path (map.get t path) away) ∙ same-itself (map.get t path)))
 ]
 
--- what holds of the effect of an operation, by its keys
+-- what holds for the effect of an operation, given its keys
 pub record Sound (t : Entries) (keys : List Key) (e : Effect) : Type 0 where
   pub confined : All (λ change. Contains keys (Cell change.path)) e.changes
   pub changes : AreChanges t e.changes
@@ -72,7 +73,8 @@ module _ (t : Entries) (first second : Effect) (before after : List Key) (one : 
   net_is : net first.changes second.changes ≡ changes_between t v
   net_is = net_between t first.changes second.changes one.changes two.changes
 
-  -- where the first tree and the last differ, so do two that follow one another, so something was changed there
+  -- if the first tree and the last differ at a path, so do two consecutive ones, so something was
+  -- changed there
   net_at : (P : List ℕ → Type 0) → All (λ change. P change.path) first.changes → All (λ change. P change.path) second.changes → All (λ change. P change.path) (changes_between t v)
   net_at P at_first at_second = changes_at t v P (λ path differs. elim (cases_Bool (same (map.get t path) (map.get u path))) [
     | inl alike ↦ at_changed P second.changes path at_second (changed_where u second.changes path (ap (λ o. same o (map.get v path)) (sym (same_is _ _ alike)) ∙ differs))
@@ -84,7 +86,7 @@ module _ (t : Entries) (first second : Effect) (before after : List Key) (one : 
       (All-weaker (λ change. Contains before (Cell change.path)) (λ change. Contains (before ++ after) (Cell change.path)) (λ change. Contains-append_left before after (Cell change.path)) first.changes one.confined)
       (All-weaker (λ change. Contains after (Cell change.path)) (λ change. Contains (before ++ after) (Cell change.path)) (λ change. Contains-append_right before after (Cell change.path)) second.changes two.confined)
 
-  -- what holds of each path that either changes holds of each that both change
+  -- what holds for each path that one of them changes holds for each path of the net changes
   pub both_at : (P : List ℕ → Type 0) → All (λ change. P change.path) first.changes → All (λ change. P change.path) second.changes → All (λ change. P change.path) (effect_of_both first second).changes
   both_at P at_first at_second = by_refused (is_refused second.answer)
     where
@@ -107,11 +109,11 @@ module _ (t : Entries) (first second : Effect) (before after : List Key) (one : 
   pub both_sound : Sound t (before ++ after) (effect_of_both first second)
   both_sound = by_second (is_refused second.answer) (λ h. h)
 
--- a map with nothing has no values
+-- an empty map has no values
 none_there : map.entries (map.empty {K = List ℕ} {X = Change} {R = path_cmp}) ≡ []
 none_there = same_entries path_cmp nat_list_cmp_total exact_bytes (map.entries map.empty) [] (map.entries_sorted map.empty) tt (λ q. sym (map.get-entries map.empty q) ∙ map.get-empty path_cmp q)
 
--- nothing changes in all where nothing does
+-- the net changes are empty if both lists are
 net_none : (t : Entries) → net [] [] ≡ []
 unfolding changes_between
 net_none t = net_between t [] [] (no_changes t) (no_changes t) ∙ ap (λ m. map.values m) (differences-same t) ∙ ap (list_map (λ e. e.1)) none_there
@@ -135,7 +137,7 @@ module _ {A B : Type 0} {asks_first : A → Bool} {asks_second : B → Bool} {fi
     then_sound : (c : Then A B) (t : Entries) → Sound t ((then_meaning first second c).keys t) ((then_meaning first second c).conclusion t)
     then_sound c t = continued_sound c t (is_refused (done c t).answer)
 
-    -- what only asks changes nothing, nor do two of them
+    -- a question changes nothing, nor do two of them
     none_of_both : (a b : Effect) (t : Entries) (refused : Bool) → a.changes ≡ [] → b.changes ≡ [] → cond refused [] (net a.changes b.changes) ≡ []
     none_of_both a b t true none later = refl
     none_of_both a b t false none later = (λ i. net (none i) (later i)) ∙ net_none t

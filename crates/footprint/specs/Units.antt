@@ -11,7 +11,7 @@ use Rattle.footprint.specs.declared.refusal.Refusal.TheVariants.{NotFound, Maske
 use Rattle.footprint.specs.Inquiry.{by_cells, giving}
 use Rattle.footprint.specs.Steps.{Step, unless_refused, ◌>>=◌}
 
--- a unit's own name and its file, by what was found
+-- a unit's own name and its file, given what was found
 abbrev pub found_unit : (name : List ℕ) → Found → Result (List ℕ × List ℕ) Refusal
 found_unit name founds.Missing = Err (NotFound (Unit name))
 found_unit name (founds.Masked place) = Err (Masked (Unit name))
@@ -24,6 +24,6 @@ with_unit name on = do
   unit ← giving (by_cells (find name)) (found_unit name)
   unless_refused (λ (unit : List ℕ × List ℕ). on unit.0 unit.1) unit
 
--- For the laws: a name is found as a unit, which has this name of its own and this file.
+-- For the laws: a name is found as a unit, with this own name and this file.
 abbrev pub IsFound : Entries → (name real file : List ℕ) → Type 0
 IsFound t name real file = (place : Place) × ((find name).conclusion t ≡ founds.Unit real file place)

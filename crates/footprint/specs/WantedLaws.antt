@@ -1,5 +1,5 @@
--- For the proofs of this crate: the definitions cite it where an agreement is to be shown, and a reader needs nothing of it. What is
--- wanted all at once.
+-- For the proofs of this crate: the definitions cite it if an agreement must be shown, and a reader
+-- can skip it. What is wanted all at once.
 use Rattle.std.specs.Prelude.{◌≡◌, ℕ, List, [], ◌∷◌, map as list_map, Option, Ok, Err, refl}
 use Rattle.std.proofs.Common.{ap, ◌∙◌}
 use Rattle.std.specs.FinMap as map

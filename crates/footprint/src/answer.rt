@@ -1,4 +1,4 @@
-//! What operations answer.
+//! The answers of operations.
 ghost use Rattle.std.specs.Prelude.{◌≡◌, IfOk};
 
 use crate::refusal::Refusal;
@@ -23,10 +23,10 @@ pub enum StateWord {
     Disabled,
 }
 
-/// What an operation answers.
+/// The answer of an operation.
 #[derive(Debug, Drop)]
 pub enum Answer {
-    /// A command is carried out, but for the words that the notices name.
+    /// A command was carried out, except for the arguments that the notices name.
     Done(Notices),
     /// `is-enabled`.
     State(StateWord),
@@ -39,7 +39,7 @@ pub enum Answer {
 }
 
 impl Answer {
-    /// A copy of the answer. Fails only where memory runs out.
+    /// A copy of the answer. Fails only if memory runs out.
     pub fn copy(&self) -> Result<Answer, AllocError>
         ensures { IfOk result (λ answer. answer ≡ self.now) }
     {

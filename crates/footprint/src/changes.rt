@@ -6,7 +6,8 @@ use link_tree::Change;
 use std::alloc::{AllocError, Global};
 use std::marker::Model;
 
-/// The changes that an operation makes, in byte order of their paths, each path once. Contracts see their list.
+/// The changes that an operation makes, in byte order of their paths, each path once. Contracts see
+/// the list of them.
 #[derive(Debug, Drop)]
 pub struct Changes {
     items: Vec<Change>,
@@ -22,7 +23,7 @@ impl Model for Changes {
 }
 
 impl Changes {
-    /// No changes, as of a refusal or a question. Takes no memory.
+    /// No changes, as for a refusal or a question. Allocates no memory.
     pub fn none(alloc: Global) -> Changes
         ensures { result ≡ [] }
     {
@@ -31,7 +32,7 @@ impl Changes {
         }
     }
 
-    /// Adds a change. Where memory runs out the list stays as it was.
+    /// Adds a change. If memory runs out, the list stays as it was.
     pub(crate) fn push(&mut self, change: Change) -> Result<(), AllocError>
         ensures ok { OnOk result (self.new ≡ self.old ++ change ∷ []) }
         ensures err { OnErr result (self.new ≡ self.old) }
@@ -46,7 +47,7 @@ impl Changes {
         &self.items
     }
 
-    /// A copy of the changes. Fails only where memory runs out.
+    /// A copy of the changes. Fails only if memory runs out.
     pub fn copy(&self) -> Result<Changes, AllocError>
         ensures { IfOk result (λ changes. changes ≡ self.now) }
     {
@@ -57,8 +58,8 @@ impl Changes {
         Ok(copy)
     }
 
-    /// The changes that take these back, in the same order: at each path what stood there before stands there after. Fails only
-    /// where memory runs out.
+    /// The changes that undo these, in the same order: after them, each path has the entry that it
+    /// had before these. Fails only if memory runs out.
     pub fn inverse(&self) -> Result<Changes, AllocError>
         ensures { IfOk result (λ changes. changes ≡ inverse_of self.now) }
     {

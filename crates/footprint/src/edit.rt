@@ -1,4 +1,4 @@
-//! Trees that are edited.
+//! Trees that are being edited.
 ghost use Rattle.std.specs.Prelude.{◌≡◌, [], true, All, Ok, IfOk, OnOk};
 ghost use Rattle.std.specs.Option.{option_copied};
 ghost use Rattle.std.specs.FinMap as map;
@@ -24,8 +24,8 @@ use std::alloc::{AllocError, Global};
 use std::marker::Model;
 use unit_file::Notices;
 
-/// A tree that a command edits: as it was, and as it is now, which is a copy that shares its parts with the first. Contracts
-/// see the two trees.
+/// A tree that a command edits: as it was, and as it is now, which is a copy that shares its parts
+/// with the first. Contracts see the two trees.
 #[derive(Drop)]
 pub struct Edit<'a> {
     first: &'a Tree,
@@ -49,8 +49,8 @@ impl<'a> Model for Edit<'a> {
     ghost invariant = { λ edit. IsEdit edit.first.now edit.tree edit.changes };
 }
 
-/// Puts an entry at a slot of a tree instead of what is there, or with `None` removes that, and notes how the slot then differs from
-/// the first tree.
+/// Puts an entry at a slot of a tree instead of what is there, or with `None` removes that, and
+/// notes how the slot then differs from the first tree.
 pub(crate) fn put_noted(
     first: &Tree,
     tree: &mut Tree,
@@ -67,18 +67,18 @@ pub(crate) fn put_noted(
 }
 
 impl<'a> Edit<'a> {
-    /// Begins an edit of a tree, with no change yet. Fails only where memory runs out.
+    /// Begins an edit of a tree, with no change yet. Fails only if memory runs out.
     pub fn new(alloc: Global, tree: &'a Tree) -> Result<Edit<'a>, AllocError>
         ensures { IfOk result (λ edit. edit ≡ (tree.now, tree.now)) }
     {
         Ok(Edit {
             first: tree,
-            tree: tree.copy()?,
+            tree: tree.share()?,
             changes: NetChanges::none(alloc),
         })
     }
 
-    /// What stands at the path now, after what was put so far.
+    /// The entry at the path now, after all edits so far.
     pub fn get(&self, path: &TreePath) -> Option<&Entry>
         ensures { option_copied result ≡ map.get self.now.1 path.now }
     {
@@ -92,8 +92,8 @@ impl<'a> Edit<'a> {
         &self.tree
     }
 
-    /// Puts an entry at a slot in place of what stands there, or with `None` takes that away. The path is to be a slot. Fails only
-    /// where memory runs out.
+    /// Puts an entry at a slot instead of what is there, or with `None` removes that. The path must
+    /// be a slot. Fails only if memory runs out.
     pub fn with(self, slot: &TreePath, entry: Option<Entry>) -> Result<Edit<'a>, AllocError>
         requires { is_slot slot.now ≡ true }
         ensures { IfOk result (λ edit. edit ≡ (self.entry.0, set_entry self.entry.1 slot.now entry)) }
@@ -111,8 +111,8 @@ impl<'a> Edit<'a> {
         })
     }
 
-    /// Puts at a slot what a rule left there, or hands the rule's refusal on. The path is to be a slot. The outer error is want of
-    /// memory alone.
+    /// Puts at a slot what a rule returned for it, or returns the rule's refusal. The path must be
+    /// a slot. The outer error occurs only if memory runs out.
     pub fn ruled(
         self,
         slot: &TreePath,
@@ -127,9 +127,10 @@ impl<'a> Edit<'a> {
         }
     }
 
-    /// Makes all links that are wanted in the tree as it is now, and takes away what is not to stand. The cell of each slot is added
-    /// to the keys, also where something else stands or nothing is done. `Exists` names the least path, in byte order, where
-    /// something is in the way of a link. The outer error is want of memory alone.
+    /// Makes all wanted links in the tree as it is now, and removes the entries that are wanted
+    /// absent. The cell of each slot is added to the keys, even if something else is there or
+    /// nothing is done. `Exists` names the least path, in byte order, at which something is in the
+    /// way of a link. The outer error occurs only if memory runs out.
     pub fn all_at_once(
         self,
         alloc: Global,
@@ -153,8 +154,8 @@ impl<'a> Edit<'a> {
         }
     }
 
-    /// The changes from the tree as it was to the tree as it is now: an entry that was put back is none. Fails only where memory
-    /// runs out.
+    /// The changes from the tree as it was to the tree as it is now: an entry that was put back
+    /// counts as no change. Fails only if memory runs out.
     pub fn into_changes(self, alloc: Global) -> Result<Changes, AllocError>
         ensures changes { IfOk result (λ changes. changes ≡ changes_between self.entry.0 self.entry.1) }
         ensures slots { IfOk result (λ changes. All (λ change. is_slot change.path ≡ true) changes) }
@@ -164,8 +165,9 @@ impl<'a> Edit<'a> {
 }
 
 impl Outcome {
-    /// The outcome of a command: the changes of its edit, with the notices of words that it skipped, or its refusal, and the reading
-    /// of the tree by the keys of what it looked at. Fails only where memory runs out.
+    /// The outcome of a command: either the changes of its edit, with the notices of arguments that
+    /// it skipped, or its refusal; and the reading of the tree by the keys of what it looked at.
+    /// Fails only if memory runs out.
     pub fn of(
         alloc: Global,
         tree: &Tree,
@@ -182,7 +184,7 @@ impl Outcome {
         }
     }
 
-    /// The outcome of a command that is carried out.
+    /// The outcome of a command that was carried out.
     fn done(
         alloc: Global,
         tree: &Tree,
@@ -202,7 +204,7 @@ impl Outcome {
         })
     }
 
-    /// The outcome of a command that is refused.
+    /// The outcome of a command that was refused.
     fn refused(
         alloc: Global,
         tree: &Tree,

@@ -8,9 +8,9 @@ use link_tree::{Entry, Scope, Slot, TreePath, belongs};
 use std::alloc::AllocError;
 use unit_name::UnitName;
 
-/// What an operation looks at in a tree; together its keys are its footprint. In a reading, cells are
-/// first, in byte order of their paths, then the links that belong to names, those of `/etc` first, in
-/// byte order of the names, then `Presets`, then `Links`.
+/// What an operation looks at in a tree; together its keys are its footprint. In a reading, cells
+/// are first, in byte order of their paths, then the links that belong to names, those of `/etc`
+/// first, in byte order of the names, then `Presets`, then `Links`.
 #[derive(Debug, Drop)]
 pub enum Key {
     /// The entry at a path.
@@ -19,11 +19,12 @@ pub enum Key {
     Marked(Scope, UnitName),
     /// The entries at the slots of presets.
     Presets,
-    /// The entries at the slots of dependencies: in `.wants`, `.requires` and `.upholds` directories.
+    /// The entries at the slots of dependencies: in `.wants`, `.requires` and `.upholds`
+    /// directories.
     Links,
 }
 
-/// Fills a list's unused room; it is never read.
+/// Fills a list's unused capacity; it is never read.
 impl Default for Key {
     ghost use Rattle.std.specs.Prelude.{◌≡◌};
     ghost use Rattle.footprint.specs.declared.key.Key.TheVariants.{Links};
@@ -55,21 +56,21 @@ impl Key {
         matches!(self, Key::Cell(_))
     }
 
-    /// Whether it looks at the links that belong to a name, which are looked up.
+    /// Whether it looks at the links that belong to a name, which are found by a look-up.
     pub(crate) fn is_marked(&self) -> bool
         ensures { result ≡ is_marked self.now }
     {
         matches!(self, Key::Marked(..))
     }
 
-    /// Whether all entries are walked over for it.
+    /// Whether all entries of the tree must be scanned for it.
     pub(crate) fn walks(&self) -> bool
         ensures { result ≡ walks self.now }
     {
         matches!(self, Key::Presets | Key::Links)
     }
 
-    /// The position of keys of its kind among others.
+    /// The rank of keys of its kind in the order of keys.
     pub(crate) fn rank(&self) -> u8
         ensures { result ≡ rank self.now }
     {
@@ -81,7 +82,7 @@ impl Key {
         }
     }
 
-    /// Whether it looks at an entry, by its path.
+    /// Whether it looks at an entry, judged by the entry's path.
     pub(crate) fn selects(&self, path: &TreePath, entry: &Entry) -> bool
         ensures { result ≡ selects self.now path.now entry.now }
     {

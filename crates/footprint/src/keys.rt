@@ -15,10 +15,11 @@ use std::alloc::{AllocError, Global};
 use std::collections::BTreeSet;
 use std::marker::Model;
 
-/// How many keys a list keeps without memory of its own: most commands look at fewer.
+/// How many keys a list holds without allocating memory: most commands look at fewer.
 const FEW: usize = 8;
 
-/// Keys in the order in which they were looked at, some of them more than once. Contracts see the list.
+/// Keys in the order in which they were looked at, possibly with repetitions. Contracts see the
+/// list.
 #[derive(Debug, Drop)]
 pub struct Keys {
     items: SmallVec<Key, FEW>,
@@ -34,7 +35,7 @@ impl Model for Keys {
 }
 
 impl Keys {
-    /// No keys yet. Takes no memory.
+    /// No keys yet. Allocates no memory.
     pub fn none(alloc: Global) -> Keys
         ensures { result ≡ [] }
     {
@@ -43,7 +44,7 @@ impl Keys {
         }
     }
 
-    /// Adds a key. Where memory runs out the list stays as it was.
+    /// Adds a key. If memory runs out, the list stays as it was.
     pub fn push(&mut self, key: Key) -> Result<(), AllocError>
         ensures ok { OnOk result (self.new ≡ self.old ++ key ∷ []) }
         ensures err { OnErr result (self.new ≡ self.old) }
@@ -51,7 +52,8 @@ impl Keys {
         Ok(self.items.push(key)?)
     }
 
-    /// Adds a key for each of the cells, in order. Where memory runs out some of them may have been added.
+    /// Adds a key for each of the cells, in order. If memory runs out, some of them may have been
+    /// added.
     pub fn push_cells(&mut self, cells: Cells) -> Result<(), AllocError>
         ensures { OnOk result (self.new ≡ self.old ++ list_map keys.Cell cells) }
     {
@@ -61,7 +63,7 @@ impl Keys {
         Ok(())
     }
 
-    /// Adds these keys, in their order. Where memory runs out some of them may have been added.
+    /// Adds these keys, in their order. If memory runs out, some of them may have been added.
     pub(crate) fn append(&mut self, more: Keys) -> Result<(), AllocError>
         ensures { OnOk result (self.new ≡ self.old ++ more) }
     {
@@ -112,7 +114,7 @@ impl KeySet {
         Ok(())
     }
 
-    /// These keys.
+    /// The set of these keys.
     fn of(alloc: Global, keys: Keys) -> Result<KeySet, AllocError>
         ensures { IfOk result (λ these. these ≡ set_of keys) }
     {
@@ -123,7 +125,8 @@ impl KeySet {
         Ok(these)
     }
 
-    /// What each key sees of a tree, where those that are no cells see the same of what was gathered from it.
+    /// What each key sees of a tree. Keys that aren't cells see the same in what was gathered from
+    /// the tree as in the tree itself.
     fn read(self, alloc: Global, tree: &Tree, gathered: &TreePart) -> Result<Reading, AllocError>
         requires { All (SeesTheSame gathered.now tree.now) (map.keys self) }
         ensures { IfOk result (λ reading. reading ≡ list_map (observed tree.now) (map.keys self)) }
@@ -138,7 +141,8 @@ impl KeySet {
 }
 
 impl Reading {
-    /// Reads a tree by keys: each key once, in the order of keys, with what it sees. Fails only where memory runs out.
+    /// Reads a tree by keys: each key once, in the order of keys, with what it sees. Fails only if
+    /// memory runs out.
     #[tactic(auto, unfolding(crate::specs::Readings::in_order))]
     pub fn of(alloc: Global, tree: &Tree, keys: Keys) -> Result<Reading, AllocError>
         ensures { IfOk result (λ reading. reading ≡ reading_of keys tree.now) }

@@ -1,10 +1,11 @@
-//! What holds of all operations and keys: each function does nothing, and its contract is the law.
+//! What holds for all operations and keys: each function does nothing, and its contract is the law.
 ghost use Rattle.footprint.specs.Then.{then_meaning};
 ghost use Rattle.footprint.specs.Laws.{AgreeAfterChanges, ComesToTheSame, IsTakenBack, LeftAllAtOnce, MayChangePlaces, RefusedAtTheLeast, ThenAnswers, ThenInSteps, ThenLeads};
 
 use crate::operation::Operation;
 
-/// Trees that agree on a key agree on it after the same changes, whatever else differs between them.
+/// Trees that agree on a key still agree on it after the same changes, whatever else differs
+/// between them.
 pub fn trees_agree_after_the_same_changes()
     ensures { AgreeAfterChanges }
 {}
@@ -14,21 +15,22 @@ pub fn outcomes_follow_from_what_is_seen<A: Operation>()
     ensures { ComesToTheSame A.meaning }
 {}
 
-/// What an operation changes is taken back by the inverse changes, and then it is the very tree again.
+/// The inverse changes undo what an operation changes, and the result is exactly the tree before.
 pub fn operations_are_taken_back<A: Operation>()
     ensures { IsTakenBack A.meaning }
 {}
 
-/// Two commands, one right after the other, neither of which makes a change that touches a key at which the other looks, may
-/// change places.
+/// Two commands, one right after the other, can be swapped if neither makes a change that touches a
+/// key at which the other looks.
 pub fn commands_may_change_places<A: Operation, B: Operation>()
     ensures { MayChangePlaces A.meaning B.meaning }
 {}
 
-/// Two operations, one after the other, are what they are alone: accepted, they leave the tree that the second leaves after
-/// the first. Where the changes of the first touch no key of the second, both answer what the second alone answers. What they
-/// change is taken back at once. Of three it doesn't matter which two are taken together, but for notices: where the second is
-/// a question and is taken together with the first, those of the first are lost.
+/// Two operations combined by `then` are what they are alone: if accepted, they leave the tree that
+/// the second leaves after the first. If the changes of the first touch no key of the second, the
+/// answer of both is that of the second alone. Their changes are undone in one step. For three
+/// operations the grouping doesn't matter, except for notices: if the second is a question and is
+/// combined with the first, the notices of the first are lost.
 pub fn then_is_one_after_the_other<A: Operation, B: Operation, C: Operation>()
     ensures leads { ThenLeads A.meaning B.meaning }
     ensures answers { ThenAnswers A.meaning B.meaning }
@@ -36,8 +38,9 @@ pub fn then_is_one_after_the_other<A: Operation, B: Operation, C: Operation>()
     ensures in_steps { ThenInSteps A.meaning B.meaning C.meaning }
 {}
 
-/// Links that are wanted all at once are refused exactly where something is in the way of one, and the refusal tells of the
-/// least such path. Else each of them is left, and all other entries stay.
+/// Links that are wanted all at once are refused exactly if something is in the way of one of them,
+/// and the refusal names the least such path. Otherwise each of them is made, and all other entries
+/// stay.
 pub fn all_at_once_is_refused_at_the_least_path()
     ensures refused { RefusedAtTheLeast }
     ensures left { LeftAllAtOnce }

@@ -1,4 +1,4 @@
-//! What operations on a tree look at, what they change, and the laws that they keep.
+//! What operations on a tree look at, what they change, and the laws that they obey.
 #![tactic(auto)]
 
 mod answer;

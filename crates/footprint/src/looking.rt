@@ -1,4 +1,4 @@
-//! Looking at trees, where the keys of what is looked at are noted.
+//! Looking at trees, with the keys of what is looked at recorded.
 ghost use Rattle.std.specs.Prelude.{◌≡◌, false, All, IfOk};
 ghost use Rattle.load_path.specs.Find.{find};
 ghost use Rattle.load_path.specs.Follow.{follow};
@@ -15,8 +15,8 @@ use std::alloc::{AllocError, Global};
 use unit_name::UnitName;
 
 impl Keys {
-    /// Looks a unit up: systemd.unit(5), "Unit File Load Path". Adds the cells that are looked at. Fails only where memory runs out,
-    /// and then some of them may have been added.
+    /// Looks a unit up: systemd.unit(5), "Unit File Load Path". Adds the cells that are looked at.
+    /// Fails only if memory runs out, and then some of them may have been added.
     pub fn find(&mut self, alloc: Global, tree: &Tree, name: &UnitName) -> Result<Found, AllocError>
         ensures { IfOk result (Asks tree.now (by_cells (find name.now)) self.old self.new) }
     {
@@ -26,9 +26,9 @@ impl Keys {
         Ok(found)
     }
 
-    /// Looks a unit up that a command can't do without: its own name, and where its file stands. Refused by `NotFound`, `Masked` or
-    /// `Dangling`. Adds the cells that are looked at. The outer error is want of memory alone, and then some of them may have been
-    /// added.
+    /// Looks up a unit that a command requires: its own name, and the path of its file. Refused by
+    /// `NotFound`, `Masked` or `Dangling`. Adds the cells that are looked at. The outer error
+    /// occurs only if memory runs out, and then some of them may have been added.
     pub fn find_unit(
         &mut self,
         alloc: Global,
@@ -45,8 +45,8 @@ impl Keys {
         }
     }
 
-    /// Follows links from a path, and adds the cells that are looked at. Fails only where memory runs out, and then some of them
-    /// may have been added.
+    /// Follows links from a path, and adds the cells that are looked at. Fails only if memory runs
+    /// out, and then some of them may have been added.
     pub fn follow(&mut self, alloc: Global, tree: &Tree, path: &TreePath) -> Result<End, AllocError>
         ensures { IfOk result (Asks tree.now (by_cells (follow path.now)) self.old self.new) }
     {
@@ -56,8 +56,9 @@ impl Keys {
         Ok(end)
     }
 
-    /// The entries at which one of several keys looks, none of which is a cell. They all stand at slots, and share their texts
-    /// with the tree. Adds the keys. Fails only where memory runs out, and then some of the keys may have been added.
+    /// The entries at which at least one of these keys looks; no key may be a cell. All of the
+    /// entries are at slots, and share their texts with the tree. Adds the keys. Fails only if
+    /// memory runs out, and then some of the keys may have been added.
     pub fn entries_of_all(
         &mut self,
         alloc: Global,
@@ -73,8 +74,8 @@ impl Keys {
         Ok(entries)
     }
 
-    /// The entries at which a key looks that is no cell. They share their texts with the tree. Adds the key. Fails only where
-    /// memory runs out, and then the key may have been added.
+    /// The entries at which a key that isn't a cell looks. They share their texts with the tree.
+    /// Adds the key. Fails only if memory runs out, and then the key may have been added.
     pub fn entries(&mut self, alloc: Global, tree: &Tree, key: Key) -> Result<TreePart, AllocError>
         requires { is_cell key ≡ false }
         ensures { IfOk result (Asks tree.now (entries_seen key) self.old self.new) }

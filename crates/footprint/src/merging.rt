@@ -1,4 +1,4 @@
-//! Two readings as one: of a tree, and of the tree after changes of it.
+//! Merging two readings into one: of a tree, and of the tree after changes to it.
 ghost use Rattle.std.specs.Prelude.{◌≡◌, ◌++◌, ◌∷◌, ◌<◌, ◌+◌, [], length, IfOk, IfSome, MatchOption, OnOk};
 ghost use Rattle.std.specs.List.{list_any};
 ghost use Rattle.link_tree.specs.Trees.{AreFrom, after_changes};
@@ -22,8 +22,9 @@ fn is_touched(changes: &[Change], key: &Key) -> bool
 }
 
 impl Observation {
-    /// What its key sees of a tree, by what it saw in the tree after changes. A set that no change touches is as it was, which spares a
-    /// walk through the tree; a cell is as cheap to look at again as to compare with one change.
+    /// What its key sees in a tree, derived from what it saw in the tree after changes. A set that
+    /// no change touches is as it was, which avoids a walk through the tree; looking at a cell
+    /// again costs no more than comparing it with one change.
     fn before(
         self,
         alloc: Global,
@@ -45,7 +46,8 @@ impl Observation {
     }
 }
 
-/// Which of two readings has the next key: both where the keys are the same, and the second where none is left.
+/// Which of two readings has the next key: both if the keys are the same, and the second if none is
+/// left.
 fn turn(first: &[Observation], second: &[Observation]) -> Ordering
     ensures { result ≡ turn first.now second.now }
 {
@@ -56,7 +58,8 @@ fn turn(first: &[Observation], second: &[Observation]) -> Ordering
     }
 }
 
-/// The next observation of both readings in one of the tree. What the first saw stands as it is.
+/// The next observation of both readings, as one observation of the tree. What the first saw is
+/// kept as it is.
 fn next_of_both(
     alloc: Global,
     tree: &Tree,
@@ -106,7 +109,8 @@ fn read_both(
 }
 
 impl Reading {
-    /// The reading of the tree by the keys of both, where the later one is of the tree after changes.
+    /// The reading of the tree by the keys of both, where the later one is a reading of the tree
+    /// after changes.
     pub(crate) fn and_then(
         self,
         alloc: Global,

@@ -14,7 +14,7 @@ use std::alloc::{AllocError, Global};
 use std::collections::BTreeMap;
 use std::marker::Model;
 
-/// Changes, one at a path. Contracts see a finite map.
+/// Changes, at most one for each path. Contracts see a finite map.
 #[derive(Drop)]
 pub(crate) struct NetChanges {
     by_path: BTreeMap<TreePath, Change>,
@@ -45,7 +45,7 @@ fn same(one: Option<&Entry>, other: Option<&Entry>) -> bool
     }
 }
 
-/// An equal entry, or none.
+/// A copy of the entry, or `None` if there is none.
 pub(crate) fn copied(entry: Option<&Entry>) -> Result<Option<Entry>, AllocError>
     ensures { IfOk result (λ copy. copy ≡ option_copied entry.entry) }
 {
@@ -65,7 +65,7 @@ impl NetChanges {
         }
     }
 
-    /// Says what stood at a path first, and what stands there now.
+    /// Records what was at a path first, and what is there now.
     pub fn note(
         &mut self,
         path: &TreePath,
@@ -88,7 +88,7 @@ impl NetChanges {
         )
     }
 
-    /// Says it of each of the changes, by the tree in which they begin.
+    /// Records this for each of the changes, starting from the tree to which they apply.
     fn note_all(&mut self, tree: &Tree, changes: &[Change]) -> Result<(), AllocError>
         ensures { OnOk result (self.new ≡ noted self.old tree.now changes.now) }
     {
@@ -123,8 +123,8 @@ impl NetChanges {
     }
 }
 
-/// What the changes make of the tree in all, the second after the first: at each path from what stands in the tree to what
-/// stands there after both. Fails only where memory runs out.
+/// The net changes to the tree, the second list after the first: at each path from what is in the
+/// tree to what is there after both. Fails only if memory runs out.
 pub(crate) fn net_changes(
     alloc: Global,
     tree: &Tree,

@@ -1,10 +1,11 @@
-//! What an operation comes to.
+//! The outcome of an operation.
 
 use crate::answer::Answer;
 use crate::changes::Changes;
 use crate::reading::Reading;
 
-/// What an operation comes to on a tree: its answer, what it changes there, and what it looked at. The tree itself stays.
+/// The outcome of an operation on a tree: its answer, what it would change there, and what it
+/// looked at. The tree itself stays as it is.
 #[derive(Debug, Drop)]
 pub struct Outcome {
     pub answer: Answer,

@@ -14,14 +14,14 @@ use std::marker::Model;
 /// What a key saw of a tree.
 #[derive(Debug, Drop)]
 pub enum Seen {
-    /// What stands at the cell.
+    /// The entry at the cell.
     Entry(Option<Entry>),
-    /// The entries that the key looks at, which all stand at slots.
+    /// The entries that the key looks at, all of which are at slots.
     Entries(TreePart),
 }
 
 impl Seen {
-    /// A copy of it. Fails only where memory runs out.
+    /// A copy of it. Fails only if memory runs out.
     pub fn copy(&self) -> Result<Seen, AllocError>
         ensures { IfOk result (λ seen. seen ≡ self.now) }
     {
@@ -39,7 +39,7 @@ pub struct Observation {
     pub seen: Seen,
 }
 
-/// Fills a reading's unused room; it is never read.
+/// Fills a reading's unused capacity; it is never read.
 impl Default for Observation {
     ghost use Rattle.std.specs.Prelude.{◌≡◌, None};
     ghost use Rattle.footprint.specs.declared.key.Key.TheVariants.{Links};
@@ -56,7 +56,7 @@ impl Default for Observation {
 }
 
 impl Observation {
-    /// A copy of the observation. Fails only where memory runs out.
+    /// A copy of the observation. Fails only if memory runs out.
     pub fn copy(&self) -> Result<Observation, AllocError>
         ensures { IfOk result (λ observation. observation ≡ self.now) }
     {
@@ -67,13 +67,15 @@ impl Observation {
     }
 }
 
-/// How many observations a reading keeps without memory of its own: most commands look at one cell or two.
+/// How many observations a reading holds without allocating memory: most commands look at one cell
+/// or two.
 const FEW: usize = 2;
 
-/// Observations that are taken one after another.
+/// An iterator over observations.
 pub(crate) type Observations = IntoIter<Observation, FEW>;
 
-/// The keys that an operation looked at, each once and in order, and what each saw of the tree. Contracts see the list.
+/// The keys that an operation looked at, each once and in order, and what each saw of the tree.
+/// Contracts see the list.
 #[derive(Debug, Drop)]
 pub struct Reading {
     observations: SmallVec<Observation, FEW>,
@@ -95,7 +97,7 @@ impl Model for Reading {
 }
 
 impl Reading {
-    /// A reading by no keys. Takes no memory.
+    /// A reading by no keys. Allocates no memory.
     pub fn none(alloc: Global) -> Reading
         ensures { result ≡ [] }
     {
@@ -104,7 +106,8 @@ impl Reading {
         }
     }
 
-    /// The reading by one key that is no cell, where the entries at which it looks are at hand. Fails only where memory runs out.
+    /// The reading by one key that isn't a cell, if the entries at which it looks are already
+    /// known. Fails only if memory runs out.
     pub fn of_entries(alloc: Global, key: Key, entries: TreePart) -> Result<Reading, AllocError>
         ensures { IfOk result (λ reading. (t : Entries) → seen key t ≡ sees.Entries entries → reading ≡ reading_of (key ∷ []) t) }
     {
@@ -130,14 +133,14 @@ impl Reading {
         self.observations.as_slice()
     }
 
-    /// The observations, to be taken one after another.
+    /// An iterator over the observations.
     pub(crate) fn into_observations(self) -> Observations
         ensures { result ≡ self }
     {
         self.observations.into_iter()
     }
 
-    /// A copy of the reading. Fails only where memory runs out.
+    /// A copy of the reading. Fails only if memory runs out.
     pub fn copy(&self) -> Result<Reading, AllocError>
         ensures { IfOk result (λ reading. reading ≡ self.now) }
     {
@@ -149,8 +152,8 @@ impl Reading {
     }
 }
 
-/// Whether a tree agrees with a reading: each of its keys sees there what it saw. The error is the first key that sees something
-/// else. Takes no memory.
+/// Whether a tree agrees with a reading: each of its keys sees there what it saw. The error is the
+/// first key that sees something else. Allocates no memory.
 pub fn agrees<'a>(tree: &Tree, reading: &'a Reading) -> Result<(), &'a Key>
     ensures { MatchResult result (λ _. HoldsIn tree.now reading.now) (λ key. IsFirstOther tree.now reading.now key.now) }
 {

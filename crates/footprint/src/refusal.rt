@@ -5,7 +5,7 @@ use link_tree::TreePath;
 use std::alloc::AllocError;
 use unit_name::UnitName;
 
-/// What a refusal names as it was given: a unit, or a path.
+/// What a refusal names, as it was given: a unit, or a path.
 #[derive(Debug, Drop)]
 pub enum Subject {
     Unit(UnitName),
@@ -13,7 +13,7 @@ pub enum Subject {
 }
 
 impl Subject {
-    /// A copy of the subject. Fails only where memory runs out.
+    /// A copy of the subject. Fails only if memory runs out.
     pub fn copy(&self) -> Result<Subject, AllocError>
         ensures { IfOk result (λ subject. subject ≡ self.now) }
     {
@@ -27,23 +27,23 @@ impl Subject {
 /// Why an operation was refused.
 #[derive(Debug, Drop)]
 pub enum Refusal {
-    /// Nothing stands there.
+    /// Nothing exists under this name or path.
     NotFound(Subject),
     /// It leads to `/dev/null` or to an empty file.
     Masked(Subject),
-    /// The links end at this one, which leads nowhere.
+    /// The chain of links ends at this one, whose target doesn't exist.
     Dangling(TreePath),
-    /// It is no unit, or not of the type that is wanted.
+    /// It is not a unit, or not of the wanted type.
     BadType(Subject),
-    /// The unit is a template, and has no default instance that would serve.
+    /// The unit is a template, and has no default instance that could be used.
     NeedsInstance(UnitName),
-    /// The path is no slot.
+    /// The path is not a slot.
     NotASlot(TreePath),
-    /// Nothing stands at the slot.
+    /// There is nothing at the slot.
     Absent(TreePath),
-    /// Something else stands at the path.
+    /// Something else is at the path.
     Exists(TreePath),
-    /// The unit is another's alias.
+    /// The unit is an alias of another unit.
     IsAlias { unit: UnitName, real: UnitName },
     /// The units name too many others.
     TooMany,
@@ -52,7 +52,7 @@ pub enum Refusal {
 }
 
 impl Refusal {
-    /// A copy of the refusal. Fails only where memory runs out.
+    /// A copy of the refusal. Fails only if memory runs out.
     pub fn copy(&self) -> Result<Refusal, AllocError>
         ensures { IfOk result (λ refusal. refusal ≡ self.now) }
     {

@@ -1,4 +1,4 @@
-//! What commands leave at a path, by what stands there.
+//! What commands leave at a path, given what is there.
 ghost use Rattle.std.specs.Prelude.{◌≡◌, IfOk};
 ghost use Rattle.std.specs.Option.{option_copied};
 ghost use Rattle.link_tree.specs.declared.entry.Entry.TheVariants as entries;
@@ -37,8 +37,9 @@ fn leads_alike(
     }
 }
 
-/// A link that is to be made to `target`: where nothing stands at the path it is made, and a link that leads to the same path stays.
-/// Anything else is in the way (`Exists`). The outer error is want of memory alone.
+/// A link to be made to `target`: if nothing is at the path it is made, and a link that leads to
+/// the same path stays. Anything else is in the way (`Exists`). The outer error occurs only if
+/// memory runs out.
 pub fn link_at(
     alloc: Global,
     target: &TreePath,
@@ -56,7 +57,7 @@ pub fn link_at(
     }
 }
 
-/// The same, but any other link makes way: only a file is in the way.
+/// The same, but any other link is replaced: only a file is in the way.
 pub fn relink_at(
     alloc: Global,
     target: &TreePath,
@@ -78,8 +79,8 @@ pub fn relink_at(
     }
 }
 
-/// What a wanted link leaves at its path: `link_at` to the file where one is wanted; where nothing is to stand, nothing, whatever
-/// stands there.
+/// What a wanted link leaves at its path: the result of `link_at` to the file if one is wanted; if
+/// the path must be empty, nothing, whatever is there.
 pub(crate) fn wanted_at(
     alloc: Global,
     file: Option<&TreePath>,

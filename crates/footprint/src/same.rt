@@ -1,4 +1,4 @@
-//! Which answers are equal.
+//! Equality of answers.
 ghost use Rattle.std.specs.Prelude.{◌≡◌, ◌↔◌, IsTrue, true};
 ghost use Rattle.std.specs.FinMap as map;
 ghost use Rattle.unit_file.specs.Notices.{AreAtTheirLines};
@@ -52,7 +52,7 @@ impl Refusal {
 }
 
 impl Subject {
-    /// Whether the subjects are equal. A unit and a path are not, even where their texts are.
+    /// Whether the subjects are equal. A unit and a path are never equal, even if their texts are.
     pub fn same(&self, other: &Subject) -> bool
         ensures { IsTrue result ↔ (self.now ≡ other.now) }
     {
@@ -71,7 +71,7 @@ pub fn same_notices(one: &Notices, other: &Notices) -> bool
     are_alike(one, other)
 }
 
-/// Whether the lists of the notices are equal; what they are at are their lines.
+/// Whether the lists of the notices are equal; the position of a notice is its line.
 fn are_alike(one: &Notices, other: &Notices) -> bool
     ensures lines { AreAtTheirLines one.now × AreAtTheirLines other.now }
     ensures yes { result ≡ true → map.values one.now ≡ map.values other.now }

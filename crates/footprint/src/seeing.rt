@@ -1,4 +1,4 @@
-//! What keys see of trees.
+//! What keys see in trees.
 ghost use Rattle.std.specs.Prelude.{◌≡◌, not, All, IfOk, OnOk, Some, true, false};
 ghost use Rattle.std.specs.List.{filter, list_any};
 ghost use Rattle.std.specs.FinMap as map;
@@ -15,14 +15,14 @@ use link_tree::{Entry, Tree, TreePart, TreePath};
 use std::alloc::{AllocError, Global};
 
 impl Key {
-    /// What it sees of a tree.
+    /// What it sees in a tree.
     pub(crate) fn seen(&self, alloc: Global, tree: &Tree) -> Result<Seen, AllocError>
         ensures { IfOk result (λ seen. seen ≡ keys.seen self.now tree.now) }
     {
         self.seen_among(alloc, tree, tree.entries())
     }
 
-    /// The same: a key that goes through all entries looks at what was gathered from the tree.
+    /// The same, but a key that scans all entries looks at what was gathered from the tree.
     pub(crate) fn seen_among(
         &self,
         alloc: Global,
@@ -39,8 +39,9 @@ impl Key {
         }
     }
 
-    /// The entries of a tree at which a key looks that is no cell; they all stand at slots, and share their texts with the tree.
-    /// Links that belong to a name are looked up, for others all entries are gone through. Fails only where memory runs out.
+    /// The entries of a tree at which a key that isn't a cell looks; all of them are at slots, and
+    /// share their texts with the tree. Links that belong to a name are looked up; for other keys
+    /// all entries are scanned. Fails only if memory runs out.
     pub fn entries(&self, alloc: Global, tree: &Tree) -> Result<TreePart, AllocError>
         requires { is_cell self.now ≡ false }
         ensures { IfOk result (λ found. found ≡ part self.now tree.now) }
@@ -53,7 +54,7 @@ impl Key {
         keys.looked_up(alloc, tree)
     }
 
-    /// The entries at which a key looks that is no cell: all of these are gone through.
+    /// Those of these entries at which a key that isn't a cell looks: all of them are scanned.
     fn walked(&self, alloc: Global, entries: &TreePart) -> Result<TreePart, AllocError>
         requires { is_cell self.now ≡ false }
         ensures { IfOk result (λ found. found ≡ part self.now entries.now) }
@@ -70,22 +71,22 @@ impl Key {
 }
 
 impl Keys {
-    /// Whether one of the keys looks at an entry that stands at a path.
+    /// Whether one of the keys looks at an entry at a path.
     fn any_selects(&self, path: &TreePath, entry: &Entry) -> bool
         ensures { result ≡ any_selects self.now path.now entry.now }
     {
         self.as_slice().iter().any(|key| key.selects(path, entry))
     }
 
-    /// Whether one of the keys doesn't look at the links that belong to a name.
+    /// Whether one of the keys looks at something other than the links that belong to a name.
     fn any_other(&self) -> bool
         ensures { result ≡ list_any (λ key. not (is_marked key)) self.now }
     {
         self.as_slice().iter().any(|key| !key.is_marked())
     }
 
-    /// The entries of a tree at which one of the keys looks, none of which is a cell. Where all of them look at the links that belong to
-    /// a name, these are looked up.
+    /// The entries of a tree at which at least one of the keys looks; no key may be a cell. If all
+    /// of them look at the links that belong to a name, these are looked up.
     pub(crate) fn entries_of(&self, alloc: Global, tree: &Tree) -> Result<TreePart, AllocError>
         requires { All (λ key. is_cell key ≡ false) self.now }
         ensures { IfOk result (λ found. found ≡ those (any_selects self.now) tree.now) }
@@ -97,7 +98,7 @@ impl Keys {
         }
     }
 
-    /// The same of these entries, all of which are gone through.
+    /// The same for these entries, all of which are scanned.
     fn walked(&self, alloc: Global, entries: &TreePart) -> Result<TreePart, AllocError>
         requires { All (λ key. is_cell key ≡ false) self.now }
         ensures { IfOk result (λ found. found ≡ those (any_selects self.now) entries.now) }
@@ -137,7 +138,7 @@ impl Keys {
         }
     }
 
-    /// Adds what stands at each of the paths.
+    /// Adds the entry at each of the paths.
     fn take_all(
         &self,
         found: &mut TreePart,
@@ -153,7 +154,7 @@ impl Keys {
         Ok(())
     }
 
-    /// Adds what stands at a path, if one of the keys looks at it.
+    /// Adds the entry at a path, if one of the keys looks at it.
     fn take(&self, found: &mut TreePart, tree: &Tree, path: &TreePath) -> Result<(), AllocError>
         requires { All (λ key. is_marked key ≡ true) self.now }
         ensures { OnOk result (found.new ≡ taken (any_selects self.now) tree.now path.now found.old) }
@@ -169,7 +170,7 @@ impl Keys {
 }
 
 impl Keys {
-    /// Those of the keys for which all entries are gone through.
+    /// Those of the keys for which all entries are scanned.
     fn walkers(&self, alloc: Global) -> Result<Keys, AllocError>
         ensures { IfOk result (λ walkers. walkers ≡ filter walks self.now) }
     {
@@ -182,8 +183,9 @@ impl Keys {
         Ok(walkers)
     }
 
-    /// Entries among which the keys that go through all of them see what they see in the tree. Where there are several such keys, these
-    /// are but the entries at which one of them looks, so that the whole tree is walked once for all of them.
+    /// Entries in which the keys that scan all entries see what they see in the tree. If there are
+    /// several such keys, these are only the entries at which one of them looks, so that the whole
+    /// tree is walked once for all of them.
     pub(crate) fn gathered(&self, alloc: Global, tree: &Tree) -> Result<TreePart, AllocError>
         ensures { IfOk result (λ gathered. All (SeesTheSame gathered tree.now) self.now) }
     {
@@ -195,7 +197,7 @@ impl Keys {
     }
 }
 
-/// Whether this entry stands at a path.
+/// Whether this entry is at a path.
 fn stands(tree: &TreePart, path: &TreePath, entry: &Entry) -> bool
     ensures yes { result ≡ true → (map.get tree.now path.now ≡ Some entry.now) }
     ensures no { (map.get tree.now path.now ≡ Some entry.now) → result ≡ true }
@@ -206,7 +208,7 @@ fn stands(tree: &TreePart, path: &TreePath, entry: &Entry) -> bool
     }
 }
 
-/// Whether the same stands at a path.
+/// Whether a path has exactly this entry, or none if this is `None`.
 fn is_there(tree: &Tree, path: &TreePath, entry: &Option<Entry>) -> bool
     ensures yes { result ≡ true → (map.get tree.now path.now ≡ entry.now) }
     ensures no { (map.get tree.now path.now ≡ entry.now) → result ≡ true }
@@ -218,7 +220,7 @@ fn is_there(tree: &Tree, path: &TreePath, entry: &Option<Entry>) -> bool
     }
 }
 
-/// Whether this entry stands at a path, if a key looks at it.
+/// Whether this entry is at a path, if a key looks at it.
 fn stands_if_selected(tree: &TreePart, key: &Key, path: &TreePath, entry: &Entry) -> bool
     ensures yes { result ≡ true → selects key.now path.now entry.now ≡ true → map.get tree.now path.now ≡ Some entry.now }
     ensures no { (selects key.now path.now entry.now ≡ true → map.get tree.now path.now ≡ Some entry.now) → result ≡ true }
@@ -229,7 +231,7 @@ fn stands_if_selected(tree: &TreePart, key: &Key, path: &TreePath, entry: &Entry
     stands(tree, path, entry)
 }
 
-/// Whether all entries of a tree that a key looks at stand in another.
+/// Whether all entries of a tree that a key looks at are also in another.
 fn all_stand(tree: &TreePart, key: &Key, other: &TreePart) -> bool
     ensures yes { result ≡ true → AllStand key.now tree.now other.now }
     ensures no { AllStand key.now tree.now other.now → result ≡ true }
@@ -242,7 +244,7 @@ fn all_stand(tree: &TreePart, key: &Key, other: &TreePart) -> bool
     true
 }
 
-/// Whether all entries of a tree are such as a key looks at.
+/// Whether a key looks at all entries of a tree.
 fn all_selected(tree: &TreePart, key: &Key) -> bool
     ensures yes { result ≡ true → AllSelected key.now tree.now }
     ensures no { AllSelected key.now tree.now → result ≡ true }
@@ -255,7 +257,7 @@ fn all_selected(tree: &TreePart, key: &Key) -> bool
     true
 }
 
-/// Whether what stands at each of the paths, if a key looks at it, stands in another tree.
+/// Whether the entry at each of the paths, if a key looks at it, is also in another tree.
 fn each_stands(tree: &Tree, key: &Key, paths: &[TreePath], other: &TreePart) -> bool
     ensures yes { result ≡ true → All (StandsIn key.now tree.now other.now) paths.now }
     ensures no { All (StandsIn key.now tree.now other.now) paths.now → result ≡ true }
@@ -268,7 +270,7 @@ fn each_stands(tree: &Tree, key: &Key, paths: &[TreePath], other: &TreePart) -> 
     true
 }
 
-/// Whether what stands at a path, if a key looks at it, stands in another tree.
+/// Whether the entry at a path, if a key looks at it, is also in another tree.
 fn stands_as_in(tree: &Tree, key: &Key, path: &TreePath, other: &TreePart) -> bool
     ensures yes { result ≡ true → StandsIn key.now tree.now other.now path.now }
     ensures no { StandsIn key.now tree.now other.now path.now → result ≡ true }
@@ -279,7 +281,8 @@ fn stands_as_in(tree: &Tree, key: &Key, path: &TreePath, other: &TreePart) -> bo
     }
 }
 
-/// Whether all entries of a tree that a key looks at stand in another: those that belong to its name are looked up.
+/// Whether all entries of a tree that a key looks at are also in another: those that belong to its
+/// name are looked up.
 fn all_looked_at_stand(tree: &Tree, key: &Key, other: &TreePart) -> bool
     ensures yes { result ≡ true → AllStand key.now tree.now other.now }
     ensures no { AllStand key.now tree.now other.now → result ≡ true }

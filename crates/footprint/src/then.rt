@@ -17,10 +17,12 @@ use link_tree::Tree;
 use std::alloc::{AllocError, Global};
 use std::mem::replace;
 
-/// Two operations, one after the other, all or nothing. The second runs on the tree after the first; a refusal of the first is the
-/// outcome, and the second isn't run. The answer is that of the second, with the notices of the first too where both are
-/// done. A refusal of the second drops the changes of the first. A path at which what stood there first stands again is no
-/// change. It reads the keys of both, each as it is in the first tree, and is a question where both are.
+/// Two operations, one after the other, all or nothing. The second runs on the tree after the
+/// first; if the first is refused, that is the outcome, and the second isn't run. The answer is
+/// that of the second, with the notices of the first too if both are done. If the second is
+/// refused, the changes of the first are dropped. A path at which the original entry is back in the
+/// end counts as no change. It reads the keys of both, each as it is in the first tree, and is a
+/// question if both are.
 #[derive(Debug, Drop)]
 pub struct Then<A, B> {
     pub first: A,
@@ -38,8 +40,8 @@ impl Answer {
         }
     }
 
-    /// Makes this answer, which is that of the later operation, the answer of both: if both are done, it gets the notices of the first
-    /// too.
+    /// Turns this answer, which is that of the later operation, into the answer of both: if both
+    /// are done, it gets the notices of the first too.
     fn follow(&mut self, first: Answer) -> Result<(), AllocError>
         ensures { OnOk result (self.new ≡ answer_of_both first self.old) }
     {
@@ -55,7 +57,7 @@ impl Answer {
     }
 }
 
-/// What both lists of changes make of the tree in all, or none where the second operation was refused.
+/// The net changes of both lists to the tree, or none if the second operation was refused.
 fn changes_of_both(
     alloc: Global,
     tree: &Tree,
@@ -74,7 +76,8 @@ fn changes_of_both(
 }
 
 impl Outcome {
-    /// The outcome of both on the tree, where the later one is that on the tree after the changes of this one.
+    /// The outcome of both on the tree, where the later one is the outcome on the tree after the
+    /// changes of this one.
     fn and_then(self, alloc: Global, tree: &Tree, later: Outcome) -> Result<Outcome, AllocError>
         requires first { AreChanges tree.now self.changes }
         requires second { AreChanges (after_changes self.changes tree.now) later.changes }
@@ -87,8 +90,8 @@ impl Outcome {
         Ok(outcome)
     }
 
-    /// Makes this outcome, which is that of the later operation on the tree after the changes of the first, the outcome of both on the
-    /// tree.
+    /// Turns this outcome, which is that of the later operation on the tree after the changes of
+    /// the first, into the outcome of both on the tree.
     fn follow(&mut self, alloc: Global, tree: &Tree, first: Outcome) -> Result<(), AllocError>
         requires first { AreChanges tree.now first.changes }
         requires second { AreChanges (after_changes first.changes tree.now) self.old.changes }
@@ -110,7 +113,7 @@ impl Outcome {
     }
 }
 
-/// What an operation comes to on the tree after changes.
+/// The outcome of an operation on the tree after changes.
 fn run_after<B: Operation>(
     alloc: Global,
     tree: &Tree,

@@ -6,10 +6,10 @@ use crate::key::Key;
 use link_tree::{Change, Entry, Scope, Slot, TreePath, belongs};
 use unit_name::UnitName;
 
-/// Whether a change touches what a key looks at: the cell of its path, the names in a scope to which
-/// its entry before or after belongs, the presets or the dependencies if its path is one of their
-/// slots. A key sees the same before and after a change that doesn't touch it. An undo is refused if a
-/// later reading has a key that its changes touch. Takes no memory.
+/// Whether a change touches what a key looks at: the cell of its path; the names in a scope to
+/// which its entry before or after belongs; the presets or the dependencies, if its path is one of
+/// their slots. A key sees the same before and after a change that doesn't touch it. An undo is
+/// refused if a later reading has a key that its changes touch. Allocates no memory.
 pub fn touches(change: &Change, key: &Key) -> bool
     ensures { result ≡ touches change.now key.now }
 {

@@ -5,7 +5,8 @@ use std::alloc::{AllocError, Global};
 use std::marker::Model;
 use unit_name::UnitName;
 
-/// The names of units that a command is given, in order. Contracts see their list.
+/// The names of units that are the arguments of a command, in order. Contracts see the list of
+/// them.
 #[derive(Debug, Drop)]
 pub struct Units {
     names: Vec<UnitName>,
@@ -20,7 +21,7 @@ impl Model for Units {
 }
 
 impl Units {
-    /// No names. Takes no memory.
+    /// No names. Allocates no memory.
     pub fn none(alloc: Global) -> Units
         ensures { result ≡ [] }
     {
@@ -29,7 +30,7 @@ impl Units {
         }
     }
 
-    /// Adds a name. Where memory runs out the list stays as it was.
+    /// Adds a name. If memory runs out, the list stays as it was.
     pub fn push(&mut self, name: UnitName) -> Result<(), AllocError>
         ensures ok { OnOk result (self.new ≡ self.old ++ name ∷ []) }
         ensures err { OnErr result (self.new ≡ self.old) }
@@ -51,7 +52,7 @@ impl Units {
         self.as_slice() == other.as_slice()
     }
 
-    /// A copy of the names. Fails only where memory runs out.
+    /// A copy of the names. Fails only if memory runs out.
     pub fn copy(&self) -> Result<Units, AllocError>
         ensures { IfOk result (λ units. units ≡ self.now) }
     {

@@ -19,8 +19,9 @@ use std::alloc::{AllocError, Global};
 use std::collections::BTreeMap;
 use std::marker::Model;
 
-/// What is to stand at slots, one link or nothing at each: the links that `enable` makes, and those that `disable` takes away. Contracts
-/// see the finite map from paths to the file to which each link is to lead.
+/// What is wanted at slots, one link or nothing at each: the links that `enable` makes, and those
+/// that `disable` removes. Contracts see the finite map from paths to the file to which each link
+/// must lead.
 #[derive(Debug, Drop)]
 pub struct WantedLinks {
     by_path: BTreeMap<TreePath, Option<TreePath>>,
@@ -44,7 +45,7 @@ impl Model for WantedLinks {
 }
 
 impl WantedLinks {
-    /// Nothing is wanted. Takes no memory.
+    /// Nothing is wanted at any slot. Allocates no memory.
     pub fn none(alloc: Global) -> WantedLinks
         ensures { result ≡ map.empty }
     {
@@ -53,7 +54,8 @@ impl WantedLinks {
         }
     }
 
-    /// Nothing is to stand where a tree has entries, all of which stand at slots. Fails only where memory runs out.
+    /// Wants each slot empty at which a tree has an entry; the tree must have entries only at
+    /// slots. Fails only if memory runs out.
     pub fn cleared(alloc: Global, entries: &TreePart) -> Result<WantedLinks, AllocError>
         requires { StandAtSlots entries.now }
         ensures { IfOk result (λ wanted. wanted ≡ cleared entries.now) }
@@ -65,7 +67,8 @@ impl WantedLinks {
         Ok(wanted)
     }
 
-    /// At a slot a link to the file is wanted, in place of what was wanted there before. Where memory runs out nothing has changed.
+    /// Wants a link to the file at a slot, instead of what was wanted there before. If memory runs
+    /// out, nothing has changed.
     pub fn link(&mut self, slot: TreePath, file: TreePath) -> Result<(), AllocError>
         requires { is_slot slot ≡ true }
         ensures ok { OnOk result (self.new ≡ map.insert self.old slot (Some file)) }
@@ -74,7 +77,8 @@ impl WantedLinks {
         self.want(slot, Some(file))
     }
 
-    /// At a slot nothing is to stand, in place of what was wanted there before. Where memory runs out nothing has changed.
+    /// Wants a slot to be empty, instead of what was wanted there before. If memory runs out,
+    /// nothing has changed.
     pub fn clear(&mut self, slot: TreePath) -> Result<(), AllocError>
         requires { is_slot slot ≡ true }
         ensures ok { OnOk result (self.new ≡ map.insert self.old slot None) }
@@ -92,7 +96,7 @@ impl WantedLinks {
         Ok(())
     }
 
-    /// At a slot nothing is wanted any longer: what stands there stays.
+    /// Drops what is wanted at a slot: what is there stays.
     pub fn leave(&mut self, slot: &TreePath)
         ensures { self.new ≡ map.remove self.old slot.now }
     {
@@ -109,9 +113,10 @@ impl WantedLinks {
         Ok(())
     }
 
-    /// Makes all links that are wanted in a tree, and removes what is not to be there; the changes are those from the first tree. The
-    /// cell of each slot is added to the keys. What is returned says why this is refused, if it is: at the least path that has a
-    /// reason. If it is refused or memory runs out, some of the links may have been made.
+    /// Makes all wanted links in a tree, and removes the entries that are wanted absent; the
+    /// changes are those from the first tree. The cell of each slot is added to the keys. The
+    /// returned value is the reason for a refusal, if it is refused: that of the least path that
+    /// has one. If it is refused or memory runs out, some of the links may have been made.
     pub(crate) fn place_in(
         &self,
         alloc: Global,
@@ -129,7 +134,7 @@ impl WantedLinks {
         self.place_each(alloc, &before, first, tree, changes)
     }
 
-    /// The same, by what was in the tree before.
+    /// The same, given what was in the tree before.
     fn place_each(
         &self,
         alloc: Global,

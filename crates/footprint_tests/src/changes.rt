@@ -3,7 +3,7 @@ use link_tree::{Change, Entry};
 use sample_values::{file, link, path};
 use std::alloc::{AllocError, Global};
 
-/// An entry: a link to a target, a file of the bytes behind `:`, or none.
+/// An entry: a link to a target, a file of the bytes after `:`, or none.
 fn entry(alloc: Global, text: &[u8]) -> Result<Option<Entry>, AllocError> {
     match text {
         b"" => Ok(None),
@@ -12,7 +12,7 @@ fn entry(alloc: Global, text: &[u8]) -> Result<Option<Entry>, AllocError> {
     }
 }
 
-/// The change at a path from one entry to another: these three, with `|` between them.
+/// The change at a path from one entry to another: these three, separated by `|`.
 pub(crate) fn change(alloc: Global, text: &[u8]) -> Result<Change, AllocError> {
     let mut parts = text.split(|b| *b == b'|');
     let at = parts.next().unwrap_or(b"");

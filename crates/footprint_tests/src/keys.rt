@@ -29,8 +29,8 @@ fn push_parsed(alloc: Global, keys: &mut Keys, text: &[u8]) -> Result<(), AllocE
     keys.push(key(alloc, text)?)
 }
 
-/// Keys that have spaces between them.
-fn keys(alloc: Global, texts: &[u8]) -> Result<Keys, AllocError> {
+/// Keys separated by spaces.
+pub(crate) fn keys(alloc: Global, texts: &[u8]) -> Result<Keys, AllocError> {
     let mut keys = Keys::none(alloc);
     for text in texts.split(|b| *b == b' ') {
         push_parsed(alloc, &mut keys, text)?;
@@ -44,7 +44,8 @@ fn read(alloc: Global, inventory: &[u8], texts: &[u8]) -> Result<Box<Reading>, A
     Ok(Box::new(alloc, Reading::of(alloc, &tree, keys)?)?)
 }
 
-/// What the tree of an inventory is read as by keys that have spaces between them, asked for again if a growth was refused.
+/// What keys, separated by spaces, read in the tree of an inventory; read again if a growth was
+/// refused.
 pub(crate) fn reading(
     alloc: Global,
     inventory: &[u8],

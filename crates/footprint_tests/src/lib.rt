@@ -1,4 +1,5 @@
-//! Tests of `footprint` and `readers`, from outside: with tests of its own a crate would be proved twice.
+//! Tests of `footprint` and `readers`, from outside: with tests of its own a crate would be proved
+//! twice.
 #![tactic(auto)]
 
 #[cfg(test)]

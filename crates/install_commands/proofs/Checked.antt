@@ -1,4 +1,4 @@
--- Units pass the check where each is found as itself, and the first that isn't is refused.
+-- Units pass the check if each is found under its own name, and the first that isn't is refused.
 use Rattle.std.proofs.Common.{◌≡◌, ℕ, List, [], ◌∷◌, ◌++◌, All, Result, Ok, Err, refl, ap, ◌∙◌, inl, inr}
 use Rattle.std.specs.Str.{bytes_eq}
 use Rattle.std.proofs.lemmas.Bool.{cases_Bool}

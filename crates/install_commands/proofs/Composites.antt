@@ -1,4 +1,4 @@
--- What two commands leave, one after the other.
+-- The tree after two commands, one after the other.
 use Rattle.std.proofs.Common.{◌≡◌, List, [], ◌⊎◌, Ok, Err, refl, sym, ap, subst, ◌∙◌, inl, inr}
 use Rattle.std.specs.FinMap as map
 use Rattle.unit_file.specs.Notices.{NoticeMap, joined}
@@ -17,7 +17,7 @@ use Rattle.install_commands.specs.Laws.{Leaves}
 use Rattle.install_commands.proofs.InTurn.{net_effect, whole, told, more, rules_first, rules_second, left, whole_comes, whole_refused}
 use Rattle.install_commands.proofs.Placed.{placed_leads, accepted}
 
--- what leaves a tree, by what it comes to
+-- an inquiry with the same result leaves the same tree
 pub leaves_as : (one other : Inquiry Effect) (t u : Entries) → one.conclusion t ≡ other.conclusion t → Leaves one t u → Leaves other t u
 leaves_as one other t u same leaves = (leaves.0, ap (λ (e : Effect). e.answer) (sym same) ∙ leaves.1, leaves.2 ∙ ap (λ (e : Effect). after_changes e.changes t) same)
 
@@ -77,7 +77,7 @@ module _ (first second : Command) (t : Entries) where
   parts_of : (u : Entries) → Leaves both t u → Parts u
   parts_of u leaves = by_first u (rules_first first second t) refl leaves
 
-  -- what both come to, by their parts
+  -- the result of both, by their parts
   comes_by : (u : Entries) → Parts u → (notices : NoticeMap) × (both.conclusion t ≡ record { answer = Done notices; changes = changes_between t u })
   comes_by u parts =
       let v = left first second t parts.placed in (
@@ -151,7 +151,7 @@ module _ (first second : Command) (t : Entries) where
   same_told : (one other : NoticeMap) (e : Effect) → e.answer ≡ Done one → e.answer ≡ Done other → one ≡ other
   same_told one other e is also = cc
 
-  -- where the first changes nothing, the second alone decides
+  -- if the first changes nothing, the second alone decides
   pub after_nothing : (carried_out first).conclusion t ≡ record { answer = Done map.empty; changes = [] } → both.conclusion t ≡ (carried_out second).conclusion t
   after_nothing same =
       let leaves : Leaves (carried_out first) t t = (map.empty, ap (λ (e : Effect). e.answer) same, sym (ap (λ (e : Effect). after_changes e.changes t) same)) in
@@ -162,7 +162,7 @@ module _ (first second : Command) (t : Entries) where
       ∙ ap (λ told. net_effect t t told (more first second t t) (rules_second first second t t)) none
       ∙ net_of_told t (more first second t t) (rules_second first second t t)
 
-  -- where the second changes nothing, the first alone does
+  -- if the second changes nothing, the first alone does
   module _ (nothing : (v : Entries) → (carried_out second).conclusion v ≡ record { answer = Done map.empty; changes = [] }) where
     by_later : (v : Entries) (ruling : Ruling) → rules_second first second t v ≡ ruling → effect v (more first second t v) ruling ≡ record { answer = Done map.empty; changes = [] }
         → net_effect t v (told first second t) (more first second t v) ruling ≡ record { answer = Done (told first second t); changes = changes_between t v }

@@ -1,4 +1,4 @@
--- What disable leaves.
+-- The tree that disable leaves.
 use Rattle.std.proofs.Common.{◌≡◌, ℕ, false, List, [], ◌↔◌, All, Contains, Some, Result, Ok, Err, refl, sym, ap, subst, ◌∙◌, inl, inr}
 use Rattle.std.specs.FinMap as map
 use Rattle.std.proofs.lemmas.Bool.{cases_Bool, false≢true}
@@ -40,7 +40,7 @@ module _ (scope : Scope) (units : List (List ℕ)) (t : Entries) where
   abbrev pub none_kept : Named → List (List ℕ)
   none_kept named = []
 
-  -- what the command comes to, by the names
+  -- the result of the command, by the names
   pub by_names : (given : Result Named Refusal) → (taken ((unless_refused (links_removed scope) given).conclusion t)).conclusion t ≡ done_by scope none_kept t given
   by_names (Ok named) = refl
   by_names (Err refusal) = refl
@@ -58,11 +58,11 @@ module _ (scope : Scope) (units : List (List ℕ)) (t : Entries) where
     abbrev names : List (List ℕ)
     names = links.named.names
 
-    -- what stands afterwards stood before, and belongs to none of the names
+    -- an entry that exists afterwards existed before, and belongs to none of the names
     stood : (path : List ℕ) (entry : Entry) → map.get u path ≡ Some entry → (map.get t path ≡ Some entry) × (is_marked scope path entry names ≡ false)
     stood path entry here = let is = (remains scope none_kept t named_in u links path entry).0 here in (is.0, elim is.1 [ inl keep ↦ absurd (false≢true keep) | inr away ↦ away ])
 
-    -- no link belongs to one of the names then
+    -- afterwards no link belongs to one of the names
     pub none_left : (path : List ℕ) (entry : Entry) (name : List ℕ) → map.get u path ≡ Some entry → Contains names name → belongs scope name path entry ≡ false
     none_left path entry name here named = elim (cases_Bool (belongs scope name path entry)) [
       | inl is ↦ absurd (false≢true (sym (stood path entry here).1 ∙ marks scope path entry names name named is))
@@ -81,7 +81,7 @@ module _ (scope : Scope) (units : List (List ℕ)) (t : Entries) where
       ],
     )
 
-  -- where there are names, the command is accepted
+  -- if the names are found, the command is accepted
   pub done_with : (named : Named) → named_in ≡ Ok named → (meaning.conclusion t).answer ≡ Done named.notices
   done_with named are = ap (λ (e : Effect). e.answer) comes_to ∙ ap (λ given. (done_by scope none_kept t given).answer) are ∙ done_of scope none_kept t named
 
@@ -91,7 +91,7 @@ module _ (scope : Scope) (units : List (List ℕ)) (t : Entries) where
   pub refuses : (refusal : Refusal) → named_in ≡ Err refusal → (meaning.conclusion t).answer ≡ Refused refusal
   refuses refusal is = ap (λ (e : Effect). e.answer) comes_to ∙ ap (λ given. (done_by scope none_kept t given).answer) is
 
-  -- where no link belongs to one of them, it changes nothing
+  -- if no link belongs to one of them, it changes nothing
   pub changes_nothing : (named : Named) → named_in ≡ Ok named → ((path : List ℕ) (entry : Entry) → map.get t path ≡ Some entry → is_marked scope path entry named.names ≡ false) → ChangesNothing meaning t
   changes_nothing named are free = (
     named.notices,
@@ -116,7 +116,7 @@ disable_refused disable t refusal = (
     too_many : (units : List (List ℕ)) (t : Entries) → (closure (selves t units)).conclusion t ≡ Err closure_faults.TooMany → (units_named units).conclusion t ≡ Err TooMany
     too_many units t is = rw is refl
 
--- the same names, where nothing stands of which a link belongs to them
+-- the same disable changes nothing, if the names are the same and no link belongs to them any more
 pub again : (scope : Scope) (units : List (List ℕ)) (t u : Entries) → Leaves (carried_out (units_disabled scope units)) t u → AgreeOn ((units_named units).keys t) t u
     → ChangesNothing (carried_out (units_disabled scope units)) u
 again scope units t u leaves agree =
@@ -133,7 +133,7 @@ module _ (enable : Enable) (t u : Entries) (leaves : Leaves (enable_meaning enab
   abbrev fine : All (IsUnit t) enable.units
   fine = (check_passes enable.units t).0 (wants_of enable.scope false enable.units t _ (made enable.scope false enable.units t u leaves).are).0
 
-  -- there are names, since the units aren't too many
+  -- the names are found, since there aren't too many units
   names_are : (named : Result Named Refusal) → (units_named enable.units).conclusion t ≡ named → (named : Named) × ((units_named enable.units).conclusion t ≡ Ok named)
   names_are (Ok named) at = (named, at)
   names_are (Err refusal) at =

@@ -1,4 +1,4 @@
--- What enable leaves.
+-- The tree that enable leaves.
 use Rattle.std.proofs.Common.{◌≡◌, ℕ, Bool, false, List, [], ◌⊎◌, ◌↔◌, Option, Some, None, Result, Ok, Err, refl, sym, ap, subst, ◌∙◌, inl, inr}
 use Rattle.std.specs.FinMap as map
 use Rattle.unit_file.specs.Notices.{NoticeMap, joined}
@@ -34,7 +34,7 @@ use Rattle.install_commands.specs.Enable.{unless_too_many, unless_at_odds, close
 use Rattle.install_commands.specs.Laws.{Leaves, IsWantedBy, JoinedWith, EnableJoins, EnableAgain}
 use Rattle.install_commands.proofs.Placed.{placed_leads, accepted, nothing_changes, to_file, get-to_stand, link_leaves}
 
--- what the links of a closure come to
+-- how the wanted links result from the closure
 pub record Wants (scope : Scope) (skip : Bool) (units : List (List ℕ)) (t : Entries) (given : Wanted) : Type 0 where
   pub closed : Closed
   pub closes : (closure units).conclusion t ≡ Ok closed
@@ -74,7 +74,7 @@ module _ (scope : Scope) (skip : Bool) (units : List (List ℕ)) (t : Entries) w
   pub wants_of : (given : Wanted) → wants.conclusion t ≡ Ok given → ((checked units).conclusion t ≡ Ok tt) × Wants scope skip units t given
   wants_of given is = by_check given ((checked units).conclusion t) refl is
 
-  -- a link is among those exactly where it is wanted
+  -- a link is among those exactly if it is wanted
   pub wanted_is : (given : Wanted) → wants.conclusion t ≡ Ok given → (path file : List ℕ) → (map.get given.links path ≡ Some file) ↔ IsWantedBy scope units t path file
   wanted_is given is path file =
       let from = (wants_of given is).1 in
@@ -84,7 +84,7 @@ module _ (scope : Scope) (skip : Bool) (units : List (List ℕ)) (t : Entries) w
         λ by. ap (λ links. map.get links path) from.links ∙ asked.1 (by.0, (least by.0).1 by.1, by.2),
       )
 
-  -- what the command comes to, by the links
+  -- the result of the command, by the links
   abbrev pub made_of : Result Wanted Refusal → Effect
   made_of given = (taken ((unless_refused links_made given).conclusion t)).conclusion t
 
@@ -118,11 +118,12 @@ module _ (scope : Scope) (skip : Bool) (units : List (List ℕ)) (t : Entries) w
         (subst (λ found. IsLeft found path (map.get t path) (map.get (placed_in links.placed t) path)) (get-to_stand links.given.links path)
         (left_all_at_once (to_stand links.given.links) t links.placed links.rules path))
 
-    -- what stands where no link is wanted stays
+    -- what is at a path where no link is wanted stays
     kept : (path : List ℕ) → map.get links.given.links path ≡ None → map.get u path ≡ map.get t path
     kept path none = subst (λ file. IsLeft (to_file file) path (map.get t path) (map.get u path)) none (left path)
 
-    -- a link that is wanted is made where nothing stands, and leads there already elsewhere
+    -- a wanted link is made if nothing is at its path; otherwise a link to the right file is there
+    -- already
     pub led : (path file : List ℕ) → map.get links.given.links path ≡ Some file
         → ((map.get t path ≡ None) × (map.get u path ≡ Some (Link file)))
         ⊎ ((text : List ℕ) × (map.get t path ≡ Some (Link text)) × (canonical path text ≡ canonical path file) × (map.get u path ≡ map.get t path))
@@ -164,7 +165,7 @@ module _ (scope : Scope) (skip : Bool) (units : List (List ℕ)) (t : Entries) w
       | inr old ↦ (old.0, old.3 ∙ old.1, old.2)
     ]
 
-    -- each link that is wanted leaves what stands
+    -- each wanted link leaves the entry at its path as it is
     stays : (path : List ℕ) (link : Option (List ℕ)) (after : Option Entry) → map.get (to_stand links.given.links) path ≡ Some link → wanted_at link path (map.get u path) ≡ Ok after → after ≡ map.get u path
     stays path link after at is = by_file (map.get links.given.links path) refl (sym (get-to_stand links.given.links path) ∙ at)
       where
@@ -180,7 +181,7 @@ module _ (scope : Scope) (skip : Bool) (units : List (List ℕ)) (t : Entries) w
               | inr old ↦ old.3
             ]
 
-    -- and so they change nothing once more
+    -- and so the same links change nothing the second time
     pub again : AgreeOn (wants.keys t) t u → (meaning.conclusion u).changes ≡ []
     again agree =
         let same : wants.conclusion u ≡ Ok links.given = sym ((wants.agreement t u agree).0) ∙ links.are in

@@ -1,4 +1,4 @@
--- One command after another: what both leave, and the laws that they keep.
+-- One command after another: the tree that both leave, and the laws that they satisfy.
 use Rattle.std.proofs.Common.{◌≡◌, List, [], ◌++◌, Result, Ok, Err, refl, sym, ap, ◌∙◌, subst}
 use Rattle.std.proofs.lemmas.List.{append_assoc, append-nil}
 use Rattle.unit_file.specs.Notices.{NoticeMap, joined}
@@ -23,7 +23,8 @@ use Rattle.install_commands.specs.declared.preset.Preset.{Preset}
 use Rattle.install_commands.specs.Following.{CarriesAfter, CarriesThrough}
 use Rattle.install_commands.specs.Preset.{judged_disabled, judged_enabled, carried_through, preset_judges}
 
--- what two commands come to, where the first leaves u and tells this, and by what the second rules there
+-- the effect of two commands, if the first leaves `u` with the notices `told`, by the ruling of the
+-- second
 abbrev pub net_effect : (t u : Entries) (told more : NoticeMap) → Ruling → Effect
 net_effect t u told more (Ok placed) = record { answer = Done (joined told more); changes = changes_between t (placed_in placed u) }
 net_effect t u told more (Err refusal) = record { answer = Refused refusal; changes = [] }
@@ -44,7 +45,7 @@ ended_by : (t u : Entries) (told more : NoticeMap) (ruling : Ruling) (looked : L
 ended_by t u told more (Ok placed) looked = refl
 ended_by t u told more (Err refusal) looked = refl
 
--- What two commands come to, one after the other.
+-- The result of two commands, one after the other.
 module _ (first second : Command) (t : Entries) where
   abbrev pub whole : Inquiry Effect
   whole = followed_by (carried_out first) (carried_out second)
@@ -117,13 +118,13 @@ module _ (first second : Command) (t : Entries) where
         (subst (λ keys. CarriesAfter second told (stepped rules_first (t, t)) keys after notices done) carries.1.1
         (subst (λ edited. CarriesAfter second told edited keys after notices done) carries.1.0 (subst (λ said. CarriesAfter second said edited keys after notices done) carries.0 rest)))
 
-  -- the same from a tree at which nothing was looked
+  -- the same, if nothing was looked at before
   pub comes_to_both : (before after : List Key) (notices : NoticeMap) (done : Result (Entries × Entries) Refusal) → before ≡ [] → CarriesThrough first second t before after notices done
       → ended t after notices done ≡ record { answer = (whole.conclusion t).answer; changes = (whole.conclusion t).changes; reading = reading_of (whole.keys t) t }
   comes_to_both before after notices done none carries = both_come_to before after notices done carries
       ∙ ap (λ keys. record { answer = (whole.conclusion t).answer; changes = (whole.conclusion t).changes; reading = reading_of (keys ++ whole.keys t) t }) none
 
--- What a preset comes to, by its verdicts.
+-- The result of a preset, by its verdicts.
 module _ (preset : Preset) (t : Entries) where
   abbrev looked : List Key
   looked = (preset_judges preset).keys t

@@ -1,4 +1,4 @@
--- The keys of the links of names.
+-- The keys for the links of names.
 use Rattle.std.proofs.Common.{◌≡◌, ℕ, false, List, [], ◌∷◌, All, map as list_map, refl}
 use Rattle.std.proofs.lemmas.List.Elements.{All-nil, All-cons}
 use Rattle.unit_paths.specs.declared.place.Scope.{Scope}

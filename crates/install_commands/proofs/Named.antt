@@ -1,4 +1,4 @@
--- Which names the links have that a disable removes.
+-- The names whose links a disable removes.
 use Rattle.std.proofs.Common.{◌≡◌, ℕ, true, cond, List, [], ◌∷◌, ◌++◌, ◌⊎◌, ◌↔◌, All, Contains, Result, Ok, Err, refl, sym, ap, subst, ◌∙◌, inl, inr}
 use Rattle.std.proofs.lemmas.Bool.{cases_Bool, false≢true}
 use Rattle.std.proofs.lemmas.List.Elements.{All-contains, Contains-append_left, Contains-append_right, Contains-append_cases, Contains-push, Contains-push_cases}
@@ -28,7 +28,7 @@ use Rattle.install_commands.specs.Laws.GoesWith.{Own, Named as NamedIn}
 use Rattle.install_commands.specs.Laws.IsNamed.{Given, Found as FoundAs, Also}
 
 module _ (t : Entries) where
-  -- one of the units has this name of its own
+  -- one of the units has this own name
   abbrev pub IsReal : (units : List (List ℕ)) → (real : List ℕ) → Type 0
   IsReal units real = (unit file : List ℕ) × Contains units unit × IsFound t unit real file
 
@@ -73,7 +73,7 @@ module _ (t : Entries) where
       in_first : (unit : List ℕ) (units : List (List ℕ)) (name : List ℕ) → Contains (unit ∷ units) name → (name ≡ unit) ⊎ Contains units name
       in_first unit units name here = first_or_later unit units name here.0 here.1 here.2
 
-  -- it is found as itself
+  -- it is found under its own name
   itself : (name : List ℕ) (found : Found) → (find name).conclusion t ≡ found → is_itself name found ≡ true → IsUnit t name
   itself name founds.Missing at is = absurd (false≢true is)
   itself name (founds.Masked place) at is = absurd (false≢true is)
@@ -127,7 +127,7 @@ module _ (t : Entries) where
     self_is : (name : List ℕ) → Contains selves name → IsReal units name × IsUnit t name
     self_is name here = elim (selves_are reals [] name here) [ inl none ↦ absurd (none_of [] name refl none) | inr is ↦ (real_is name is.0, is.1) ]
 
-    -- what goes with the units is what their own names reach
+    -- the units that are included with the given ones are those that their own names reach
     pub reached_goes : (name : List ℕ) → Reached t selves name → GoesWith t units name
     reached_goes name (GivenOf _ here) = let is = self_is name here in Own is.0.0 name is.0.1 is.0.2 is.0.3 is.1
     reached_goes name (NamedBy unit _ before names) = NamedIn unit name (reached_goes unit before) names
@@ -136,7 +136,7 @@ module _ (t : Entries) where
     goes_reached name (Own unit _ file here found itself) = GivenOf name (selves_all reals [] name (reals_all units [] name (unit, file, here, found)) itself)
     goes_reached name (NamedIn unit _ before names) = NamedBy unit name (goes_reached unit before) names
 
-    -- the names of a closure are those of the units that go with these
+    -- the names of a closure are those of the units that are included with these
     pub named_is : (closed : Closed) → (closure selves).conclusion t ≡ Ok closed → (name : List ℕ) → Contains (each_once ((units ++ reals) ++ closed.units)) name ↔ IsNamed t units name
     named_is closed closes name = (λ here. among (once.0 here), λ named. once.1 (listed named))
       where
@@ -160,7 +160,7 @@ module _ (t : Entries) where
         listed (FoundAs unit file here found) = Contains-append_left (units ++ reals) closed.units name (Contains-append_right units reals name (reals_all units [] name (unit, file, here, found)))
         listed (Also goes) = Contains-append_right (units ++ reals) closed.units name (least.1 (goes_reached name goes))
 
-    -- the names that were gathered, with the closure from which they come
+    -- the names that were collected, with the closure from which they come
     pub record Gathered (named : Named) : Type 0 where
       pub closed : Closed
       pub closes : (closure selves).conclusion t ≡ Ok closed
@@ -179,7 +179,7 @@ module _ (t : Entries) where
         let same = named_is from.closed from.closes name in
         (λ here. same.0 (subst (λ names. Contains names name) from.names here), λ named. subst (λ names. Contains names name) (sym from.names) (same.1 named))
 
-    -- they are refused where the closure is
+    -- finding them is refused if the closure is
     refused_by : (refusal : Refusal) (closed : Result Closed ClosureFault) → (closure selves).conclusion t ≡ closed → named_with (units ++ reals) (unless_too_many closed) ≡ Err refusal
         → (refusal ≡ TooMany) × ((closure selves).conclusion t ≡ Err closure_faults.TooMany)
     refused_by refusal (Ok closed) closes is = cc
@@ -188,7 +188,7 @@ module _ (t : Entries) where
     pub named_refused : (refusal : Refusal) → (units_named units).conclusion t ≡ Err refusal → (refusal ≡ TooMany) × ((closure selves).conclusion t ≡ Err closure_faults.TooMany)
     named_refused refusal is = refused_by refusal ((closure selves).conclusion t) refl is
 
-    -- where each is found as itself, their own names are they themselves
+    -- if each is found under its own name, their own names are the given names
     module _ (all : All (IsUnit t) units) where
       self_given : (name : List ℕ) → Contains selves name → Contains units name
       self_given name here =

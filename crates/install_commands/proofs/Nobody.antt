@@ -34,7 +34,7 @@ closure_of_none t = refl
 abbrev pub none_named : Named
 none_named = record { names = []; notices = map.empty }
 
--- no units have no names
+-- the list of names for no units is empty
 pub named_of_none : (t : Entries) → (units_named []).conclusion t ≡ Ok none_named
 named_of_none t = ap (λ closed. named_with [] (unless_too_many closed)) (closure_of_none t)
 
@@ -50,7 +50,7 @@ module _ (scope : Scope) (skip : Bool) (t : Entries) where
   none_want : (checked_want scope skip []).conclusion t ≡ Ok none_wanted
   none_want = ap (λ closed. (going_on (closed_want scope skip) (unless_too_many closed)).conclusion t) (closure_of_none t) ∙ ap (unless_at_odds map.empty) wanted_of_none
 
-  -- and so to enable them changes nothing
+  -- and so enabling them changes nothing
   pub enabled_of_none : (carried_out (units_enabled scope skip [])).conclusion t ≡ record { answer = Done map.empty; changes = [] }
   enabled_of_none =
       ap (λ given. (taken ((unless_refused links_made given).conclusion t)).conclusion t) none_want

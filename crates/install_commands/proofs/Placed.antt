@@ -1,4 +1,4 @@
--- What stands after links were made or removed all at once.
+-- The tree after links were made or removed all at once.
 use Rattle.std.proofs.Common.{◌≡◌, ℕ, true, cond, T, List, [], ◌∷◌, map as list_map, ◌⊎◌, Option, Some, None, Ok, Err, refl, sym, ap, ◌∙◌, inl, inr}
 use Rattle.std.specs.FinMap as map
 use Rattle.std.specs.FinMap.{find, is_sorted, get-from_entries}
@@ -35,11 +35,11 @@ same_path (Some one) None h = absurd (false≢true h)
 same_path None (Some other) h = absurd (false≢true h)
 same_path None None h = absurd (false≢true h)
 
--- what was placed leads to the tree in which it is
+-- applying the changes of what was placed results in the tree with everything placed
 pub placed_leads : (t : Entries) (notices : NoticeMap) (placed : List Placed) → after_changes (effect t notices (Ok placed)).changes t ≡ placed_in placed t
 placed_leads t notices placed = (leads t (placed_in placed t)).to
 
--- what was accepted was placed
+-- if the command was accepted, the links were placed
 pub accepted : (t : Entries) (told notices : NoticeMap) (ruling : Ruling) → (effect t told ruling).answer ≡ Done notices → (placed : List Placed) × (ruling ≡ Ok placed)
 accepted t told notices (Ok placed) is = (placed, refl)
 accepted t told notices (Err refusal) is = cc
@@ -47,12 +47,12 @@ accepted t told notices (Err refusal) is = cc
 no_values : map.entries (map.empty {K = List ℕ} {X = Change} {R = path_cmp}) ≡ []
 no_values = same_entries path_cmp nat_list_cmp_total exact_bytes (map.entries map.empty) [] (map.entries_sorted map.empty) tt (λ q. sym (map.get-entries map.empty q) ∙ map.get-empty path_cmp q)
 
--- a tree differs from itself nowhere
+-- there are no differences between a tree and itself
 pub none_between : (t : Entries) → changes_between t t ≡ []
 unfolding changes_between
 none_between t = ap (λ m. map.values m) (differences-same t) ∙ ap (list_map (λ e. e.1)) no_values
 
--- Where each link that is wanted leaves what stands, nothing changes.
+-- If each wanted link leaves the entry at its path as it is, nothing changes.
 module _ (wanted : Wanted) (t : Entries) (told : NoticeMap)
     (stays : (path : List ℕ) (link : Option (List ℕ)) (after : Option Entry) → map.get wanted path ≡ Some link → wanted_at link path (map.get t path) ≡ Ok after → after ≡ map.get t path) where
   same_left : (path : List ℕ) (there : Option Entry) (found : Option (Option (List ℕ))) → map.get wanted path ≡ found → IsLeft found path (map.get t path) there → there ≡ map.get t path
@@ -65,7 +65,7 @@ module _ (wanted : Wanted) (t : Entries) (told : NoticeMap)
       ap (changes_between t) same ∙ none_between t
   nothing_changes (Err refusal) at = refl
 
--- which link is wanted, by the file to which it is to lead
+-- which link is wanted, by the file to which it must lead
 abbrev pub to_file : Option (List ℕ) → Option (Option (List ℕ))
 to_file None = None
 to_file (Some file) = Some (Some file)
@@ -100,7 +100,7 @@ get-to_stand links path =
     ∙ ap (or_before (find path_cmp path (map.entries links))) (map.get-empty path_cmp path)
     ∙ or_none (find path_cmp path (map.entries links)) ∙ ap to_file (sym (map.get-entries links path))
 
--- a link is made where nothing is, and one that leads alike stays
+-- a link is made if nothing is there, and a link with the same target stays
 pub link_leaves : (file path : List ℕ) (there after : Option Entry) → link_at file path there ≡ Ok after
     → ((there ≡ None) × (after ≡ Some (Link file))) ⊎ ((text : List ℕ) × (there ≡ Some (Link text)) × (canonical path text ≡ canonical path file) × (after ≡ there))
 link_leaves file path None after is = inl (refl, (let same : Ok (Some (Link file)) ≡ Ok after = is in cc))
@@ -110,7 +110,7 @@ link_leaves file path (Some (Link text)) after is = elim (cases_Bool (leads_alik
   | inr other ↦ (let refused : Err (Exists path) ≡ Ok after = rw other at is in cc)
 ]
 
--- where something stands, nothing is to stand
+-- at each path with an entry, no entry is wanted
 abbrev pub bare_of : Option Entry → Option (Option (List ℕ))
 bare_of None = None
 bare_of (Some entry) = Some None
@@ -126,7 +126,7 @@ pub get-cleared : (t : Entries) (path : List ℕ) → map.get (cleared t) path �
 unfolding cleared
 get-cleared t path = get-from_entries nat_list_cmp_total (list_map (λ e. (e.0, None)) (map.entries t)) path ∙ find_bare (map.entries t) path ∙ ap bare_of (sym (map.get-entries t path))
 
--- nothing is in the way of what is cleared
+-- clearing paths is never refused
 pub cleared_refuses : {P : Type 0} (gone t : Entries) (refusal : Refusal) → (all_at_once (cleared gone)).conclusion t ≡ Err refusal → P
 cleared_refuses gone t refusal is = let least = (refused_at_the_least (cleared gone) t refusal).0 is in by_link least.0 (map.get t least.0) (map.get gone least.0) least.1.0 (sym (get-cleared gone least.0) ∙ least.1.1) least.1.2
   where

@@ -51,7 +51,7 @@ module _ (preset : Preset) (judged : Judged) (t v u later : Entries) (is : (pres
   abbrev none_kept : Named → List (List ℕ)
   none_kept named = []
 
-  -- the names of those that are disabled, with what is told of instances
+  -- the names of those that are disabled, with the notices about instances
   abbrev naming : Result Named Refusal → Inquiry (Result Named Refusal)
   naming named = going_on (λ named. over (Ok (telling_too judged.notices named))) named
 
@@ -86,7 +86,7 @@ module _ (preset : Preset) (judged : Judged) (t v u later : Entries) (is : (pres
   abbrev marked : (path : List ℕ) → Entry → Bool
   marked path entry = is_marked scope path entry first.named.names
 
-  -- what the first disable leaves belongs to none of them, and the second leaves what doesn't
+  -- what the first disable leaves belongs to none of the names, and the second leaves what doesn't
   free : (path : List ℕ) (entry : Entry) → map.get v path ≡ Some entry → marked path entry ≡ false
   free path entry here = elim ((remains scope none_kept t (given t) v first path entry).0 here).1 [ inl keep ↦ absurd (false≢true keep) | inr away ↦ away ]
 
@@ -107,14 +107,14 @@ module _ (preset : Preset) (judged : Judged) (t v u later : Entries) (is : (pres
   joined : JoinedWith (IsWantedBy scope judged.enabled v) v u
   joined = joins scope true judged.enabled v u links
 
-  -- what the links are joined with, by the list of those that are wanted
+  -- the links that are added, by the list of the wanted links
   kept : (path : List ℕ) (entry : Entry) → map.get v path ≡ Some entry → map.get u path ≡ Some entry
   kept path entry here = (joined path entry).1 (inl here)
 
   new : (path file : List ℕ) → map.get v path ≡ None → IsWanted path file → map.get u path ≡ Some (Link file)
   new path file none wanted = (joined path (Link file)).1 (inr (none, file, (wanted_is scope true judged.enabled v links.given links.are path file).0 wanted, refl))
 
-  -- the enable part, where it is accepted once more
+  -- the enable part, if it is accepted once more
   module _ (w : Entries) (accepted : Leaves (carried_out enables) later w) where
     links_again : Made scope true judged.enabled later w
     links_again = made scope true judged.enabled later w accepted
@@ -128,7 +128,7 @@ module _ (preset : Preset) (judged : Judged) (t v u later : Entries) (is : (pres
     wanted_again : (path file : List ℕ) → IsWantedBy scope judged.enabled later path file ↔ IsWanted path file
     wanted_again path file = let is = wanted_is scope true judged.enabled later links.given given_again path file in (is.1, is.0)
 
-    -- what stands then stood
+    -- everything that exists afterwards existed before
     back : (path : List ℕ) (entry : Entry) → map.get w path ≡ Some entry → map.get u path ≡ Some entry
     back path entry here = elim ((joined_again path entry).0 here) [
       | inl old ↦ (stood path entry old).0
@@ -139,7 +139,7 @@ module _ (preset : Preset) (judged : Judged) (t v u later : Entries) (is : (pres
         by_first path entry file none wanted same None at = new path file at wanted ∙ ap (λ e. Some e) (sym same)
         by_first path entry file none wanted same (Some other) at = none_some other (sym none ∙ stays path other (kept path other at) (free path other at))
 
-    -- and what stood stands then
+    -- and everything that existed before exists afterwards
     on : (path : List ℕ) (entry : Entry) → map.get u path ≡ Some entry → map.get w path ≡ Some entry
     on path entry here = elim (cases_Bool (marked path entry)) [
       | inl gone ↦ elim ((joined path entry).0 here) [

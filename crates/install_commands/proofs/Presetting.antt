@@ -1,4 +1,4 @@
--- What preset leaves.
+-- The tree that preset leaves.
 use Rattle.std.proofs.Common.{◌≡◌, ℕ, true, false, List, [], Result, Ok, Err, refl, sym, ap, ◌∙◌, inr}
 use Rattle.std.specs.FinMap as map
 use Rattle.std.proofs.lemmas.List.Elements.{All-nil}
@@ -28,7 +28,7 @@ use Rattle.install_commands.proofs.Verdicts.{same_rules, all_enabled, all_to_dis
 use Rattle.install_commands.proofs.Nobody.{none_named, named_of_none, enabled_of_none}
 
 module _ (preset : Preset) (t : Entries) where
-  -- it comes to what its two parts do
+  -- its result is that of its two parts
   module _ (judged : Judged) (is : (preset_judges preset).conclusion t ≡ Ok judged) where
     abbrev disables : Command
     disables = judged_disabled preset.scope judged
@@ -62,7 +62,7 @@ preset_in_turn preset t = (
 )
 
 module _ (preset : Preset) (t : Entries) (units : List (List ℕ)) (count : (counting_behind [] preset.units).conclusion t ≡ Ok units) where
-  -- the verdicts, by what the rules make of the units
+  -- the verdicts, by what the rules say about the units
   judged_as : (judged : Judged) → judged_by (rules_of t) units none_judged ≡ judged → (preset_judges preset).conclusion t ≡ Ok judged
   judged_as judged same =
       ap (λ units. (going_on (λ units. giving (units_judged units) (λ judged. Ok judged)) units).conclusion t) count

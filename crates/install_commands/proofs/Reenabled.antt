@@ -1,4 +1,4 @@
--- What reenable leaves.
+-- The tree that reenable leaves.
 use Rattle.std.proofs.Common.{◌≡◌, ℕ, true, false, cond, List, [], ◌∷◌, ◌++◌, ◌⊎◌, ◌↔◌, All, Contains, Option, Some, None, Result, Ok, Err, refl, sym, ap, subst, ◌∙◌, inl, inr}
 use Rattle.std.specs.FinMap as map
 use Rattle.std.proofs.lemmas.Bool.{cases_Bool, false≢true}
@@ -41,7 +41,7 @@ use Rattle.install_commands.proofs.Placed.{none_between}
 use Rattle.install_commands.proofs.Removal.{is_kept, kept_is, is_kept_of, is_marked, marked_by, marks, done_by, Removed, removal, remains}
 
 module _ (t : Entries) where
-  -- the cells by which a name is found are kept, if that is a way outside
+  -- the cells by which a name is found are kept, if its file is outside the four directories
   kept_of_found : (name path : List ℕ) (kept : List (List ℕ)) (found : Found) → (find name).conclusion t ≡ found → Contains (with_kept kept (found, (find name).cells t)) path → Contains kept path ⊎ IsWayOutside t name path
   kept_of_found name path kept founds.Missing at here = inl here
   kept_of_found name path kept (founds.Masked place) at here = inl here
@@ -131,7 +131,8 @@ module _ (reenable : Reenable) (t : Entries) where
     is_named : (name : List ℕ) → Contains names name ↔ IsNamed t units name
     is_named name = gathered_is t units links.named passed.1 name
 
-    -- a path is kept exactly where it is a way outside of one of the names
+    -- a path is kept exactly if one of the names is found through it and has a file outside the
+    -- four directories
     kept_way_is : (path : List ℕ) → is_kept (kept_for links.named) path ≡ true → (name : List ℕ) × IsNamed t units name × IsWayOutside t name path
     kept_way_is path is = elim (kept_are t names [] path (kept_is (kept_for links.named) path is)) [
       | inl none ↦ absurd (none_of [] path refl none)

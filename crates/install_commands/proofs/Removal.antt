@@ -1,4 +1,4 @@
--- What stands after the links of names were removed, but for those that are kept.
+-- The tree after the links of names were removed, except those that are kept.
 use Rattle.std.proofs.Common.{◌≡◌, ℕ, Bool, true, false, ◌||◌, cond, List, [], ◌∷◌, map as list_map, ◌⊎◌, ◌↔◌, Contains, Option, Some, None, Result, Ok, Err, refl, sym, ap, subst, ◌∙◌, inl, inr}
 use Rattle.std.specs.FinMap as map
 use Rattle.std.specs.List.{list_any}
@@ -79,7 +79,7 @@ module _ (scope : Scope) (path : List ℕ) (entry : Entry) where
     | inr later ↦ or_right (belongs scope first path entry) _ (marks names name later is)
   ]
 
--- The names are known in the tree, and with them what is kept.
+-- The names are known in the tree, and so are the paths that are kept.
 module _ (scope : Scope) (kept : Named → List (List ℕ)) (t : Entries) where
   -- the links that belong to one of the names
   abbrev pub gone : Named → Entries
@@ -98,7 +98,7 @@ module _ (scope : Scope) (kept : Named → List (List ℕ)) (t : Entries) where
       get-but_at (cleared (gone named)) (kept named) path
       ∙ ap (cond (is_kept (kept named) path) None) (get-cleared (gone named) path ∙ ap bare_of (get-those (any_selects (list_map (Marked scope) named.names)) t path))
 
-  -- nothing is in the way of what is removed
+  -- removals are never refused
   pub removed_refuses : {P : Type 0} (named : Named) (refusal : Refusal) → (all_at_once (removed named)).conclusion t ≡ Err refusal → P
   removed_refuses named refusal is =
       let least = (refused_at_the_least (removed named) t refusal).0 is in
@@ -112,7 +112,7 @@ module _ (scope : Scope) (kept : Named → List (List ℕ)) (t : Entries) where
       by_link path there false (Some entry) None at way = cc
       by_link path there false (Some entry) (Some file) at way = cc
 
-  -- so it is refused only where there are no names
+  -- so the command is refused only if finding the names is
   accepts : (named : Named) (ruling : Ruling) → (all_at_once (removed named)).conclusion t ≡ ruling → (effect t named.notices ruling).answer ≡ Done named.notices
   accepts named (Ok placed) at = refl
   accepts named (Err refusal) at = removed_refuses named refusal at
@@ -151,7 +151,7 @@ module _ (scope : Scope) (kept : Named → List (List ℕ)) (t : Entries) where
     abbrev stays : List ℕ → Bool
     stays path = is_kept (kept links.named) path
 
-    -- what is left at a path, by whether it is kept and what stood there
+    -- what is left at a path, by whether it is kept and what was there before
     abbrev IsSo : (path : List ℕ) → Bool → Option Entry → Option Entry → Type 0
     IsSo path keep there after = IsLeft (cond keep None (bare_of (chosen_at (any_selects (list_map (Marked scope) names)) path there))) path there after
 
@@ -178,7 +178,8 @@ module _ (scope : Scope) (kept : Named → List (List ℕ)) (t : Entries) where
     other_stays path true entry after other so = so
     other_stays path false entry after other so = subst (λ b. IsLeft (bare_of (cond b (Some entry) None)) path (Some entry) after) other so
 
-    -- at a path is the entry that was there, and it is kept or belongs to none of the names
+    -- the entry at a path is the one that was there before, and it is kept or belongs to none of
+    -- the names
     abbrev pub Remains : (path : List ℕ) → Entry → Type 0
     Remains path entry = (stays path ≡ true) ⊎ (is_marked scope path entry names ≡ false)
 
@@ -200,11 +201,12 @@ module _ (scope : Scope) (kept : Named → List (List ℕ)) (t : Entries) where
     remained path entry at (inl keep) = kept_stays path (stays path) (map.get t path) (map.get u path) keep (left path) ∙ at
     remained path entry at (inr away) = other_stays path (stays path) entry (map.get u path) away (subst (λ there. IsSo path (stays path) there (map.get u path)) at (left path))
 
-    -- what stands afterwards is what stood before, and is kept or belongs to none of the names
+    -- an entry exists afterwards exactly if it existed before and is kept or belongs to none of the
+    -- names
     pub remains : (path : List ℕ) (entry : Entry) → (map.get u path ≡ Some entry) ↔ ((map.get t path ≡ Some entry) × Remains path entry)
     remains path entry = (stood path entry (map.get t path) refl, λ there. remained path entry there.0 there.1)
 
-  -- where no link belongs to one of the names but those that are kept, nothing changes
+  -- if no link belongs to one of the names except those that are kept, nothing changes
   pub none_goes : (named : Named) → ((path : List ℕ) (entry : Entry) → map.get t path ≡ Some entry → (is_kept (kept named) path ≡ true) ⊎ (is_marked scope path entry named.names ≡ false))
       → done_by (Ok named) ≡ record { answer = Done named.notices; changes = [] }
   none_goes named free = by_ruling ((all_at_once (removed named)).conclusion t) refl

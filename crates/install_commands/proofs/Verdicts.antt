@@ -30,7 +30,7 @@ use Rattle.install_commands.specs.Check.{going_on}
 use Rattle.install_commands.specs.CompositeLaws.{rules_of, Counts, GivesUnit, IsFirstMissing, PresetJudges}
 use Rattle.install_commands.specs.Preset.{counts, counting_behind, with_one, with_disabled, with_listed, with_all_listed, with_enabled, with_unit, judged_by, none_judged, units_judged, preset_judges}
 
--- what a preset looks at are the preset slots
+-- the paths that a preset looks at are the preset slots
 presets_part : (t : Entries) → part Presets t ≡ presets_of t
 presets_part t = same_tree _ _ (λ path. get-part Presets t path ∙ by_entry path (map.get t path) ∙ sym (get-presets t path))
   where
@@ -42,7 +42,7 @@ pub same_rules : (t : Entries) → (policy_of (part Presets t)).conclusion t ≡
 same_rules t = ap (λ policy. policy.conclusion t) (ap policy_of (presets_part t) ∙ presets_decide t)
 
 module _ (t : Entries) where
-  -- units are among these, or are of the others and count
+  -- a unit is in the list if it is one of the names, or one of the units and counts
   abbrev Adds : (names units list : List (List ℕ)) → (unit : List ℕ) → Type 0
   Adds names units list unit = Contains list unit ↔ (Contains names unit ⊎ (Contains units unit × Counts t unit))
 
@@ -88,7 +88,7 @@ module _ (t : Entries) where
       by_first rest (Ok here) at is = one_counts first units names list unit here at (rest (cond here (names ++ first ∷ []) names) is)
       by_first rest (Err refusal) at is = cc
 
-  -- a unit isn't found, all before it being found
+  -- a unit isn't found, but all before it are
   abbrev IsMissing : (units : List (List ℕ)) → Refusal → Type 0
   IsMissing units refusal = IsFirstMissing t units refusal
 
@@ -119,7 +119,7 @@ module _ (t : Entries) where
     λ first. ap (λ units. (counting_behind [] units).conclusion t) first.3 ∙ missing_refused first.0 first.1 first.2 [] refusal first.4 first.5,
   )
 
--- the listed instances that make names are to be enabled
+-- the listed instances that make valid names will be enabled
 module _ (template : List ℕ) where
   abbrev IsListed : (instances : List (List ℕ)) → (unit : List ℕ) → Type 0
   IsListed instances unit = (instance : List ℕ) × Contains instances instance × (put_in template (Some instance) ≡ Some unit)
@@ -153,7 +153,7 @@ module _ (template : List ℕ) where
         ],
       )
 
-  -- which are disabled stays
+  -- the disabled units are unchanged
   listed_disabled : (instance : List ℕ) (judged : Judged) (put : Option (List ℕ)) → (with_listed template instance judged put).disabled ≡ judged.disabled
   listed_disabled instance judged None = refl
   listed_disabled instance judged (Some put) = refl
@@ -163,7 +163,7 @@ module _ (template : List ℕ) where
   all_disabled (instance ∷ instances) judged =
       all_disabled instances (with_listed template instance judged (put_in template (Some instance))) ∙ listed_disabled instance judged (put_in template (Some instance))
 
--- one unit more is to be enabled
+-- one more unit will be enabled
 one_more : (first unit : List ℕ) (judged : Judged) → Contains (with_one first judged).enabled unit ↔ (Contains judged.enabled unit ⊎ (unit ≡ first))
 one_more first unit judged = (
   λ here. elim (Contains-push_cases judged.enabled first unit here) [ inl before ↦ inl before | inr same ↦ inr (sym same) ],
@@ -314,7 +314,7 @@ module _ (rules : List Rule) where
       let one = one_enabled first units judged unit (verdict rules first) refl in
       (λ here. one.0 (rest.0 here), λ so. rest.1 (one.1 so))
 
--- where all are to be enabled, or to be disabled
+-- if all are enabled, or all are disabled
 module _ (rules : List Rule) where
   pub all_enabled : ((name : List ℕ) → verdict rules name ≡ verdicts.Enable []) → (units : List (List ℕ)) (judged : Judged) → judged_by rules units judged ≡ record judged { enabled = judged.enabled ++ units }
   all_enabled all [] judged = ap (λ enabled. record judged { enabled = enabled }) (sym (append-nil judged.enabled))
@@ -329,7 +329,7 @@ module _ (rules : List Rule) where
       ∙ ap (λ disabled. record judged { disabled = disabled }) (append_assoc judged.disabled (unit ∷ []) units)
 
 module _ (preset : Preset) (t : Entries) where
-  -- the units that count, and what is said of them
+  -- the units that count, and what the rules say about them
   pub record Said (judged : Judged) : Type 0 where
     pub units : List (List ℕ)
     pub count : (counting_behind [] preset.units).conclusion t ≡ Ok units
@@ -347,7 +347,7 @@ module _ (preset : Preset) (t : Entries) where
   pub said_of : (judged : Judged) → (preset_judges preset).conclusion t ≡ Ok judged → Said judged
   said_of judged is = by_counting judged ((counting_behind [] preset.units).conclusion t) refl is
 
-  -- it is refused where a unit isn't found
+  -- it is refused if a unit isn't found
   refused_by : (refusal : Refusal) (units : Result (List (List ℕ)) Refusal) → (counting_behind [] preset.units).conclusion t ≡ units
       → (going_on (λ units. giving (units_judged units) (λ judged. Ok judged)) units).conclusion t ≡ Err refusal → (counting_behind [] preset.units).conclusion t ≡ Err refusal
   refused_by refusal (Ok units) at is = cc

@@ -1,4 +1,5 @@
--- For the proofs of this crate and of scripts: no public contract cites it. Commands that are two, one after the other, keep the laws of operations.
+-- For the proofs of this crate and of scripts: no public contract cites it. Two commands, one after
+-- the other, satisfy the laws of operations.
 use Rattle.std.proofs.Common.{false, [], ◌++◌, Contains, All, Result, Ok, Err, refl, sym}
 use Rattle.std.specs.Prelude.{◌≡◌, true}
 use Rattle.std.proofs.lemmas.Bool.{true≢false}
@@ -18,7 +19,7 @@ use Rattle.install_commands.specs.declared.judging.Judged.{Judged}
 use Rattle.install_commands.specs.declared.preset.Preset.{Preset}
 use Rattle.install_commands.specs.Preset.{judged_disabled, judged_enabled, carried_through, preset_judges, preset_meaning}
 
--- Two commands, one after the other, keep the laws of operations.
+-- Two commands, one after the other, satisfy the laws of operations.
 module _ {C : Type 0} (first second : C → Command) where
   abbrev twice : C → Then C C
   twice c = record { first = c; second = c }
@@ -31,7 +32,7 @@ module _ {C : Type 0} (first second : C → Command) where
     question = λ c t asks. absurd (true≢false (sym asks));
   }
 
--- So does what is asked before, and decides what they are.
+-- So does what is looked up first and decides what the two commands are.
 laws_behind : {C X : Type 0} (question : C → Inquiry X) (next : C × X → Inquiry Effect) → OperationLaws (λ c. false) next → OperationLaws (λ c. false) (λ c. question c >>= (λ x. next (c, x)))
 laws_behind question next laws = record {
   confinement = λ c t. let x = (question c).conclusion t in
@@ -42,7 +43,7 @@ laws_behind question next laws = record {
   question = λ c t asks. absurd (true≢false (sym asks));
 }
 
--- what a refusal comes to
+-- the laws for the effect of a refusal
 refused_laws : OperationLaws (λ (refusal : Refusal). false) (λ refusal. over (record { answer = Refused refusal; changes = [] }))
 refused_laws = record {
   confinement = λ refusal t. All-nil (λ change. Contains [] (Cell change.path));

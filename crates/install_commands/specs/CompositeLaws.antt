@@ -33,11 +33,11 @@ use Rattle.install_commands.specs.Laws.{Leaves, ChangesNothing, IsNamed, IsWante
 use Rattle.install_commands.specs.Preset.{counts, counting_behind, preset_judges, judged_disabled, judged_enabled, preset_meaning}
 use Rattle.install_commands.specs.Reenable.{reenable_disables, reenable_enables, reenable_meaning}
 
--- It leaves a tree exactly where the first command leaves one of which the second makes that tree.
+-- It leaves a tree exactly if the first command leaves one from which the second makes that tree.
 abbrev pub LeavesInTurn : (whole : Inquiry Effect) → (first second : Command) → (t : Entries) → Type 0
 LeavesInTurn whole first second t = (u : Entries) → Leaves whole t u ↔ ((v : Entries) × Leaves (carried_out first) t v × Leaves (carried_out second) v u)
 
--- It is refused exactly where the first command is, or the second in the tree that the first leaves.
+-- It is refused exactly if the first command is, or the second in the tree that the first leaves.
 abbrev pub IsRefusedInTurn : (whole : Inquiry Effect) → (first second : Command) → (t : Entries) → Type 0
 IsRefusedInTurn whole first second t = (refusal : Refusal) → ((whole.conclusion t).answer ≡ Refused refusal)
     ↔ ((((carried_out first).conclusion t).answer ≡ Refused refusal) ⊎ ((v : Entries) × Leaves (carried_out first) t v × (((carried_out second).conclusion v).answer ≡ Refused refusal)))
@@ -48,21 +48,24 @@ ReenableInTurn = (reenable : Reenable) (t : Entries)
     → LeavesInTurn (reenable_meaning reenable) (reenable_disables reenable) (reenable_enables reenable) t
     × IsRefusedInTurn (reenable_meaning reenable) (reenable_disables reenable) (reenable_enables reenable) t
 
--- A name is found as a unit whose file lies in none of the four directories, and this is one of the paths at which was looked.
+-- A name is found as a unit whose file is in none of the four directories, and this is one of the
+-- paths that were looked at.
 abbrev pub IsWayOutside : Entries → (name path : List ℕ) → Type 0
 IsWayOutside t name path = (real file : List ℕ) × (place : Place) × ((find name).conclusion t ≡ Unit real file place) × (is_unit_slot (slot_of file) ≡ false) × Contains ((find name).cells t) path
 
--- A link of the scope belongs to one of the names of a disable, and is no way to a file outside the four directories.
+-- A link of the scope belongs to one of the names of a disable, and is not needed to find a file
+-- outside the four directories.
 abbrev pub IsCleared : Reenable → Entries → (path : List ℕ) → Entry → Type 0
 IsCleared reenable t path entry =
     ((name : List ℕ) × IsNamed t reenable.units name × (belongs reenable.scope name path entry ≡ true)) × ¬ ((name : List ℕ) × IsNamed t reenable.units name × IsWayOutside t name path)
 
--- The disable part leaves the tree without these, and passes only units that enable passes.
+-- The disable part leaves the tree without these, and accepts only units that enable accepts.
 abbrev pub ReenableClears : Type 0
 ReenableClears = (reenable : Reenable) (t v : Entries) → Leaves (carried_out (reenable_disables reenable)) t v → Without (IsCleared reenable t) t v × All (IsUnit t) reenable.units
 
--- A reenable of units whose links are as enable makes them changes nothing: those that go are such as enable wants, all that it wants lead where
--- they should, and what it looks up is as it was.
+-- A reenable of units whose links are as enable makes them changes nothing. The conditions: enable
+-- wants all links that are removed, all links that it wants exist with the right target, and what
+-- it looks up is unchanged.
 abbrev pub ReenableOfEnabled : Type 0
 ReenableOfEnabled = (reenable : Reenable) (t u v : Entries) → Leaves (reenable_meaning reenable) t u → Leaves (carried_out (reenable_disables reenable)) t v
     → AgreeOn ((checked_want reenable.scope false reenable.units).keys t) t v
@@ -78,26 +81,29 @@ rules_of t = (policy_of t).conclusion t
 abbrev pub Counts : Entries → (unit : List ℕ) → Type 0
 Counts t unit = (counts unit).conclusion t ≡ Ok true
 
--- A unit that is to be enabled with these instances gives this one: a template each instance that makes a name, and else itself.
+-- A unit that will be enabled with these instances gives this one: a template gives each instance
+-- that makes a valid name, and any other unit gives itself.
 abbrev pub GivesUnit : (given : List ℕ) → (instances : List (List ℕ)) → (unit : List ℕ) → Type 0
 GivesUnit given [] unit = unit ≡ given
 GivesUnit given (first ∷ instances) unit =
     ((is_template_name given ≡ false) × (unit ≡ given)) ⊎ ((is_template_name given ≡ true) × (instance : List ℕ) × Contains (first ∷ instances) instance × (put_in given (Some instance) ≡ Some unit))
 
--- Disabled are those of the given units that count and that the preset files of the first tree disable; enabled are those that are
--- given by the ones that count and that these files enable. So a unit that they ignore is neither.
+-- Disabled are those of the given units that count and that the preset files of the first tree
+-- disable; enabled are those that are given by the ones that count and that these files enable. So
+-- a unit that the files ignore is neither.
 abbrev pub PresetJudges : Type 0
 PresetJudges = (preset : Preset) (t : Entries) (judged : Judged) → ((preset_judges preset).conclusion t ≡ Ok judged)
     → ((unit : List ℕ) → Contains judged.disabled unit ↔ (Contains preset.units unit × Counts t unit × (verdict (rules_of t) unit ≡ verdicts.Disable)))
     × ((unit : List ℕ) → Contains judged.enabled unit
     ↔ ((given : List ℕ) × Contains preset.units given × Counts t given × (instances : List (List ℕ)) × (verdict (rules_of t) given ≡ verdicts.Enable instances) × GivesUnit given instances unit))
 
--- A unit that isn't found, all before it being found.
+-- A unit isn't found, but all before it are.
 abbrev pub IsFirstMissing : Entries → (units : List (List ℕ)) → Refusal → Type 0
 IsFirstMissing t units refusal = (before after : List (List ℕ)) × (unit : List ℕ) × (units ≡ before ++ unit ∷ after)
     × All (λ unit. (here : Bool) × ((counts unit).conclusion t ≡ Ok here)) before × ((counts unit).conclusion t ≡ Err refusal)
 
--- A preset is a disable of those that are to be disabled, and then an enable of the others; without a verdict the first unit that isn't found refuses it.
+-- A preset is a disable of the units to disable, and then an enable of the others; if there is no
+-- verdict, it is refused for the first unit that isn't found.
 abbrev pub PresetInTurn : Type 0
 PresetInTurn = (preset : Preset) (t : Entries)
     → ((judged : Judged) → ((preset_judges preset).conclusion t ≡ Ok judged)
@@ -106,18 +112,20 @@ PresetInTurn = (preset : Preset) (t : Entries)
     × ((refusal : Refusal) → ((preset_judges preset).conclusion t ≡ Err refusal) ↔ IsFirstMissing t preset.units refusal)
     × ((refusal : Refusal) → ((preset_judges preset).conclusion t ≡ Err refusal) → ((preset_meaning preset).conclusion t).answer ≡ Refused refusal)
 
--- Where no preset file stands, a preset enables the units that count, but for words that need an instance,
+-- If there is no preset file, a preset enables the units that count, except for words that need an
+-- instance,
 abbrev pub PresetEnablesAll : Type 0
 PresetEnablesAll = (preset : Preset) (t : Entries) (units : List (List ℕ)) → HasNoPresets t → ((counting_behind [] preset.units).conclusion t ≡ Ok units)
     → (preset_meaning preset).conclusion t ≡ (carried_out (units_enabled preset.scope true units)).conclusion t
 
--- and where the one rule is to disable all, it disables them.
+-- and if the only rule is to disable all, it disables them.
 abbrev pub PresetDisablesAll : Type 0
 PresetDisablesAll = (preset : Preset) (t : Entries) (units : List (List ℕ)) → (rules_of t ≡ disable_all ∷ []) → ((counting_behind [] preset.units).conclusion t ≡ Ok units)
     → (preset_meaning preset).conclusion t ≡ (disable_meaning (record { scope = preset.scope; units = units })).conclusion t
 
--- The same preset once more changes nothing, where what its parts look up is for each as it was: the verdicts, the names that are disabled, and what the
--- enable part looks up in the tree that the disable part leaves this time.
+-- The same preset once more changes nothing, if for each of its parts what it looks up is
+-- unchanged: the verdicts, the names that are disabled, and what the enable part looks up in the
+-- tree that the disable part leaves this time.
 abbrev pub PresetAgain : Type 0
 PresetAgain = (preset : Preset) (judged : Judged) (t v u again : Entries) → ((preset_judges preset).conclusion t ≡ Ok judged)
     → Leaves (carried_out (judged_disabled preset.scope judged)) t v → Leaves (carried_out (judged_enabled preset.scope judged)) v u

@@ -22,28 +22,30 @@ use Rattle.footprint.specs.Steps.{all_at_once}
 use Rattle.install_commands.specs.declared.enable.Enable.{Enable}
 use Rattle.install_commands.specs.Check.{going_on, checked}
 
--- a closure, unless it is of too many units
+-- a closure, unless it has too many units
 abbrev pub unless_too_many : Result Closed ClosureFault → Result Closed Refusal
 unless_too_many (Ok closed) = Ok closed
 unless_too_many (Err closure_faults.TooMany) = Err TooMany
 
--- the links that units want, with these notices too, unless one needs an instance or a path is wanted twice
+-- the links that units want, with these notices too, unless one needs an instance or a path is
+-- wanted twice
 abbrev pub unless_at_odds : NoticeMap → Result Wanted WantedFault → Result Wanted Refusal
 unless_at_odds notices (Ok wanted) = Ok (record { links = wanted.links; notices = joined notices wanted.notices })
 unless_at_odds notices (Err (wanted_faults.NeedsInstance unit)) = Err (NeedsInstance unit)
 unless_at_odds notices (Err (wanted_faults.Clash path)) = Err (Clash path)
 
--- the links that the units of a closure want; with `skip` a word that would need an instance asks for nothing
+-- the links that the units of a closure want; with `skip` a word that would need an instance asks
+-- for nothing
 abbrev pub closed_want : Scope → (skip : Bool) → Closed → Inquiry (Result Wanted Refusal)
 closed_want scope skip closed = giving (by_cells (wanted closed.units scope skip)) (unless_at_odds closed.notices)
 
--- the links that units want, and those that they name
+-- the links wanted by units and by the units that they name
 abbrev pub units_want : Scope → (skip : Bool) → (units : List (List ℕ)) → Inquiry (Result Wanted Refusal)
 units_want scope skip units = do
   closed ← giving (by_cells (closure units)) unless_too_many
   going_on (closed_want scope skip) closed
 
--- a link is to stand at each of the paths
+-- a link is wanted at each of the paths
 abbrev pub with_links : placing.Wanted → List (List ℕ × List ℕ) → placing.Wanted
 with_links wanted [] = wanted
 with_links wanted (link ∷ links) = with_links (map.insert wanted link.0 (Some link.1)) links
@@ -51,17 +53,17 @@ with_links wanted (link ∷ links) = with_links (map.insert wanted link.0 (Some 
 abbrev pub to_stand : LinkMap → placing.Wanted
 to_stand links = with_links map.empty (map.entries links)
 
--- the links that are wanted are made, all at once
+-- makes the wanted links, all at once
 abbrev pub links_made : Wanted → Command
 links_made wanted = telling wanted.notices (all_at_once (to_stand wanted.links))
 
--- the links that units want, which are checked before
+-- the links that units want, which are checked first
 abbrev pub checked_want : Scope → (skip : Bool) → (units : List (List ℕ)) → Inquiry (Result Wanted Refusal)
 checked_want scope skip units = do
   fine ← checked units
   going_on (λ fine. units_want scope skip units) fine
 
--- Units are checked, and enabled, and those that they name.
+-- Checks units, and enables them and those that they name.
 abbrev pub units_enabled : Scope → (skip : Bool) → (units : List (List ℕ)) → Command
 units_enabled scope skip units = do
   wanted ← checked_want scope skip units
@@ -70,10 +72,11 @@ units_enabled scope skip units = do
 abbrev pub enable_command : Enable → Command
 enable_command enable = units_enabled enable.scope false enable.units
 
--- What the command asks of a tree, and what effect that has.
+-- What the command looks up in a tree, and what effect it has.
 abbrev pub enable_meaning : Enable → Inquiry Effect
 enable_meaning enable = carried_out (enable_command enable)
 
--- what decides whether it is refused before a link is looked at, and which links it wants
+-- what decides, before a link is looked at, whether the command is refused, and which links it
+-- wants
 abbrev pub enable_wants : Enable → Inquiry (Result Wanted Refusal)
 enable_wants enable = checked_want enable.scope false enable.units

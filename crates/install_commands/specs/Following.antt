@@ -7,8 +7,9 @@ use Rattle.footprint.specs.declared.refusal.Refusal.{Refusal}
 use Rattle.footprint.specs.Commands.{Command}
 use Rattle.footprint.specs.Edits.{CarriesOn, Carries}
 
--- For functions that carry out a command after an earlier one, by the edit in which that ended and what it told: they tell that, too. Nothing
--- follows a refusal.
+-- For functions that carry out a command after an earlier one, given the edit and the notices with
+-- which that one ended: they return these notices, too. If the earlier command was refused, nothing
+-- follows.
 abbrev pub CarriesAfter : Command → (told : NoticeMap) → Result (Entries × Entries) Refusal → (before after : List Key) → NoticeMap → Result (Entries × Entries) Refusal → Type 0
 CarriesAfter command told (Ok edit) before after notices done = (more : NoticeMap) × CarriesOn command edit before after more done × (notices ≡ joined told more)
 CarriesAfter command told (Err refusal) before after notices done = (notices ≡ told) × (done ≡ Err refusal) × (after ≡ before)

@@ -21,7 +21,7 @@ use Rattle.install_commands.specs.Check.{going_on, checked}
 use Rattle.install_commands.specs.Disable.{units_named, links_removed_but}
 use Rattle.install_commands.specs.Enable.{units_enabled}
 
--- what a search comes to, with the cells by which it does
+-- the result of a search, with the cells that it looks at
 abbrev pub with_cells : {X : Type 0} → Search X → Inquiry (X × List (List ℕ))
 with_cells s = record {
   conclusion = λ t. (s.conclusion t, s.cells t);
@@ -29,31 +29,33 @@ with_cells s = record {
   agreement = λ t u agree. let same = s.agreement t u (same_cells (s.cells t) t u agree) in (λ i. (same.0 i, same.1 i), ap (list_map Cell) same.1);
 }
 
--- The cells by which a name was found are kept too, if that is a unit whose file lies in none of the four directories.
+-- Also keeps the cells by which a name was found, if it is a unit whose file is in none of the four
+-- directories.
 abbrev pub with_kept : (kept : List (List ℕ)) → Found × List (List ℕ) → List (List ℕ)
 with_kept kept (Unit real file place, cells) = if is_unit_slot (slot_of file) then kept else kept ++ cells
 with_kept kept (other, cells) = kept
 
--- the cells that are kept for names, in order, behind these
+-- the cells that are kept for names, in order, after these
 abbrev pub kept_behind : (kept : List (List ℕ)) → (names : List (List ℕ)) → Inquiry (List (List ℕ))
 kept_behind kept [] = over kept
 kept_behind kept (name ∷ names) = do
   more ← giving (with_cells (find name)) (with_kept kept)
   kept_behind more names
 
--- the names of units, which are checked before
+-- the names of the units, which are checked first
 abbrev pub checked_named : (units : List (List ℕ)) → Inquiry (Result Named Refusal)
 checked_named units = do
   fine ← checked units
   going_on (λ fine. units_named units) fine
 
--- the links that belong to one of the names go, but those stay by which a file outside the four directories is found
+-- removes the links that belong to one of the names, except those by which a file outside the four
+-- directories is found
 abbrev pub links_cleared : Scope → Named → Command
 links_cleared scope named = do
   kept ← kept_behind [] named.names
   links_removed_but scope kept named
 
--- The first part: the units are checked, and their links go,
+-- The first part: the units are checked, and their links are removed,
 abbrev pub reenable_disables : Reenable → Command
 reenable_disables reenable = do
   named ← checked_named reenable.units
@@ -63,6 +65,6 @@ reenable_disables reenable = do
 abbrev pub reenable_enables : Reenable → Command
 reenable_enables reenable = units_enabled reenable.scope false reenable.units
 
--- What the command asks of a tree, and what effect that has.
+-- What the command looks up in a tree, and what effect it has.
 abbrev pub reenable_meaning : Reenable → Inquiry Effect
 reenable_meaning reenable = followed_by (carried_out (reenable_disables reenable)) (carried_out (reenable_enables reenable))

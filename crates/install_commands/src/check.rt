@@ -1,4 +1,4 @@
-//! The test that units can be installed.
+//! The check that units can be installed.
 ghost use Rattle.std.specs.Prelude.{◌≡◌, IfOk};
 ghost use Rattle.footprint.specs.Edits.{Carries};
 ghost use Rattle.footprint.specs.Inquiry.{Asks};
@@ -9,15 +9,16 @@ use link_tree::{Tree, TreePath};
 use std::alloc::{AllocError, Global};
 use unit_name::UnitName;
 
-/// The test that `enable` and `reenable` begin with: each unit, one after another, is found, and isn't an alias. The first refusal
-/// refuses the whole command: `NotFound`, `Masked`, `Dangling`, or `IsAlias` wherever the alias lies. It changes nothing, but
-/// counts as a command, and systemctl(1) has none that is this alone.
+/// The check with which `enable` and `reenable` begin: each unit, in order, is found and isn't an
+/// alias. The first refusal refuses the whole command: `NotFound`, `Masked`, `Dangling`, or
+/// `IsAlias` wherever the alias is. It changes nothing, but counts as a command; systemctl(1) has
+/// no command that does only this.
 #[derive(Debug, Drop)]
 pub struct Check {
     pub units: Units,
 }
 
-/// A unit that was found is to have this name of its own.
+/// Checks that a unit that was found has this name as its own.
 fn as_itself(
     name: &UnitName,
     unit: Result<(UnitName, TreePath), Refusal>,
@@ -36,7 +37,7 @@ fn as_itself(
     }
 }
 
-/// One unit is found, and is no alias.
+/// Checks that one unit is found, and is no alias.
 fn one_checked(
     alloc: Global,
     tree: &Tree,
@@ -49,7 +50,8 @@ fn one_checked(
     as_itself(name, unit)
 }
 
-/// Each unit is found, and is no alias, up to one that is refused. The outer error is want of memory alone.
+/// Checks that each unit is found, and is no alias, up to the first that is refused. The outer
+/// error means only that memory ran out.
 pub(crate) fn checked(
     alloc: Global,
     tree: &Tree,

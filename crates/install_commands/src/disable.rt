@@ -16,17 +16,18 @@ use load_path::{Cells, Found};
 use std::alloc::{AllocError, Global};
 use unit_name::UnitName;
 
-/// systemctl(1), `disable`: in the scope all links go that belong to the units, whoever made them. The names to which they may belong
-/// are those that are given, the own name of each that is found as a unit, and those of the units that the `Also=` of these names, in
-/// turn. Nothing is refused but `TooMany`, where that would be over 1,024 units. Words of `Also=` that name no unit are skipped,
-/// each with a notice.
+/// systemctl(1), `disable`: removes all links in the scope that belong to the units, no matter what
+/// made them. The names to which links may belong are those that are given, the own name of each
+/// that is found as a unit, and, transitively, those of the units in the `Also=` of these. The only
+/// refusal is `TooMany`, if that would be over 1,024 units. Words of `Also=` that name no unit are
+/// skipped, each with a notice.
 #[derive(Debug, Drop)]
 pub struct Disable {
     pub scope: Scope,
     pub units: Units,
 }
 
-/// The names whose links go, with what is told of skipped words.
+/// The names whose links are removed, with the notices about skipped words.
 #[derive(Debug, Drop)]
 pub(crate) struct Named {
     pub names: Units,
@@ -60,7 +61,7 @@ fn reals(
     Ok(names)
 }
 
-/// Whether what was found is a unit of this name.
+/// Whether what was found is a unit with this name.
 fn is_itself(name: &UnitName, found: &Found) -> bool
     ensures { result ≡ is_itself name.now found.now }
 {
@@ -70,7 +71,7 @@ fn is_itself(name: &UnitName, found: &Found) -> bool
     }
 }
 
-/// Adds a name, if what was found is a unit of this name.
+/// Adds a name, if what was found is a unit with this name.
 fn push_self(names: &mut Units, name: &UnitName, found: &Found) -> Result<(), AllocError>
     ensures { OnOk result (names.new ≡ with_self names.old name.now found.now) }
 {
@@ -80,7 +81,7 @@ fn push_self(names: &mut Units, name: &UnitName, found: &Found) -> Result<(), Al
     Ok(())
 }
 
-/// Those that are found as themselves, in order.
+/// Those that are found under their own names, in order.
 fn selves(
     alloc: Global,
     tree: &Tree,
@@ -107,7 +108,7 @@ fn push_all(names: &mut Units, more: &[UnitName]) -> Result<(), AllocError>
     Ok(())
 }
 
-/// Adds a name, unless it is there.
+/// Adds a name, unless it is there already.
 #[tactic(auto, unfolding(load_path::specs::Search::with_cell))]
 fn note(names: &mut Units, name: &UnitName) -> Result<(), AllocError>
     ensures { OnOk result (names.new ≡ with_cell names.old name.now) }
@@ -118,7 +119,8 @@ fn note(names: &mut Units, name: &UnitName) -> Result<(), AllocError>
     names.push(name.copy()?)
 }
 
-/// Each of the names once, where it is first: a unit that is given by its own name is found and reached under it, too.
+/// Each of the names once, at its first place: a unit that is given by its own name is also found
+/// and reached under it.
 fn each_once(alloc: Global, names: &[UnitName]) -> Result<Units, AllocError>
     ensures { IfOk result (λ once. once ≡ each_once names.now) }
 {
@@ -129,7 +131,7 @@ fn each_once(alloc: Global, names: &[UnitName]) -> Result<Units, AllocError>
     Ok(once)
 }
 
-/// These names with more of them behind, each once.
+/// These names with more of them after them, each once.
 fn joined_once(alloc: Global, mut names: Units, more: &[UnitName]) -> Result<Units, AllocError>
     ensures { IfOk result (λ once. once ≡ each_once (names ++ more.now)) }
 {
@@ -137,7 +139,8 @@ fn joined_once(alloc: Global, mut names: Units, more: &[UnitName]) -> Result<Uni
     each_once(alloc, names.as_slice())
 }
 
-/// The closure of the units that are found as themselves, behind these names. The outer error is want of memory alone.
+/// The closure of the units that are found under their own names, after these names. The outer
+/// error means only that memory ran out.
 fn selves_named(
     alloc: Global,
     tree: &Tree,
@@ -157,7 +160,7 @@ fn selves_named(
     }
 }
 
-/// The names of units whose own names are known.
+/// The names to disable, given the units' own names.
 fn reals_named(
     alloc: Global,
     tree: &Tree,
@@ -174,8 +177,9 @@ fn reals_named(
     selves_named(alloc, tree, names, selves.as_slice(), keys)
 }
 
-/// The names: those that are given, the own names of those that are found as units, and the closure of those of them that are found
-/// as themselves. The outer error is want of memory alone.
+/// The names to disable: those that are given, the own names of those that are found as units, and
+/// the closure of those of them that are found under their own names. The outer error means only
+/// that memory ran out.
 pub(crate) fn units_named(
     alloc: Global,
     tree: &Tree,
@@ -199,7 +203,7 @@ fn marks(alloc: Global, scope: Scope, names: &[UnitName]) -> Result<Keys, AllocE
     Ok(marks)
 }
 
-/// What is wanted, but nothing at these paths: what stands there stays.
+/// Removes these paths from what is wanted: what is there stays as it is.
 fn leave_all(wanted: &mut WantedLinks, kept: &[TreePath])
     ensures { wanted.new ≡ but_at wanted.old kept.now }
 {
@@ -208,7 +212,8 @@ fn leave_all(wanted: &mut WantedLinks, kept: &[TreePath])
     }
 }
 
-/// Of the links of the scope that belong to one of the names none is wanted. Adds the keys by which they are looked up.
+/// Wants the removal of all links of the scope that belong to one of the names. Adds the keys by
+/// which they are looked up.
 fn links_unwanted(
     alloc: Global,
     tree: &Tree,
@@ -223,7 +228,7 @@ fn links_unwanted(
     WantedLinks::cleared(alloc, &links)
 }
 
-/// The same, but nothing is wanted at the paths that are kept.
+/// The same, but without the paths that are kept.
 fn links_unwanted_but(
     alloc: Global,
     tree: &Tree,
@@ -255,7 +260,7 @@ pub(crate) fn links_removed_but<'a>(
     placed(alloc, edit, &wanted, named.notices, keys)
 }
 
-/// All links of the scope that belong to one of the names go, unless there was a refusal.
+/// Removes all links of the scope that belong to one of the names, unless there was a refusal.
 pub(crate) fn links_removed<'a>(
     alloc: Global,
     edit: Edit<'a>,

@@ -19,19 +19,23 @@ use load_path::Cells;
 use std::alloc::{AllocError, Global};
 use unit_name::UnitName;
 
-/// systemctl(1), `enable`: in the scope the links are made that the [Install] sections of the units ask for, and of those that their
-/// `Also=` names, in turn. Each unit is found and is no alias, or the command is refused by `NotFound`, `Masked`, `Dangling` or
-/// `IsAlias`. Then, in this order, `TooMany` stands where there are over 1,024 units in all, `NeedsInstance` for the least template
-/// that is to be linked under a unit that is none and has no default instance, `Clash` for the least path that is wanted with two
-/// targets, and `Exists` for the least path at which something else stands. A link that leads to the same path stays. Words that
-/// name no link or unit are skipped, each with a notice.
+/// systemctl(1), `enable`: makes the links in the scope that are asked for by the [Install]
+/// sections of the units and, transitively, of the units in their `Also=`. If a unit isn't found or
+/// is an alias, the command is refused with `NotFound`, `Masked`, `Dangling` or `IsAlias`. The
+/// further refusals are, in this order: `TooMany` if there are over 1,024 units in all,
+/// `NeedsInstance` for the least template without a default instance that would be linked under a
+/// unit that is no template, `Clash` for the least path at which links with different targets are
+/// wanted, and `Exists` for the least path at which there is already something else. A link that
+/// already leads to the same path is kept. Words that name no link or unit are skipped, each with a
+/// notice.
 #[derive(Debug, Drop)]
 pub struct Enable {
     pub scope: Scope,
     pub units: Units,
 }
 
-/// The units that are enabled and disabled together, or `TooMany`. The outer error is want of memory alone.
+/// The units that are enabled and disabled together, or `TooMany`. The outer error means only that
+/// memory ran out.
 pub(crate) fn closed(
     alloc: Global,
     tree: &Tree,
@@ -49,7 +53,8 @@ pub(crate) fn closed(
     }
 }
 
-/// The links that units want, or what is wrong with them. The paths that are looked at are added to the keys.
+/// The links that units want, or what is wrong with them. The paths that are looked at are added to
+/// the keys.
 fn wanted_asked(
     alloc: Global,
     tree: &Tree,
@@ -66,7 +71,7 @@ fn wanted_asked(
     Ok(wanted)
 }
 
-/// What is wanted, with these notices first, or the refusal.
+/// The wanted links, with these notices put first, or the refusal.
 fn unless_at_odds(
     mut notices: Notices,
     wanted: Result<Wanted, WantedFault>,
@@ -84,7 +89,8 @@ fn unless_at_odds(
     }
 }
 
-/// The links that the units of a closure want, or why not; with `skip` a word that would need an instance asks for nothing.
+/// The links that the units of a closure want, or why there are none; with `skip` a word that would
+/// need an instance asks for nothing.
 fn closed_want(
     alloc: Global,
     tree: &Tree,
@@ -99,8 +105,8 @@ fn closed_want(
     unless_at_odds(closed.notices, wanted)
 }
 
-/// The links that units want, and those that they name; with `skip` a word that would need an instance asks for nothing. The outer
-/// error is want of memory alone.
+/// The links wanted by units and by the units that they name; with `skip` a word that would need an
+/// instance asks for nothing. The outer error means only that memory ran out.
 fn units_want(
     alloc: Global,
     tree: &Tree,
@@ -117,7 +123,8 @@ fn units_want(
     }
 }
 
-/// The links that units want, which are checked before: each is found, and is no alias. The outer error is want of memory alone.
+/// The links that units want. First checks that each unit is found and is no alias. The outer error
+/// means only that memory ran out.
 fn checked_want(
     alloc: Global,
     tree: &Tree,
@@ -134,7 +141,7 @@ fn checked_want(
     }
 }
 
-/// A link is to stand at each of the paths.
+/// Wants a link at each of the paths.
 fn to_stand(alloc: Global, links: &Links) -> Result<WantedLinks, AllocError>
     ensures { IfOk result (λ wanted. wanted ≡ to_stand links.now) }
 {
@@ -145,7 +152,7 @@ fn to_stand(alloc: Global, links: &Links) -> Result<WantedLinks, AllocError>
     Ok(wanted)
 }
 
-/// All that is wanted is placed at once, and these notices are told.
+/// Places all wanted links at once, and returns these notices.
 pub(crate) fn placed<'a>(
     alloc: Global,
     edit: Edit<'a>,
@@ -159,7 +166,7 @@ pub(crate) fn placed<'a>(
     Ok((notices, done))
 }
 
-/// The links that are wanted are made, all at once, unless there was a refusal.
+/// Makes the wanted links, all at once, unless there was a refusal.
 fn made<'a>(
     alloc: Global,
     edit: Edit<'a>,
@@ -177,8 +184,8 @@ fn made<'a>(
     }
 }
 
-/// Units are checked, and enabled, and those that they name; with `skip` a word that would need an instance asks for nothing. The
-/// error is want of memory alone.
+/// Checks units, and enables them and those that they name; with `skip` a word that would need an
+/// instance asks for nothing. The only error is that memory ran out.
 pub(crate) fn units_enabled<'a>(
     alloc: Global,
     edit: Edit<'a>,

@@ -1,4 +1,4 @@
-//! Units that are enabled after another command, as part of one.
+//! Enabling units after another command, as part of one command.
 ghost use Rattle.std.specs.Prelude.{IfOk};
 ghost use Rattle.install_commands.specs.Enable as enabling;
 ghost use Rattle.install_commands.specs.Following.{CarriesAfter};
@@ -9,8 +9,9 @@ use link_tree::Scope;
 use std::alloc::{AllocError, Global};
 use unit_name::UnitName;
 
-/// Units are enabled in the tree that an earlier command left, and what that told is told too; nothing follows where it was refused.
-/// With `skip` a word that would need an instance asks for nothing. The error is want of memory alone.
+/// Enables units in the tree that an earlier command left, and also returns that command's notices;
+/// if that command was refused, nothing is enabled. With `skip` a word that would need an instance
+/// asks for nothing. The only error is that memory ran out.
 pub(crate) fn then_enabled<'a>(
     alloc: Global,
     earlier: (Notices, Result<Edit<'a>, Refusal>),

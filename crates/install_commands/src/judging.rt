@@ -1,4 +1,4 @@
-//! What the preset files say of units.
+//! What the preset files say about units.
 ghost use Rattle.std.specs.Prelude.{◌≡◌, ◌≢◌, Some, IfOk};
 ghost use Rattle.std.specs.Option.{option_copied};
 ghost use Rattle.unit_name.specs.Name.{instance_of};
@@ -14,8 +14,8 @@ use std::alloc::{AllocError, Global};
 use unit_file::{Notice, NoticeKey, Reason, Word};
 use unit_name::{Kind, UnitName};
 
-/// Which units a preset disables and which it enables, with notices of instances that no unit can
-/// have.
+/// Which units a preset disables and which it enables, with notices about instances that no unit
+/// can have.
 #[derive(Debug, Drop)]
 pub(crate) struct Judged {
     pub disabled: Units,
@@ -23,7 +23,7 @@ pub(crate) struct Judged {
     pub notices: Notices,
 }
 
-/// The notice of an instance that is listed for a template, and makes no name of a unit.
+/// The notice about an instance that is listed for a template but doesn't give a valid unit name.
 fn bad_instance(template: &UnitName, instance: &Word) -> Result<Notice, AllocError>
     ensures { IfOk result (λ notice. notice ≡ presets.bad_instance template.now instance.now) }
 {
@@ -47,7 +47,7 @@ impl Judged {
         }
     }
 
-    /// A unit more is to be disabled.
+    /// Adds a unit that will be disabled.
     fn with_disabled(self, unit: &UnitName) -> Result<Judged, AllocError>
         ensures { IfOk result (λ judged. judged ≡ presets.with_disabled unit.now self) }
     {
@@ -56,7 +56,7 @@ impl Judged {
         Ok(judged)
     }
 
-    /// A unit more is to be enabled.
+    /// Adds a unit that will be enabled.
     fn with_one(self, unit: UnitName) -> Result<Judged, AllocError>
         ensures { IfOk result (λ judged. judged ≡ presets.with_one unit self) }
     {
@@ -65,7 +65,8 @@ impl Judged {
         Ok(judged)
     }
 
-    /// A template with a listed instance is to be enabled, if that is a name.
+    /// Adds the template with a listed instance to the units that will be enabled, if that is a
+    /// valid name.
     fn with_listed(
         self,
         template: &UnitName,
@@ -84,7 +85,7 @@ impl Judged {
         }
     }
 
-    /// A template with each of the listed instances is to be enabled.
+    /// Adds the template with each of the listed instances to the units that will be enabled.
     fn with_all_listed(
         self,
         alloc: Global,
@@ -102,8 +103,8 @@ impl Judged {
         Ok(judged)
     }
 
-    /// With a unit that is enabled; if there are instances, each of them is enabled instead of a
-    /// template.
+    /// Adds a unit that is enabled; if instances are listed for a template, each of them is enabled
+    /// instead of it.
     fn with_enabled(
         self,
         alloc: Global,
@@ -121,7 +122,8 @@ impl Judged {
         }
     }
 
-    /// With a unit that is enabled, disabled or left as it is, by what the rules say of it.
+    /// Adds a unit that is enabled, disabled or left as it is, depending on what the rules say
+    /// about it.
     fn with_unit(
         self,
         alloc: Global,
@@ -137,7 +139,7 @@ impl Judged {
         }
     }
 
-    /// What the rules say of each of the units, in order.
+    /// What the rules say about each of the units, in order.
     pub fn by(alloc: Global, rules: &Rules, units: &[UnitName]) -> Result<Judged, AllocError>
         ensures { IfOk result (λ judged. judged ≡ judged_by rules.now units.now none_judged) }
     {

@@ -1,4 +1,4 @@
-//! Commands that install units and take that back: systemctl(1), "Unit File Commands".
+//! Commands that install units and undo that: systemctl(1), "Unit File Commands".
 #![tactic(auto)]
 
 mod check;

@@ -18,12 +18,14 @@ use preset_rules::Rules;
 use std::alloc::{AllocError, Global};
 use unit_name::UnitName;
 
-/// systemctl(1), `preset`: units are enabled or disabled as the preset files say (systemd.preset(5)), all or nothing: first `disable` of
-/// those that are to be disabled, and then `enable` of the others. Each unit is found, or the command is refused by `NotFound`,
-/// `Masked` or `Dangling`. An alias is passed over, and so is a unit whose [Install] section names no unit and asks for no link. What
-/// the preset files and sections say is read before anything changes. A template for which a preset file lists instances is enabled
-/// with these in its place; an instance that makes no unit's name is skipped with a notice. A word of a section that would need an instance is
-/// skipped without one. `enable` may refuse the rest, and then nothing is changed.
+/// systemctl(1), `preset`: enables or disables units as the preset files say (systemd.preset(5)),
+/// all or nothing: first it runs `disable` for the units to disable, and then `enable` for the
+/// others. If a unit isn't found, the command is refused with `NotFound`, `Masked` or `Dangling`.
+/// An alias is skipped, and so is a unit whose [Install] section names no unit and asks for no
+/// link. The preset files and sections are read before anything changes. If a preset file lists
+/// instances for a template, these are enabled instead of it; an instance that doesn't give a valid
+/// unit name is skipped with a notice. A word of a section that would need an instance is skipped
+/// without a notice. If `enable` is refused, nothing is changed.
 #[derive(Debug, Drop)]
 pub struct Preset {
     pub scope: Scope,
@@ -59,7 +61,7 @@ fn found_counts(
     Ok(false)
 }
 
-/// Whether a unit is one that presets are for. The outer error is want of memory alone.
+/// Whether presets apply to a unit. The outer error means only that memory ran out.
 fn counts(
     alloc: Global,
     tree: &Tree,
@@ -84,7 +86,8 @@ fn push_counting(units: &mut Units, unit: &UnitName, counts: bool) -> Result<(),
     Ok(())
 }
 
-/// Those of the units that presets are for, in order, up to one that isn't found. The outer error is want of memory alone.
+/// Those of the units to which presets apply, in order, up to one that isn't found. The outer error
+/// means only that memory ran out.
 fn counting(
     alloc: Global,
     tree: &Tree,
@@ -103,7 +106,7 @@ fn counting(
     Ok(Ok(names))
 }
 
-/// Which of the units are to be disabled and which enabled, by the preset files of the tree.
+/// Which of the units the preset files of the tree say to disable, and which to enable.
 fn judged(
     alloc: Global,
     tree: &Tree,
@@ -119,7 +122,7 @@ fn judged(
     Judged::by(alloc, &rules, units)
 }
 
-/// With these notices too.
+/// Adds these notices.
 fn telling_too(notices: Notices, named: Named) -> Result<Named, AllocError>
     ensures { IfOk result (λ told. told ≡ telling_too notices named) }
 {
@@ -131,7 +134,8 @@ fn telling_too(notices: Notices, named: Named) -> Result<Named, AllocError>
     })
 }
 
-/// The names of those that are to be disabled, with what the verdicts tell too. The outer error is want of memory alone.
+/// The names of the units to disable, with the notices of the verdicts too. The outer error means
+/// only that memory ran out.
 fn judged_named(
     alloc: Global,
     tree: &Tree,
@@ -148,7 +152,8 @@ fn judged_named(
 }
 
 impl Preset {
-    /// Which units are to be disabled and which enabled, in the tree in which the preset begins. The outer error is want of memory alone.
+    /// Which units to disable and which to enable, in the tree in which the preset begins. The
+    /// outer error means only that memory ran out.
     fn judges(
         &self,
         alloc: Global,
@@ -164,7 +169,7 @@ impl Preset {
     }
 }
 
-/// Units are disabled, which tells of instances too.
+/// Disables units, and returns the notices about instances too.
 fn disabled_telling<'a>(
     alloc: Global,
     tree: &'a Tree,
@@ -180,7 +185,7 @@ fn disabled_telling<'a>(
     links_removed(alloc, edit, scope, named, keys)
 }
 
-/// Units are disabled, and then others enabled, by what the preset files say.
+/// Disables units, and then enables others, as the preset files say.
 fn carried_through<'a>(
     alloc: Global,
     tree: &'a Tree,

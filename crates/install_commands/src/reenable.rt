@@ -17,11 +17,12 @@ use load_path::{Cells, Found, find_into};
 use std::alloc::{AllocError, Global};
 use unit_name::UnitName;
 
-/// systemctl(1), `reenable`: `disable` and then `enable`, all or nothing, so that the links of the units are again those that their [Install]
-/// sections ask for. Each unit is found and is no alias, or the command is refused as `enable` is, before anything is removed. The link
-/// by which a unit is found stays where its file lies outside the directories of units, since without it there would be nothing to
-/// enable. `enable` finds and refuses what it does on the tree that is left by the removal, and then nothing is changed. Notices are
-/// those of both.
+/// systemctl(1), `reenable`: `disable` and then `enable`, all or nothing, so that the links of the
+/// units are again those that their [Install] sections ask for. If a unit isn't found or is an
+/// alias, the command is refused as `enable` is, before anything is removed. If a unit's file is
+/// outside the unit directories, the link by which the unit is found is kept, since without it
+/// there would be nothing to enable. `enable` works on the tree that is left after the removal; if
+/// it is refused there, nothing is changed. The notices are those of both.
 #[derive(Debug, Drop)]
 pub struct Reenable {
     pub scope: Scope,
@@ -38,7 +39,8 @@ fn keep_all(kept: &mut Cells, cells: &[TreePath]) -> Result<(), AllocError>
     Ok(())
 }
 
-/// Keeps the cells by which a name was found, if that is a unit whose file lies outside the directories of units.
+/// Keeps the cells by which a name was found, if it is a unit whose file is outside the unit
+/// directories.
 fn keep(kept: &mut Cells, found: &Found, cells: &[TreePath]) -> Result<(), AllocError>
     ensures { OnOk result (kept.new ≡ with_kept kept.old (found.now, cells.now)) }
 {
@@ -53,7 +55,7 @@ fn keep(kept: &mut Cells, found: &Found, cells: &[TreePath]) -> Result<(), Alloc
     }
 }
 
-/// Looks a name up, and keeps what is to be kept for it.
+/// Looks a name up, and keeps the cells that must be kept for it.
 fn keep_for(
     alloc: Global,
     tree: &Tree,
@@ -69,7 +71,7 @@ fn keep_for(
     keys.push_cells(cells)
 }
 
-/// The cells that are kept for names, in order.
+/// The cells that are kept for the names, in order.
 fn kept_for(
     alloc: Global,
     tree: &Tree,
@@ -85,7 +87,7 @@ fn kept_for(
     Ok(kept)
 }
 
-/// The names of units, which are checked before. The outer error is want of memory alone.
+/// The names of the units, which are checked first. The outer error means only that memory ran out.
 fn checked_named(
     alloc: Global,
     tree: &Tree,
@@ -100,7 +102,8 @@ fn checked_named(
     }
 }
 
-/// The links that belong to one of the names go, but those stay by which a file outside the directories of units is found.
+/// Removes the links that belong to one of the names, except those by which a file outside the unit
+/// directories is found.
 fn links_cleared<'a>(
     alloc: Global,
     edit: Edit<'a>,
@@ -120,7 +123,7 @@ fn links_cleared<'a>(
 }
 
 impl Reenable {
-    /// The first part: the units are checked, and their links go.
+    /// The first part: checks the units and removes their links.
     fn disabled<'a>(
         &self,
         alloc: Global,

@@ -27,13 +27,13 @@ use Rattle.install_section.specs.Wishes.{wish, words_for, notice_key}
 use Rattle.install_section.specs.Wanted.{least_with, with_link, with_nameless, with_wish, with_words, with_list, with_section, all_wants, no_wants}
 use Rattle.install_section.proofs.Least.{IsTold, some_is, still_told, now_told, is_first, is_later, first_or_later, none_of, own_line}
 
--- What is asked for: a link, an instance, or that a word is told of.
+-- What can be asked for: a link, an instance, or a notice about a word.
 pub data Asked : Type 0 where
   AsksLink : (path file : List ℕ) → Asked
   AsksInstance : (unit : List ℕ) → Asked
   AsksNotice : (notice : Notice) → Asked
 
--- the least text of which something holds, or none
+-- the least text with a property, or none
 abbrev pub LeastOf : (P : List ℕ → Type 0) → Option (List ℕ) → Type 0
 LeastOf P None = (text : List ℕ) → P text → ⊥
 LeastOf P (Some least) = P least × ((text : List ℕ) → P text → is_le (path_cmp least text) ≡ true)
@@ -66,7 +66,7 @@ le_through x y z less le = by_second (path_cmp y z) refl le
     by_second Equal is le = ap is_le (subst (λ z. path_cmp x z ≡ Less) (exact_bytes y z is) less)
     by_second Greater is le = absurd (false≢true le)
 
--- one text more
+-- one more text
 least_more : (P Q : List ℕ → Type 0) (o : Option (List ℕ)) (text : List ℕ) → Q text → ((x : List ℕ) → P x → Q x) → ((x : List ℕ) → Q x → P x ⊎ (x ≡ text)) → LeastOf P o → LeastOf Q (least_with o text)
 least_more P Q None text here there back h = (here, λ x q. elim (back x q) [ inl p ↦ absurd (h x p) | inr is ↦ subst (λ x. is_le (path_cmp text x) ≡ true) (sym is) (le_itself text) ])
 least_more P Q (Some least) text here there back h =
@@ -87,11 +87,11 @@ least_more P Q (Some least) text here there back h =
       ))
     ] refl
 
--- two targets are asked for at a path
+-- links with two targets are asked for at a path
 abbrev pub TwoAt : (P : Asked → Type 0) → List ℕ → Type 0
 TwoAt P path = (one other : List ℕ) × (one ≢ other) × P (AsksLink path one) × P (AsksLink path other)
 
--- What was asked for so far stands in the wants.
+-- What was asked for so far is in the wants.
 pub record Stands (P : Asked → Type 0) (w : Wants) : Type 0 where
   pub only : (path file : List ℕ) → map.get w.links path ≡ Some file → P (AsksLink path file)
   pub there : (path file : List ℕ) → P (AsksLink path file) → (other : List ℕ) × (map.get w.links path ≡ Some other)
@@ -163,7 +163,7 @@ module _ (P : Asked → Type 0) (w : Wants) (s : Stands P w) where
       back a (inl p) = p
       back a (inr is) = subst P (sym is) (s.only path file at)
 
-  -- a link at a path where one to another file is wanted
+  -- a link at a path where a link to another file is wanted
   other_link : (path file other : List ℕ) → map.get w.links path ≡ Some other → (other ≢ file) → Stands (With P (AsksLink path file)) (record w { clash = least_with w.clash path })
   other_link path file other at apart = record {
     only = λ p f at. inl (s.only p f at);
@@ -219,7 +219,7 @@ module _ (P : Asked → Type 0) (w : Wants) (s : Stands P w) where
     ];
   }
 
--- what a word's wish asks for
+-- what the wish of a word asks for
 abbrev pub WishAsks : (skip : Bool) → (unit file : List ℕ) → LinkKey → (word : List ℕ) → Wish → Asked → Type 0
 WishAsks skip unit file key word (Link path) a = a ≡ AsksLink path file
 WishAsks skip unit file key word (Skip reason) a = a ≡ AsksNotice (skipped unit (notice_key key) word reason)
@@ -357,7 +357,7 @@ module _ (place : Place) (skip : Bool) where
       only_told = λ line notice at. let never : None ≡ Some notice = sym (map.get-empty line_cmp line) ∙ at in absurd (cc);
     }
 
-    -- all that the units ask for stands in what they want
+    -- everything that the units ask for is in what they want
     pub all_stand : (units : List (List ℕ)) → Stands (UnitsAsk units) ((all_wants place skip units no_wants).conclusion t)
     all_stand units = stands_as (Or (λ a. ⊥) (UnitsAsk units)) (UnitsAsk units) ((all_wants place skip units no_wants).conclusion t) (λ a q. elim q [ inl never ↦ absurd never | inr asks ↦ asks ]) (λ a asks. inr asks)
         (units_stand (λ a. ⊥) units no_wants none_stand)

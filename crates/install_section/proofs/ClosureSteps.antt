@@ -27,12 +27,12 @@ module _ (t : Entries) (before : List (List ℕ)) (whole : Search (Result Closed
         → Finds t (with_unit unit closed) seen after grown → Goes t after (unless_too_many (closed_from (more - 1) (place + 1)) grown) before whole
     past_a_unit unit after grown is found = searched t before whole seen after (with_unit unit closed) (unless_too_many (closed_from (more - 1) (place + 1))) grown (at_unit (Some unit) is) found
 
-    -- they are too many
+    -- there are too many
     pub past_too_many : (unit : List ℕ) (after : List (List ℕ)) (fault : ClosureFault) → Some unit ≡ slice_get closed.units place
         → Finds t (with_unit unit closed) seen after (Err fault) → Finds t whole before after (Err fault)
     past_too_many unit after fault is found = finished t before whole after (Err fault) (past_a_unit unit after (Err fault) is found)
 
-  -- as many units as there may be have been looked at
+  -- the greatest allowed number of units has been looked at
   pub past_all : more ≡ 0 → Goes t seen (closed_from more place closed) before whole → Finds t whole before seen (Ok closed)
   unfolding closed_from
   past_all none h = finished t before whole seen (Ok closed) (rw none at h)

@@ -37,7 +37,7 @@ use Rattle.install_section.specs.Closure.{why_not, joined, and_then, all_joined,
 use Rattle.install_section.specs.ClosureLaws.{IsUnit, Names, IsNone, IsSkipped, Reached, ClosureIsLeast, RefusedWhereTooMany, NoticesAreOfSkippedWords, ComeToSame, AnyOrder}
 use Rattle.install_section.specs.ClosureLaws.Reached.{Given, Named}
 
--- a name is a unit's exactly where there is no reason why not
+-- a name is a unit's exactly if there is no reason why it isn't
 itself : (name : List ℕ) (found : Found) → why_not name found ≡ None → (file : List ℕ) × (place : Place) × (found ≡ Unit name file place)
 itself name Missing h = absurd (cc)
 itself name (Masked place) h = absurd (cc)
@@ -69,7 +69,7 @@ is_first y ys x is = (0, omega arith, sym is)
 pub is_later : {X : Type 0} (y : X) (ys : List X) (x : X) → Contains ys x → Contains (y ∷ ys) x
 is_later y ys x h = let lt = h.1 in (suc h.0, omega arith, h.2)
 
--- Whether a line is told.
+-- Whether a line is in the notices.
 abbrev pub IsTold : NoticeMap → List ℕ → Type 0
 IsTold notices line = is_some (map.get notices line) ≡ true
 
@@ -86,7 +86,7 @@ pub now_told : (notices : NoticeMap) (notice : Notice) → IsTold (with_notice n
 now_told notices notice = ap is_some (map.get-insert nat_list_cmp_total notices (notice_line notice) notice (notice_line notice) ∙ ap (λ b. cond b (Some notice) (map.get notices (notice_line notice))) (own_line (notice_line notice)))
 
 module _ (In : List ℕ → Type 0) (Told : Notice → Type 0) where
-  -- all that is told of is such a notice, at its line
+  -- every notice is one of these, at its own line
   abbrev OnlyTold : NoticeMap → Type 0
   OnlyTold notices = (line : List ℕ) (notice : Notice) → map.get notices line ≡ Some notice → Told notice × (line ≡ notice_line notice)
 
@@ -98,14 +98,16 @@ module _ (In : List ℕ → Type 0) (Told : Notice → Type 0) where
     | inr away ↦ only line other (sym (map.get-insert nat_list_cmp_total notices (notice_line notice) notice line ∙ ap (λ b. cond b (Some notice) (map.get notices line)) away) ∙ there)
   ]
 
-  -- what holds before: the units are of the set, each once, not too many, and the notices too
+  -- what is true before: the units are in the set, each once, not too many, and the notices are
+  -- valid, too
   record Holds (closed : Closed) : Type 0 where
     all_in : All In closed.units
     once : IsDistinct bytes_eq closed.units
     within : length closed.units ≤ 1024
     only : OnlyTold closed.notices
 
-  -- More units and notices than before: those that join and those of the skipped, all of which are there.
+  -- More units and notices than before: the result has the units that join and the notices about
+  -- skipped words.
   record Grown (Joins : List ℕ → Type 0) (Skips : Notice → Type 0) (closed more : Closed) : Type 0 where
     kept : (extra : List (List ℕ)) × (more.units ≡ closed.units ++ extra)
     still : (line : List ℕ) → IsTold closed.notices line → IsTold more.notices line
@@ -113,11 +115,11 @@ module _ (In : List ℕ → Type 0) (Told : Notice → Type 0) where
     skips : (notice : Notice) → Skips notice → IsTold more.notices (notice_line notice)
     holds : Holds more
 
-  -- over 1,024 of the set
+  -- over 1,024 different names in the set
   abbrev TooManyIn : Type 0
   TooManyIn = (names : List (List ℕ)) × IsDistinct bytes_eq names × (length names ≡ 1025) × All In names
 
-  -- what a step comes to, by what joins and what is skipped: more, or too many
+  -- the result of a step, by what joins and what is skipped: more units, or too many
   abbrev Comes : (Joins : List ℕ → Type 0) (Skips : Notice → Type 0) (closed : Closed) → Result Closed ClosureFault → Type 0
   Comes Joins Skips closed (Ok more) = Grown Joins Skips closed more
   Comes Joins Skips closed (Err TooMany) = TooManyIn
@@ -135,7 +137,7 @@ module _ (In : List ℕ → Type 0) (Told : Notice → Type 0) where
     holds = holds;
   }
 
-  -- first a step, and then another
+  -- first one step, and then another
   then_grown : (J K Both : List ℕ → Type 0) (S T AlsoBoth : Notice → Type 0) (closed mid more : Closed) → Grown J S closed mid → Grown K T mid more
       → ((name : List ℕ) → Both name → J name ⊎ K name) → ((notice : Notice) → AlsoBoth notice → S notice ⊎ T notice) → Grown Both AlsoBoth closed more
   then_grown J K Both S T AlsoBoth closed mid more f s by_name by_notice = record {
@@ -158,7 +160,7 @@ module _ (In : List ℕ → Type 0) (Told : Notice → Type 0) where
   then_comes t J K Both S T AlsoBoth closed (Ok mid) next f s by_name by_notice = then_more J K Both S T AlsoBoth closed mid ((next mid).conclusion t) f (s mid f.holds) by_name by_notice
   then_comes t J K Both S T AlsoBoth closed (Err TooMany) next f s by_name by_notice = f
 
-  -- the same set in other words
+  -- the same for equal sets
   comes_as : (J K : List ℕ → Type 0) (S T : Notice → Type 0) (closed : Closed) (r : Result Closed ClosureFault) → ((name : List ℕ) → K name → J name) → ((notice : Notice) → T notice → S notice)
       → Comes J S closed r → Comes K T closed r
   comes_as J K S T closed (Ok more) names notices g = record { kept = g.kept; still = g.still; joins = λ name k. g.joins name (names name k); skips = λ notice k. g.skips notice (notices notice k); holds = g.holds }
@@ -213,7 +215,7 @@ module _ (In : List ℕ → Type 0) (Told : Notice → Type 0) where
       }
 
   module _ (t : Entries) (unit identity : List ℕ) where
-    -- what a word joins, and how it is skipped
+    -- what a word adds, and how it is skipped
     abbrev WordJoins : (word : List ℕ) → List ℕ → Type 0
     WordJoins word name = (named_by identity word ≡ Ok name) × IsUnit t name
 
@@ -296,12 +298,13 @@ module _ (In : List ℕ → Type 0) (Told : Notice → Type 0) where
     unfolding with_unit
     with_unit_comes unit closed in_set holds = section_comes unit closed ((section_of unit).conclusion t) in_set holds refl
 
-    -- what holds of each unit up to a place: what it names is there, and its skipped words are told of
+    -- what is true of each unit up to a position: what it names is there, and its skipped words are
+    -- reported
     record DoneTo (closed : Closed) (place : ℕ) : Type 0 where
       names : (k : ℕ) (unit name : List ℕ) → k < place → k < length closed.units → get_or closed.units k unit ≡ unit → Names t unit name → Contains closed.units name
       skips : (k : ℕ) (unit : List ℕ) (notice : Notice) → k < place → k < length closed.units → get_or closed.units k unit ≡ unit → IsSkipped t unit notice → IsTold closed.notices (notice_line notice)
 
-    -- the whole is done
+    -- all units are done
     record Done (closed result : Closed) : Type 0 where
       kept : (extra : List (List ℕ)) × (result.units ≡ closed.units ++ extra)
       names : (unit name : List ℕ) → Contains result.units unit → Names t unit name → Contains result.units name
@@ -320,7 +323,7 @@ module _ (In : List ℕ → Type 0) (Told : Notice → Type 0) where
       holds = holds;
     }
 
-    -- one unit more is done
+    -- one more unit is done
     done_more : (closed more : Closed) (place : ℕ) (unit : List ℕ) → place < length closed.units → get_or closed.units place unit ≡ unit → Grown (Names t unit) (IsSkipped t unit) closed more → DoneTo closed place → DoneTo more (place + 1)
     done_more closed more place unit inside is grown to = record {
       names = λ k other name before long at names. elim (cases_Bool (nat_lt k place)) [
@@ -358,7 +361,7 @@ module _ (In : List ℕ → Type 0) (Told : Notice → Type 0) where
     }
     then_done closed mid (Err TooMany) kept done = done
 
-    -- to the end
+    -- up to the end
     ends : (more place : ℕ) (closed : Closed) → more + place ≡ 1024 → Holds closed → DoneTo closed place → Ends closed ((closed_from more place closed).conclusion t)
     unfolding closed_from
     ends zero place closed sum holds to = let within = holds.within in done_here closed place (omega arith) holds to
@@ -402,7 +405,7 @@ none_distinct = tt
 abbrev Tells : Entries → List (List ℕ) → Notice → Type 0
 Tells t given notice = (unit : List ℕ) × Reached t given unit × IsSkipped t unit notice
 
--- what a closure comes to
+-- the result of a closure
 record Whole (t : Entries) (given : List (List ℕ)) (result : Closed) : Type 0 where
   pub given_in : (name : List ℕ) → Contains given name → Contains result.units name
   pub names : (unit name : List ℕ) → Contains result.units unit → Names t unit name → Contains result.units name
@@ -482,7 +485,7 @@ tells_of_skipped = λ given t closed is.
       only = λ line notice there. let told = w.only line notice there in ((told.0.0, all_reached t given closed w told.0.0 told.0.1, told.0.2), told.1);
     }
 
--- more than 1,024 different names aren't all among 1,024
+-- more than 1,024 different names can't all be among 1,024
 too_many_for : (names units : List (List ℕ)) → IsDistinct bytes_eq names → length names ≡ 1025 → length units ≤ 1024 → ((name : List ℕ) → Contains names name → Contains units name) → ⊥
 too_many_for names units once many few all =
     let le = length-le_from_is_member nat_list_eq_equiv names units once (λ name here. list_any-from_Contains nat_list_eq_equiv name units (all name (Contains-from_any same_bytes name names here))) in

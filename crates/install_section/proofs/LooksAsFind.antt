@@ -1,4 +1,4 @@
--- A unit's file is one of the paths at which looking it up looks.
+-- A unit's file is one of the paths at which looking the unit up looks.
 use Rattle.std.proofs.Common.{◌≡◌, ℕ, List, ◌++◌, Contains, refl, subst, inl, inr}
 use Rattle.std.proofs.lemmas.List.{append-nil}
 use Rattle.std.proofs.lemmas.List.Elements.{Contains-append_left, Contains-push_cases}

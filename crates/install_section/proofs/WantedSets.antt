@@ -1,4 +1,4 @@
--- The wanted links are those for which units ask by the rules.
+-- The wanted links are those that units ask for by the rules.
 use Rattle.std.proofs.Common.{◌≡◌, ◌≢◌, ℕ, Bool, true, false, cond, List, Option, Some, None, Result, Ok, Err, is_some, Contains, refl, sym, ap, subst, ◌∙◌, inl, inr, ◌⊎◌}
 use Rattle.std.specs.FinMap as map
 use Rattle.std.specs.Cmp.Lexicographic.{nat_list_eq_equiv, nat_list_cmp_total}
@@ -40,7 +40,7 @@ use Rattle.install_section.specs.WantedLaws.{key_of, IsListed, HasInstanceListed
 use Rattle.install_section.proofs.Asked.{LeastOf, TwoAt, Stands, WishAsks, UnitAsks, UnitsAsk, all_stand}
 use Rattle.install_section.proofs.Asked.Asked.{AsksLink, AsksInstance, AsksNotice}
 
--- what a wish is that asks for a link, for an instance, or for a notice
+-- which wish asks for a link, for an instance, or for a notice
 link_wish : (skip : Bool) (unit file : List ℕ) (key : LinkKey) (word : List ℕ) (its : Wish) (path f : List ℕ) → WishAsks skip unit file key word its (AsksLink path f) → (its ≡ Link path) × (f ≡ file)
 link_wish skip unit file key word (Link p) path f asks = let at : path ≡ p = cc in let same : f ≡ file = cc in (ap (λ p. Link p) (sym at), same)
 link_wish skip unit file key word (Skip reason) path f asks = absurd (cc)
@@ -104,7 +104,7 @@ none_listed : (by unit identity : List ℕ) → stands_for_instance by unit ≡ 
 unfolding listed_name
 none_listed by unit identity is other = rw is (no_instance (kind_of (instance_of identity)) identity other)
 
--- what a word of a list by others asks for
+-- what a word of a list of other units asks for
 listing_link : (place : Place) (dependency : Dependency) (unit identity : List ℕ) (named : Result (List ℕ) Reason) (path : List ℕ) → listing place dependency unit identity named ≡ Link path
     → (by name : List ℕ) × (named ≡ Ok by) × (listed_name by unit identity ≡ Some name) × (path ≡ dependency_slot place dependency by name)
 listing_link place dependency unit identity (Err reason) path h = absurd (cc)
@@ -184,7 +184,7 @@ module _ (place : Place) (skip : Bool) (t : Entries) (unit : List ℕ) where
       let its = link_wish skip unit section.file key word (wish place key unit (identity_in unit section) word) path file asks.2.1.2 in
       ruled_by section asks.1 word path file its.1 key asks.2.1.1 its.0
 
-  -- a wish of a word
+  -- the wish of a word
   module _ (section : Section) (is : (section_of unit).conclusion t ≡ Some section) (key : LinkKey) (word : List ℕ) (here : Contains (words_for key section.text) word) where
     asks_link : (path file : List ℕ) → file ≡ section.file → wish place key unit (identity_in unit section) word ≡ Link path → UnitAsks place skip t unit (AsksLink path file)
     asks_link path file at its =
@@ -300,7 +300,7 @@ module _ (units : List (List ℕ)) (place : Place) (skip : Bool) (t : Entries) w
   no_clash None h is path two = h path (asked_two path two)
   no_clash (Some least) h is path two = cc
 
--- by what a verdict says
+-- what follows from the final result
 ok_settled : (w : Wants) (given : Wanted) (nameless clash : Option (List ℕ)) → settled w nameless clash ≡ Ok given → (nameless ≡ None) × (clash ≡ None) × (given ≡ record { links = w.links; notices = w.notices })
 ok_settled w given (Some unit) clash h = absurd (cc)
 ok_settled w given None (Some path) h = absurd (cc)
@@ -316,7 +316,7 @@ clash_settled w path (Some least) clash h = absurd (cc)
 clash_settled w path None (Some least) h = let same : least ≡ path = cc in (refl, ap (λ x. Some x) same)
 clash_settled w path None None h = absurd (cc)
 
--- two that are the least are the same
+-- two texts that are both the least are the same
 both_le : (x y : List ℕ) → is_le (path_cmp x y) ≡ true → is_le (path_cmp y x) ≡ true → x ≡ y
 both_le x y le ge = by_order (path_cmp x y) refl le (sym (ap is_le (nat_list_cmp_total.antisymm y x)) ∙ ge)
   where

@@ -18,21 +18,21 @@ use Rattle.install_section.specs.declared.closed.ClosureFault.TheVariants.{TooMa
 use Rattle.install_section.specs.Words.{named_by, skipped}
 use Rattle.install_section.specs.Sections.{section_of, identity_in}
 
--- why what a name is found as doesn't join: it isn't a unit found as itself
+-- why what a name is found as doesn't join: it isn't a unit found under its own name
 abbrev pub why_not : (name : List ℕ) → Found → Option Reason
 why_not name Missing = Some reasons.NotFound
 why_not name (Masked place) = Some reasons.Masked
 why_not name (Dangling link) = Some reasons.Dangling
 why_not name (Unit real file place) = if bytes_eq real name then None else Some reasons.IsAlias
 
--- the units with one more, which goes last; over 1,024 are too many
+-- the units with one more at the end; over 1,024 are too many
 unfoldable pub joined : List (List ℕ) → List ℕ → Result (List (List ℕ)) ClosureFault
 joined units name =
     if list_any (bytes_eq name) units then Ok units
     else if nat_lt (length units) 1024 then Ok (units ++ name ∷ [])
     else Err TooMany
 
--- go on with the units, unless they are too many
+-- continues with the units, unless there are too many
 abbrev pub and_then : {X Y : Type 0} → (X → Result Y ClosureFault) → Result X ClosureFault → Result Y ClosureFault
 and_then next (Ok x) = next x
 and_then next (Err fault) = Err fault
@@ -45,16 +45,16 @@ all_joined (name ∷ names) units = and_then (all_joined names) (joined units na
 abbrev pub closed_with : NoticeMap → List (List ℕ) → Result Closed ClosureFault
 closed_with notices units = Ok (record { units = units; notices = notices })
 
--- a word is skipped, with a notice
+-- skips a word, with a notice
 abbrev pub skipping : (unit word : List ℕ) → Closed → Reason → Result Closed ClosureFault
 skipping unit word closed reason = closed_with (with_notice closed.notices (skipped unit Also word reason)) closed.units
 
--- a name joins, unless there is a reason why not
+-- adds a name, unless there is a reason not to
 abbrev pub joined_unless : (unit word name : List ℕ) → Closed → Option Reason → Result Closed ClosureFault
 joined_unless unit word name closed None = and_then (closed_with closed.notices) (joined closed.units name)
 joined_unless unit word name closed (Some reason) = skipping unit word closed reason
 
--- a name is looked up, also where its unit is there already
+-- looks a name up, even if its unit is there already, and adds it
 abbrev pub with_name : (unit word : List ℕ) → Closed → Result (List ℕ) Reason → Search (Result Closed ClosureFault)
 with_name unit word closed (Ok name) = giving (find name) (λ found. joined_unless unit word name closed (why_not name found))
 with_name unit word closed (Err reason) = over (skipping unit word closed reason)
@@ -74,7 +74,7 @@ abbrev pub with_section : (unit : List ℕ) → Closed → Option Section → Se
 with_section unit closed None = over (Ok closed)
 with_section unit closed (Some section) = with_words unit (identity_in unit section) section.text.also closed
 
--- what a unit names joins
+-- adds what a unit names
 unfoldable pub with_unit : (unit : List ℕ) → Closed → Search (Result Closed ClosureFault)
 with_unit unit closed = do
   section ← section_of unit
@@ -86,7 +86,7 @@ with_unit_at next closed (Some unit) = do
   grown ← with_unit unit closed
   unless_too_many next grown
 
--- from the unit at this place on, so many more at most
+-- from the unit at this position on, at most `more` units
 unfoldable pub closed_from : (more place : ℕ) → Closed → Search (Result Closed ClosureFault)
 closed_from zero place closed = over (Ok closed)
 closed_from (suc more) place closed = with_unit_at (closed_from more (place + 1)) closed (slice_get closed.units place)

@@ -19,7 +19,7 @@ use Rattle.install_section.specs.Words.{named_by, skipped}
 use Rattle.install_section.specs.Sections.{section_of, identity_in}
 use Rattle.install_section.specs.Closure.{why_not, closure}
 
--- A name is found as a unit that has it as its own.
+-- A name is found as a unit with that own name.
 abbrev pub IsUnit : Entries → (name : List ℕ) → Type 0
 IsUnit t name = (file : List ℕ) × (place : Place) × ((find name).conclusion t ≡ founds.Unit name file place)
 
@@ -27,11 +27,13 @@ IsUnit t name = (file : List ℕ) × (place : Place) × ((find name).conclusion 
 abbrev pub HasWord : Entries → (unit word : List ℕ) → Section → Type 0
 HasWord t unit word section = ((section_of unit).conclusion t ≡ Some section) × Contains section.text.also word
 
--- A unit names another one: a word of it, expanded with its identity, is the name of a unit found as itself.
+-- A unit names another one: a word of it, expanded with its identity, is the name of a unit found
+-- under its own name.
 abbrev pub Names : Entries → (unit name : List ℕ) → Type 0
 Names t unit name = (word : List ℕ) × (section : Section) × HasWord t unit word section × (named_by (identity_in unit section) word ≡ Ok name) × IsUnit t name
 
--- why a word names no unit that is found as itself: it is no name, or why its unit isn't
+-- why a word names no unit that is found under its own name: it is not a name, or the reason that
+-- its unit isn't found so
 abbrev pub IsNone : Entries → (identity word : List ℕ) → Reason → Type 0
 IsNone t identity word reason =
     (named_by identity word ≡ Err reason) ⊎ ((name : List ℕ) × (named_by identity word ≡ Ok name) × (why_not name ((find name).conclusion t) ≡ Some reason))
@@ -46,17 +48,18 @@ pub data Reached (t : Entries) (given : List (List ℕ)) : List ℕ → Type 0 w
   Given : (name : List ℕ) → Contains given name → Reached t given name
   Named : (unit name : List ℕ) → Reached t given unit → Names t unit name → Reached t given name
 
--- The closure is the least set that holds the given names and, with each name, those that its unit names; each is there once.
+-- The closure is the least set that contains the given names and, with each name, those that its
+-- unit names; each is there once.
 abbrev pub ClosureIsLeast : Type 0
 ClosureIsLeast = (given : List (List ℕ)) (t : Entries) (closed : Closed) → (closure given).conclusion t ≡ Ok closed
     → IsDistinct bytes_eq closed.units × ((name : List ℕ) → Contains closed.units name ↔ Reached t given name)
 
--- It is refused exactly where that set is of over 1,024 names.
+-- It is refused exactly if that set has over 1,024 names.
 abbrev pub RefusedWhereTooMany : Type 0
 RefusedWhereTooMany = (given : List (List ℕ)) (t : Entries) → ((closure given).conclusion t ≡ Err TooMany)
     ↔ ((names : List (List ℕ)) × IsDistinct bytes_eq names × (length names ≡ 1025) × All (Reached t given) names)
 
--- Each skipped word of each unit is told of, in a line of its own, and nothing else is.
+-- Each skipped word of each unit is reported, in a line of its own, and nothing else is.
 pub record TellsOfSkipped (t : Entries) (closed : Closed) : Type 0 where
   pub all_told : (unit : List ℕ) (notice : Notice) → Contains closed.units unit → IsSkipped t unit notice → is_some (map.get closed.notices (notice_line notice)) ≡ true
   pub only : (line : List ℕ) (notice : Notice) → map.get closed.notices line ≡ Some notice
@@ -70,7 +73,7 @@ pub record AreSame (one other : Closed) : Type 0 where
   pub units : (name : List ℕ) → Contains one.units name ↔ Contains other.units name
   pub lines : (line : List ℕ) → is_some (map.get one.notices line) ≡ is_some (map.get other.notices line)
 
--- what both come to is the same
+-- both results are the same in this sense
 abbrev pub ComeToSame : (one other : Result Closed ClosureFault) → Type 0
 ComeToSame (Ok one) (Ok other) = AreSame one other
 ComeToSame (Err TooMany) (Err TooMany) = Unit {0}

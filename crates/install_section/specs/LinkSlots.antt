@@ -1,4 +1,4 @@
--- Links that are wanted stand at slots.
+-- Wanted links are at slots.
 use Rattle.std.specs.Prelude.{◌≡◌, ℕ, true, List, Some}
 use Rattle.std.specs.FinMap as map
 use Rattle.unit_paths.specs.Slots.{is_slot}

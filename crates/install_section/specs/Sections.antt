@@ -22,7 +22,7 @@ abbrev pub section_by : Found → Search (Option Section)
 section_by (Unit real file place) = giving (look file) (λ entry. Some (section_in file entry))
 section_by other = over None
 
--- the section of a unit, which is looked up; none if the name is no unit's
+-- the section of a unit, which is looked up first; none if the name is no unit's
 unfoldable pub section_of : (unit : List ℕ) → Search (Option Section)
 section_of unit = do
   found ← find unit

@@ -22,17 +22,18 @@ use Rattle.install_section.specs.Words.{skipped}
 use Rattle.install_section.specs.Sections.{section_of, identity_in}
 use Rattle.install_section.specs.Wishes.{wish, words_for, notice_key}
 
--- one of the texts is the least so far, if there is one; with another one
+-- the least of the texts so far, if there are any, and of another one
 abbrev pub least_with : Option (List ℕ) → List ℕ → Option (List ℕ)
 least_with None text = Some text
 least_with (Some least) text = if is_lt (path_cmp text least) then Some text else Some least
 
--- A link is wanted at a path, by what is wanted there already. The first target stays, and the least path with another is noted.
+-- Adds a wanted link at a path, given what is wanted there already. The first target stays, and the
+-- least path with a second, different one is recorded.
 abbrev pub with_link : (path file : List ℕ) → Wants → (there : Option (List ℕ)) → Wants
 with_link path file wants None = record wants { links = map.insert wants.links path file }
 with_link path file wants (Some other) = if bytes_eq other file then wants else record wants { clash = least_with wants.clash path }
 
--- a template that needs an instance is noted, the least one, unless such words are to be left out
+-- records a template that needs an instance, if it is the least one, unless such words are left out
 abbrev pub with_nameless : (skip : Bool) → (unit : List ℕ) → Wants → Wants
 with_nameless skip unit wants = if skip then wants else record wants { nameless = least_with wants.nameless unit }
 
@@ -42,13 +43,13 @@ with_wish skip unit file key word wants (Link path) = with_link path file wants 
 with_wish skip unit file key word wants (Skip reason) = record wants { notices = with_notice wants.notices (skipped unit (notice_key key) word reason) }
 with_wish skip unit file key word wants NoInstance = with_nameless skip unit wants
 
--- the words of a list
+-- adds the words of a list
 abbrev pub with_words : Place → (skip : Bool) → (unit identity file : List ℕ) → LinkKey → (words : List (List ℕ)) → Wants → Wants
 with_words place skip unit identity file key [] wants = wants
 with_words place skip unit identity file key (word ∷ words) wants =
     with_words place skip unit identity file key words (with_wish skip unit file key word wants (wish place key unit identity word))
 
--- one of the lists of a section
+-- adds one of the lists of a section
 abbrev pub with_list : Place → (skip : Bool) → (unit : List ℕ) → Section → LinkKey → Wants → Wants
 with_list place skip unit section key wants = with_words place skip unit (identity_in unit section) section.file key (words_for key section.text) wants
 
@@ -67,7 +68,7 @@ all_wants place skip (unit ∷ units) wants = do
 abbrev pub no_wants : Wants
 no_wants = record { links = map.empty; notices = map.empty; nameless = None; clash = None }
 
--- A template that needs an instance comes before a path that is wanted twice.
+-- A template that needs an instance is reported before a path that is wanted twice.
 abbrev pub settled : Wants → (nameless clash : Option (List ℕ)) → Result Wanted WantedFault
 settled wants (Some unit) clash = Err (NeedsInstance unit)
 settled wants None (Some path) = Err (Clash path)
@@ -76,7 +77,7 @@ settled wants None None = Ok (record { links = wants.links; notices = wants.noti
 abbrev pub verdict : Wants → Result Wanted WantedFault
 verdict wants = settled wants wants.nameless wants.clash
 
--- The links that the units want in a scope, with what is told of skipped words; with `skip` a word that would need an instance asks
--- for nothing.
+-- The links that the units want in a scope, with the notices about skipped words; with `skip` a
+-- word that would need an instance asks for nothing.
 unfoldable pub wanted : (units : List (List ℕ)) → Scope → (skip : Bool) → Search (Result Wanted WantedFault)
 wanted units scope skip = giving (all_wants (scope_place scope) skip units no_wants) verdict

@@ -1,4 +1,4 @@
--- What a call for the wanted links answers.
+-- What a call of `wanted` returns.
 use Rattle.std.specs.Prelude.{◌≡◌, Result, Ok, Err}
 use Rattle.install_section.specs.declared.wants.Wanted.{Wanted}
 use Rattle.install_section.specs.declared.wants.WantedError.{WantedError}

@@ -36,17 +36,19 @@ key_of Wants = WantedBy
 key_of Requires = RequiredBy
 key_of Upholds = UpheldBy
 
--- A unit's section says that another wants, requires or upholds it.
+-- A unit's section says that another unit wants, requires or upholds it.
 abbrev pub IsListedBy : Entries → (unit : List ℕ) → Section → Dependency → (by : List ℕ) → Type 0
 IsListedBy t unit section dependency by = (word : List ℕ) × HasWord t unit (key_of dependency) word section × (named_by (identity_in unit section) word ≡ Ok by)
 
--- First rule: a unit that is listed by another is linked under its own name, unless it stands for its default instance.
+-- First rule: a unit that is listed by another is linked under its own name, unless it stands for
+-- its default instance.
 abbrev pub IsListed : Entries → Place → (unit path file : List ℕ) → Type 0
 IsListed t place unit path file =
     (section : Section) × (dependency : Dependency) × (by : List ℕ) × IsListedBy t unit section dependency by
     × (stands_for_instance by unit ≡ false) × (path ≡ dependency_slot place dependency by unit) × (file ≡ section.file)
 
--- Second rule: a template that stands for its default instance is linked under that one's name, if it has one.
+-- Second rule: a template that stands for its default instance is linked under that instance's
+-- name, if it has one.
 abbrev pub HasInstanceListed : Entries → Place → (unit path file : List ℕ) → Type 0
 HasInstanceListed t place unit path file =
     (section : Section) × (dependency : Dependency) × (by : List ℕ) × IsListedBy t unit section dependency by
@@ -63,11 +65,11 @@ HasAlias t place unit path file =
 abbrev pub AsksFor : Entries → Place → (unit path file : List ℕ) → Type 0
 AsksFor t place unit path file = IsListed t place unit path file ⊎ (HasInstanceListed t place unit path file ⊎ HasAlias t place unit path file)
 
--- One of the units does.
+-- One of the units asks for it.
 abbrev pub IsAskedFor : Entries → Place → (units : List (List ℕ)) → (path file : List ℕ) → Type 0
 IsAskedFor t place units path file = (unit : List ℕ) × Contains units unit × AsksFor t place unit path file
 
--- A template would stand for its default instance, and has none.
+-- A template would stand for its default instance, but has none.
 abbrev pub LacksInstance : Entries → (unit : List ℕ) → Type 0
 LacksInstance t unit =
     (section : Section) × (dependency : Dependency) × (by : List ℕ) × IsListedBy t unit section dependency by
@@ -81,7 +83,7 @@ NeedsName t units skip unit = (skip ≡ false) × Contains units unit × LacksIn
 abbrev pub HasTwoTargets : Entries → Place → (units : List (List ℕ)) → (path : List ℕ) → Type 0
 HasTwoTargets t place units path = (one other : List ℕ) × (one ≢ other) × IsAskedFor t place units path one × IsAskedFor t place units path other
 
--- What holds of a text holds of none that comes before it, in byte order.
+-- A property holds for a text and for no text before it, in byte order.
 abbrev pub IsLeast : (P : List ℕ → Type 0) → (text : List ℕ) → Type 0
 IsLeast P text = P text × ((other : List ℕ) → P other → is_le (path_cmp text other) ≡ true)
 
@@ -90,24 +92,26 @@ abbrev pub LinksAreAskedFor : Type 0
 LinksAreAskedFor = (units : List (List ℕ)) (scope : Scope) (skip : Bool) (t : Entries) (given : Wanted) → (wanted units scope skip).conclusion t ≡ Ok given
     → (path file : List ℕ) → (map.get given.links path ≡ Some file) ↔ IsAskedFor t (scope_place scope) units path file
 
--- Units that need an instance are told of exactly where there are some, and by the least.
+-- A unit that needs an instance is reported exactly if there is one, and the least is reported.
 abbrev pub NeedsLeastInstance : Type 0
 NeedsLeastInstance = (units : List (List ℕ)) (scope : Scope) (skip : Bool) (t : Entries) (unit : List ℕ) →
     ((wanted units scope skip).conclusion t ≡ Err (NeedsInstance unit)) ↔ IsLeast (NeedsName t units skip) unit
 
--- Where there are none, paths that are wanted with two targets are, and by the least.
+-- If there are none, a path that is wanted with two targets is reported exactly if there is one,
+-- and the least is reported.
 abbrev pub ClashIsLeast : Type 0
 ClashIsLeast = (units : List (List ℕ)) (scope : Scope) (skip : Bool) (t : Entries) (path : List ℕ) →
     ((wanted units scope skip).conclusion t ≡ Err (Clash path))
     ↔ (((unit : List ℕ) → ¬ NeedsName t units skip unit) × IsLeast (HasTwoTargets t (scope_place scope) units) path)
 
--- A word of a unit's lists asks for no link, for a reason that isn't a lack of an instance, and this is its notice.
+-- A word of a unit's lists asks for no link, for a reason other than a missing instance, and this
+-- is its notice.
 abbrev pub IsSkipped : Entries → Place → (unit : List ℕ) → Notice → Type 0
 IsSkipped t place unit notice =
     (key : LinkKey) × (word : List ℕ) × (section : Section) × (reason : Reason) × HasWord t unit key word section
     × (wish place key unit (identity_in unit section) word ≡ Skip reason) × (notice ≡ skipped unit (notice_key key) word reason)
 
--- Each skipped word of each unit is told of, in a line of its own, and nothing else is.
+-- Each skipped word of each unit is reported, in a line of its own, and nothing else is.
 pub record TellsOfSkipped (t : Entries) (place : Place) (units : List (List ℕ)) (given : Wanted) : Type 0 where
   pub all_told : (unit : List ℕ) (notice : Notice) → Contains units unit → IsSkipped t place unit notice → is_some (map.get given.notices (notice_line notice)) ≡ true
   pub only : (line : List ℕ) (notice : Notice) → map.get given.notices line ≡ Some notice

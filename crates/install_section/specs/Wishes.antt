@@ -42,17 +42,19 @@ has_aliases (Some Swap) = false
 has_aliases (Some Slice) = false
 has_aliases other = true
 
--- both plain, both templates, or both instances with the same instance
+-- both plain, both templates, or both instances with the same instance name
 abbrev pub are_alike : Option (List ℕ) → Option (List ℕ) → Bool
 are_alike None None = true
 are_alike (Some one) (Some other) = bytes_eq one other
 are_alike one other = false
 
--- whether a unit may have the alias: another name of its type and kind, and of a type that has aliases
+-- whether a unit may have the alias: another name of the same type and kind, and of a type that has
+-- aliases
 unfoldable pub may_have : (unit alias : List ℕ) → Bool
 may_have unit alias = is_same_type (type_of alias) (type_of unit) && (has_aliases (type_of unit) && (not (bytes_eq alias unit) && are_alike (instance_of alias) (instance_of unit)))
 
--- The alias that a name means, by the kinds of unit and name: for an instance a template means its own instance, if that is a name.
+-- The alias that a name means, by the kinds of unit and name: for an instance, the name of a
+-- template means its own instance, if that is a valid name.
 abbrev pub alias_by : (of its : Kind) → (unit name : List ℕ) → Option (List ℕ)
 alias_by Instance Template unit name = put_in name (instance_of unit)
 alias_by of its unit name = Some name

@@ -1,4 +1,4 @@
-//! What a closure comes to.
+//! The result of a closure.
 ghost use Rattle.std.specs.Prelude.{◌≡◌};
 ghost use Rattle.install_section.specs.declared.closed.ClosureError.TheVariants as errors;
 
@@ -8,12 +8,12 @@ use std::alloc::AllocError;
 use thiserror::Error;
 use unit_file::Notices;
 
-/// Units that are enabled and disabled together, and what is told of the words that were skipped.
+/// Units that are enabled and disabled together, and the notices about words that were skipped.
 #[derive(Debug, Drop)]
 pub struct Closed {
     /// The given units and then those that their files name, in the order in which they are found.
     pub units: Members,
-    /// A notice for each word of `Also=` that names no unit found as itself.
+    /// A notice for each word of `Also=` that names no unit found under its own name.
     pub notices: Notices,
 }
 
@@ -32,14 +32,14 @@ pub struct Closure {
     pub units: Members,
     /// Each path that was looked at, once, in the order in which they were looked at.
     pub cells: Cells,
-    /// A notice for each word of `Also=` that names no unit found as itself.
+    /// A notice for each word of `Also=` that names no unit found under its own name.
     pub notices: Notices,
 }
 
-/// Why `closure` gives no units.
+/// Why `closure` returns no units.
 #[derive(Debug, Drop)]
 pub enum ClosureError {
-    /// There are over 1,024 of them. The paths that were looked at until then, each once.
+    /// There are over 1,024 of them. Holds the paths that were looked at until then, each once.
     TooMany(Cells),
     /// Memory ran out.
     OutOfMemory,

@@ -1,5 +1,5 @@
 //! The units that are enabled and disabled together.
-ghost use Rattle.std.specs.Prelude.{◌≡◌, ◌++◌, Some, IfOk, OnOk};
+ghost use Rattle.std.specs.Prelude.{◌≡◌, ◌++◌, Some, IfOk, OnOk, OnErr};
 ghost use Rattle.load_path.specs.Search.{Finds, giving, with_cell, with_cells, each_once};
 ghost use Rattle.load_path.specs.Find.{find};
 ghost use Rattle.install_section.specs.Closure.{why_not, and_then, closed_with, joined, all_joined, skipping, joined_unless, unless_too_many, with_name, with_words, with_section, with_unit, closed_from, closure};
@@ -9,7 +9,7 @@ ghost use Rattle.install_section.specs.Words.{named_by};
 
 use crate::closed::{Closed, Closure, ClosureError, ClosureFault};
 use crate::members::{MAX_UNITS, Members};
-use crate::section::{Section, section_into};
+use crate::section::{Section, section_looked_up};
 use crate::word::{named_by, skipped};
 use indexmap::IndexSet;
 use link_tree::{Tree, TreePath};
@@ -19,21 +19,22 @@ use unit_file::{NoticeKey, Notices, Reason, Word};
 use unit_name::UnitName;
 
 /// The units that are enabled and disabled together with the given ones: systemd.unit(5), "[Install] Section Options", `Also=`.
-/// The given units come first, and then, unit after unit in the order in which they are found, those that the words of `Also=` name.
-/// Each word is expanded with the unit's identity and looked up, also where its unit is there already. One that names no unit that is
-/// found as itself is skipped, with a notice: it has a bad specifier or is no unit's name, or its unit isn't found, is masked, dangles
-/// or has another name. Who wants each unit to be one should see before that the given ones are found as themselves; of a name that
-/// is no unit's there are no words.
+/// The given units come first, and then, unit after unit in the order in which they are found,
+/// those that the words of `Also=` name. Each word is expanded with the unit's identity and looked
+/// up, even if its unit is there already. A word that names no unit found under its own name is
+/// skipped, with a notice: it has a bad specifier or is not a unit's name, or its unit isn't found,
+/// is masked, dangles or has another name. A caller that needs every given name to be a unit's
+/// should check first that each is found under its own name; a name that is no unit's has no words.
 ///
 /// # Errors
 ///
-/// `TooMany` as soon as a 1,025th unit would join, with the paths that were looked at until then; where the given names are that
-/// many, before any is looked up. Want of memory.
+/// `TooMany` as soon as a 1,025th unit would join, with the paths that were looked at until then;
+/// if that many names are given, before any is looked up. `OutOfMemory` if memory runs out.
 pub fn closure(alloc: Global, tree: &Tree, given: &[UnitName]) -> Result<Closure, ClosureError>
     ensures { Closes (closure given.now) tree.now result }
 {
     let mut cells = Cells::new(alloc);
-    let closed = closure_into(alloc, tree, given, &mut cells)?;
+    let closed = closed(alloc, tree, given, &mut cells)?;
     let cells = each_once(alloc, cells)?;
     match closed {
         Ok(Closed { units, notices }) => Ok(Closure {
@@ -45,10 +46,26 @@ pub fn closure(alloc: Global, tree: &Tree, given: &[UnitName]) -> Result<Closure
     }
 }
 
-/// The same as `closure`, with the paths that are looked at added to these, as often as they are looked at. The outer error is want
-/// of memory alone.
-#[tactic(auto, unfolding(crate::specs::Closure::closure))]
+/// The same as `closure`, with the paths that are looked at added to `cells`, as often as they are
+/// looked at. The outer error means only that memory ran out, and then `cells` is unchanged.
 pub fn closure_into(
+    alloc: Global,
+    tree: &Tree,
+    given: &[UnitName],
+    cells: &mut Cells,
+) -> Result<Result<Closed, ClosureFault>, AllocError>
+    ensures ok { IfOk result (λ closed. Finds tree.now (closure given.now) cells.old cells.new closed) }
+    ensures err { OnErr result (cells.new ≡ cells.old) }
+{
+    let mut more = Cells::new(alloc);
+    let closed = closed(alloc, tree, given, &mut more)?;
+    cells.append(more)?;
+    Ok(closed)
+}
+
+/// The same, but if memory runs out, some of the paths may have been added.
+#[tactic(auto, unfolding(crate::specs::Closure::closure))]
+fn closed(
     alloc: Global,
     tree: &Tree,
     given: &[UnitName],
@@ -66,7 +83,7 @@ pub fn closure_into(
     }
 }
 
-/// The given units join, and then, unit after unit, what each names.
+/// Adds the given units, and then, unit after unit, what each names.
 fn add_all(
     alloc: Global,
     tree: &Tree,
@@ -82,7 +99,7 @@ fn add_all(
     }
 }
 
-/// The given units join.
+/// Adds the given units.
 fn join_all(given: &[UnitName], units: &mut Members) -> Result<Result<(), ClosureFault>, AllocError>
     ensures { IfOk result (λ end. grown end units.new ≡ all_joined given.now units.old) }
 {
@@ -95,7 +112,7 @@ fn join_all(given: &[UnitName], units: &mut Members) -> Result<Result<(), Closur
     Ok(Ok(()))
 }
 
-/// Unit after unit, what each names joins.
+/// Adds, unit after unit, what each names.
 fn close(
     alloc: Global,
     tree: &Tree,
@@ -117,7 +134,7 @@ fn close(
     Ok(Ok(()))
 }
 
-/// What a unit names joins.
+/// Adds what a unit names.
 #[tactic(auto, unfolding(crate::specs::Closure::with_unit))]
 fn add_unit(
     alloc: Global,
@@ -128,13 +145,13 @@ fn add_unit(
 ) -> Result<Result<(), ClosureFault>, AllocError>
     ensures { IfOk result (λ end. Finds tree.now (with_unit unit.now closed.old) cells.old cells.new (grown end closed.new)) }
 {
-    match section_into(alloc, tree, unit, cells)? {
+    match section_looked_up(alloc, tree, unit, cells)? {
         None => Ok(Ok(())),
         Some(section) => add_section(alloc, tree, unit, &section, closed, cells),
     }
 }
 
-/// What each word of a section's `Also=` names joins.
+/// Adds what each word of a section's `Also=` names.
 fn add_section(
     alloc: Global,
     tree: &Tree,
@@ -150,7 +167,7 @@ fn add_section(
     add_words(alloc, tree, unit, &identity, words, closed, cells)
 }
 
-/// What each word names joins.
+/// Adds what each word names.
 fn add_words(
     alloc: Global,
     tree: &Tree,
@@ -171,7 +188,7 @@ fn add_words(
     Ok(Ok(()))
 }
 
-/// What a word names joins, unless it is skipped.
+/// Adds what a word names, unless the word is skipped.
 fn add_word(
     alloc: Global,
     tree: &Tree,
@@ -192,7 +209,7 @@ fn add_word(
     }
 }
 
-/// A word is skipped, with a notice.
+/// Skips a word, with a notice.
 fn skip(
     unit: &UnitName,
     word: &Word,
@@ -219,7 +236,7 @@ fn reason_against(
     Ok(why_not(name, &found))
 }
 
-/// Why what a name is found as doesn't join; `None` for a unit found as itself.
+/// Why what a name is found as doesn't join; `None` for a unit found under its own name.
 fn why_not(name: &UnitName, found: &Found) -> Option<Reason>
     ensures { result ≡ why_not name.now found.now }
 {
@@ -232,7 +249,8 @@ fn why_not(name: &UnitName, found: &Found) -> Option<Reason>
     }
 }
 
-/// Each of the paths once, where it was looked at first. A set finds each at once, however many there are.
+/// Each of the paths once, at its first place. Uses a set, so that each lookup is fast however many
+/// paths there are.
 fn each_once(alloc: Global, cells: Cells) -> Result<Cells, AllocError>
     ensures { IfOk result (λ once. once ≡ each_once cells) }
 {
@@ -243,7 +261,7 @@ fn each_once(alloc: Global, cells: Cells) -> Result<Cells, AllocError>
     Ok(once)
 }
 
-/// These paths more, but for those that are there.
+/// Adds these paths, except for those that are there already.
 fn note_all(seen: &mut IndexSet<TreePath>, cells: Cells) -> Result<(), AllocError>
     ensures { OnOk result (seen.new.keys ≡ with_cells seen.old.keys cells) }
 {
@@ -253,7 +271,7 @@ fn note_all(seen: &mut IndexSet<TreePath>, cells: Cells) -> Result<(), AllocErro
     Ok(())
 }
 
-/// One path more, unless it is there.
+/// Adds a path, unless it is there already.
 #[tactic(auto, unfolding(load_path::specs::Search::with_cell))]
 fn note(seen: &mut IndexSet<TreePath>, path: TreePath) -> Result<(), AllocError>
     ensures { OnOk result (seen.new.keys ≡ with_cell seen.old.keys path) }
@@ -262,7 +280,7 @@ fn note(seen: &mut IndexSet<TreePath>, path: TreePath) -> Result<(), AllocError>
     Ok(())
 }
 
-/// The paths of a set, behind the others.
+/// Adds the paths of a set after the others.
 fn push_all(once: &mut Cells, seen: IndexSet<TreePath>) -> Result<(), AllocError>
     ensures { OnOk result (once.new ≡ once.old ++ seen.keys) }
 {

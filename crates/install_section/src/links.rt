@@ -1,4 +1,4 @@
-//! Links that are wanted.
+//! Wanted links.
 ghost use Rattle.std.specs.Prelude.{◌≡◌, ◌==◌, true, All, OnOk, OnErr};
 ghost use Rattle.std.specs.Option.{option_copied};
 ghost use Rattle.std.specs.FinMap as map;
@@ -9,8 +9,8 @@ use std::alloc::{AllocError, Global};
 use std::collections::{BTreeMap, btree_map};
 use std::marker::Model;
 
-/// The links that units want, by their paths, which are slots: at each one link, to the file at another path. Contracts see the finite
-/// map from paths to the paths of the files.
+/// The links that units want, by their paths, which are slots: each path has one link, to the file
+/// at another path. Contracts see this as the finite map from the links' paths to the files' paths.
 #[derive(Debug, Drop)]
 pub struct Links {
     by_path: BTreeMap<TreePath, TreePath>,
@@ -40,14 +40,14 @@ impl Links {
         }
     }
 
-    /// The file to which the link at a path is to lead, if one is wanted there.
+    /// The file to which the link at a path will lead, if one is wanted there.
     pub fn get(&self, path: &TreePath) -> Option<&TreePath>
         ensures { option_copied result ≡ map.get self.now path.now }
     {
         self.by_path.get(path)
     }
 
-    /// A link is wanted at a slot.
+    /// Adds a wanted link at a slot.
     pub(crate) fn insert(&mut self, path: TreePath, file: TreePath) -> Result<(), AllocError>
         requires { is_slot path ≡ true }
         ensures ok { OnOk result (self.new ≡ map.insert self.old path file) }
@@ -57,21 +57,22 @@ impl Links {
         Ok(())
     }
 
-    /// How many links there are.
+    /// The number of links.
     pub fn len(&self) -> usize
         ensures { result ≡ map.len self.now }
     {
         self.by_path.len()
     }
 
-    /// Whether there is none.
+    /// Whether there are no links.
     pub fn is_empty(&self) -> bool
         ensures { result ≡ (map.len self.now == 0) }
     {
         self.len() == 0
     }
 
-    /// Each path with the file's, in byte order of the paths, which are slots.
+    /// Each link's path with the path of its file, in byte order of the links' paths, which are
+    /// slots.
     pub fn iter(&self) -> btree_map::Iter<'_, TreePath, TreePath>
         ensures links { result ≡ map.entries self.now }
         ensures slots { All (λ link. is_slot link.0 ≡ true) (map.entries self.now) }

@@ -15,7 +15,8 @@ use unit_name::UnitName;
 /// The most units that may be enabled together.
 pub const MAX_UNITS: usize = 1024;
 
-/// Units in the order in which they were found, each once, and 1,024 of them at most. Contracts see the list of their names.
+/// Units in the order in which they were found, each once, at most 1,024 of them. Contracts see
+/// this as the list of their names.
 #[derive(Debug, Drop)]
 pub struct Members {
     names: IndexSet<UnitName>,
@@ -39,7 +40,7 @@ impl Members {
         }
     }
 
-    /// Adds this unit, which is the last one then, unless it is there already.
+    /// Adds this unit at the end, unless it is there already.
     #[tactic(auto, unfolding(crate::specs::Closure::joined))]
     pub(crate) fn join(&mut self, name: UnitName) -> Result<Result<(), ClosureFault>, AllocError>
         ensures { IfOk result (λ end. grown end self.new ≡ joined self.old name) }
@@ -61,14 +62,14 @@ impl Members {
         self.names.as_slice()
     }
 
-    /// How many units there are.
+    /// The number of units.
     pub fn len(&self) -> usize
         ensures { result ≡ length self.now }
     {
         self.names.len()
     }
 
-    /// Whether there is none.
+    /// Whether there are no units.
     pub fn is_empty(&self) -> bool
         ensures { result ≡ (length self.now == 0) }
     {
@@ -82,7 +83,7 @@ impl Members {
         self.names.contains(name)
     }
 
-    /// The unit at a place, counted from 0.
+    /// The unit at a position, counted from 0.
     pub fn get(&self, place: usize) -> Option<&UnitName>
         ensures { option_copied result ≡ slice_get self.now place }
     {

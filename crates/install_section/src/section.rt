@@ -1,5 +1,5 @@
 //! The sections of units that are looked up.
-ghost use Rattle.std.specs.Prelude.{◌≡◌, ◌≤◌, length, IfOk};
+ghost use Rattle.std.specs.Prelude.{◌≡◌, ◌≤◌, length, IfOk, OnErr};
 ghost use Rattle.std.specs.Option.{option_copied};
 ghost use Rattle.unit_file.specs.Reading.{text_of};
 ghost use Rattle.load_path.specs.Search.{Finds, giving, look};
@@ -42,13 +42,29 @@ impl Section {
     }
 }
 
-/// Looks a unit up, and reads its [Install] section: `None` if the name is no unit's. The paths that
-/// are looked at are added to `cells`; the unit is found by them alone. Fails only if memory runs out,
-/// and then some of them may have been added.
+/// Looks a unit up, and reads its [Install] section: `None` if the name is no unit's. The paths
+/// that are looked at are added to `cells`; they are only those that looking the unit up looks at.
+/// Fails only if memory runs out, and then `cells` is unchanged.
 ///
 /// systemd.unit(5), "[Install] Section Options".
-#[tactic(auto, unfolding(crate::specs::Sections::section_of))]
 pub fn section_into(
+    alloc: Global,
+    tree: &Tree,
+    unit: &UnitName,
+    cells: &mut Cells,
+) -> Result<Option<Section>, AllocError>
+    ensures ok { IfOk result (λ section. Finds tree.now (section_of unit.now) cells.old cells.new section) }
+    ensures err { OnErr result (cells.new ≡ cells.old) }
+{
+    let mut more = Cells::new(alloc);
+    let section = section_looked_up(alloc, tree, unit, &mut more)?;
+    cells.append(more)?;
+    Ok(section)
+}
+
+/// The same, but if memory runs out, some of the paths may have been added.
+#[tactic(auto, unfolding(crate::specs::Sections::section_of))]
+pub(crate) fn section_looked_up(
     alloc: Global,
     tree: &Tree,
     unit: &UnitName,
@@ -77,7 +93,7 @@ fn section_by(
     }
 }
 
-/// What the file at a path asks for. The path is looked at.
+/// What the file at a path asks for. Counts the path as looked at.
 fn text_at(
     alloc: Global,
     tree: &Tree,
@@ -91,7 +107,7 @@ fn text_at(
 }
 
 /// What the entry at a file's path asks for. It has no line that is too long, since a file has no
-/// more bytes than such a line.
+/// more bytes than the longest allowed line.
 fn text_in(alloc: Global, entry: Option<&Entry>) -> Result<InstallText, AllocError>
     ensures { IfOk result (λ text. text ≡ text_of (bytes_in (option_copied entry.entry))) }
 {

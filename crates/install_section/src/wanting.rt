@@ -1,5 +1,5 @@
 //! The links that units want.
-ghost use Rattle.std.specs.Prelude.{◌≡◌, true, Some, IfOk, OnOk};
+ghost use Rattle.std.specs.Prelude.{◌≡◌, true, Some, IfOk, OnOk, OnErr};
 ghost use Rattle.std.specs.Ordering.{is_lt};
 ghost use Rattle.std.specs.FinMap as map;
 ghost use Rattle.unit_paths.specs.Slots.{is_slot};
@@ -15,7 +15,7 @@ ghost use Rattle.install_section.specs.WantedErrors.{Gives};
 ghost use Rattle.install_section.specs.WishSlots.{IsAtSlot};
 
 use crate::links::Links;
-use crate::section::{Section, section_into};
+use crate::section::{Section, section_looked_up};
 use crate::wants::{Wanted, WantedError, WantedFault, Wants};
 use crate::wish::{LinkKey, Wish, wish_of};
 use crate::word::skipped;
@@ -34,16 +34,17 @@ use unit_name::UnitName;
 ///   instance is linked instead.
 /// - A word of `Alias=` gets a link under that name, if it is another name of the unit's type and
 ///   kind, with the same instance, and not of a type without aliases: mount, automount, swap and
-///   slice. For an instance a template means its own instance.
+///   slice. For an instance, the name of a template means its own instance.
 ///
-/// A word with a bad specifier, one that is no unit's name, and one that breaks a rule of aliases
-/// results in a notice instead of a link. With `skip`, a word that would need an instance which the
-/// template doesn't have asks for nothing, without a notice. A name that is no unit's wants nothing.
+/// A word with a bad specifier, one that is not a unit's name, and one that breaks a rule of
+/// aliases results in a notice instead of a link. With `skip`, a word that would need an instance
+/// which the template doesn't have asks for nothing, without a notice. A name that is no unit's
+/// wants nothing.
 ///
 /// # Errors
 ///
-/// `NeedsInstance` with the least such template, unless `skip`; then `Clash` with the least path that
-/// is wanted with two targets, where equal targets are one. `OutOfMemory` if memory runs out.
+/// `NeedsInstance` with the least such template, unless `skip`; then `Clash` with the least path
+/// that is wanted with two different targets. `OutOfMemory` if memory runs out.
 pub fn wanted(
     alloc: Global,
     tree: &Tree,
@@ -54,7 +55,7 @@ pub fn wanted(
     ensures { Gives ((wanted units.now scope skip).conclusion tree.now) result }
 {
     let mut cells = Cells::new(alloc);
-    match wanted_into(alloc, tree, units, scope, skip, &mut cells)? {
+    match wanted_by_all(alloc, tree, units, scope, skip, &mut cells)? {
         Ok(wanted) => Ok(wanted),
         Err(WantedFault::NeedsInstance(unit)) => Err(WantedError::NeedsInstance(unit)),
         Err(WantedFault::Clash(path)) => Err(WantedError::Clash(path)),
@@ -62,9 +63,27 @@ pub fn wanted(
 }
 
 /// The same as `wanted`, with the paths that are looked at added to `cells`, as often as they are
-/// looked at. The outer error is only that memory runs out.
-#[tactic(auto, unfolding(crate::specs::Wanted::wanted))]
+/// looked at. The outer error means only that memory ran out, and then `cells` is unchanged.
 pub fn wanted_into(
+    alloc: Global,
+    tree: &Tree,
+    units: &[UnitName],
+    scope: Scope,
+    skip: bool,
+    cells: &mut Cells,
+) -> Result<Result<Wanted, WantedFault>, AllocError>
+    ensures ok { IfOk result (λ given. Finds tree.now (wanted units.now scope skip) cells.old cells.new given) }
+    ensures err { OnErr result (cells.new ≡ cells.old) }
+{
+    let mut more = Cells::new(alloc);
+    let wanted = wanted_by_all(alloc, tree, units, scope, skip, &mut more)?;
+    cells.append(more)?;
+    Ok(wanted)
+}
+
+/// The same, but if memory runs out, some of the paths may have been added.
+#[tactic(auto, unfolding(crate::specs::Wanted::wanted))]
+fn wanted_by_all(
     alloc: Global,
     tree: &Tree,
     units: &[UnitName],
@@ -79,7 +98,7 @@ pub fn wanted_into(
     Ok(wants.verdict())
 }
 
-/// Whether a text would be the least.
+/// Whether a text would be the least one.
 fn is_less(text: &[u8], least: &[u8]) -> bool
     ensures { result ≡ is_lt (path_cmp text.now least.now) }
 {
@@ -98,8 +117,8 @@ impl Wants {
         }
     }
 
-    /// A link is wanted at a slot, to a file. The first target stays, and the least path with another
-    /// one is noted.
+    /// Adds a wanted link at a slot, to a file. The first target stays, and the least path with a
+    /// second, different one is recorded.
     fn add_link(&mut self, path: TreePath, file: &TreePath) -> Result<(), AllocError>
         requires { is_slot path ≡ true }
         ensures { OnOk result (self.new ≡ with_link path file.now self.old (map.get self.old.links path)) }
@@ -124,7 +143,8 @@ impl Wants {
         }
     }
 
-    /// A template that needs an instance is noted, the least one, unless such words are to be left out.
+    /// Records a template that needs an instance, if it is the least one, unless such words are
+    /// left out.
     fn add_nameless(&mut self, skip: bool, unit: &UnitName) -> Result<(), AllocError>
         ensures { OnOk result (self.new ≡ with_nameless skip unit.now self.old) }
     {
@@ -171,7 +191,7 @@ impl Wants {
         self.notices.add(notice)
     }
 
-    /// The words of one of the lists of a unit's section.
+    /// What the words of one of the lists of a unit's section ask for.
     fn add_list(
         &mut self,
         alloc: Global,
@@ -192,7 +212,7 @@ impl Wants {
         Ok(())
     }
 
-    /// What the section of a unit wants.
+    /// What the section of a unit asks for.
     fn add_section(
         &mut self,
         alloc: Global,
@@ -234,7 +254,7 @@ impl Wants {
         self.add_list(alloc, place, skip, unit, &identity, section, LinkKey::Alias)
     }
 
-    /// What a unit wants, which is looked up.
+    /// Looks a unit up, and adds what it wants.
     fn add_unit(
         &mut self,
         alloc: Global,
@@ -246,13 +266,13 @@ impl Wants {
     ) -> Result<(), AllocError>
         ensures { OnOk result (Finds tree.now (giving (section_of unit.now) (with_section place skip unit.now self.old)) cells.old cells.new self.new) }
     {
-        match section_into(alloc, tree, unit, cells)? {
+        match section_looked_up(alloc, tree, unit, cells)? {
             None => Ok(()),
             Some(section) => self.add_section(alloc, place, skip, unit, &section),
         }
     }
 
-    /// What units want, unit after unit.
+    /// Adds what the units want, unit after unit.
     fn add_all(
         &mut self,
         alloc: Global,
@@ -270,7 +290,7 @@ impl Wants {
         Ok(())
     }
 
-    /// What the units want, or what is wrong with it.
+    /// The links that the units want, or what is wrong with them.
     fn verdict(self) -> Result<Wanted, WantedFault>
         ensures { result ≡ verdict self }
     {

@@ -21,26 +21,26 @@ pub(crate) struct Wants {
     pub clash: Option<TreePath>,
 }
 
-/// The links that units want, and what is told of the words that were skipped.
+/// The links that units want, and the notices about the words that were skipped.
 #[derive(Debug, Drop)]
 pub struct Wanted {
     pub links: Links,
-    /// A notice for each word of `WantedBy=`, `RequiredBy=`, `UpheldBy=` and `Alias=` that asks for no
-    /// link.
+    /// A notice for each word of `WantedBy=`, `RequiredBy=`, `UpheldBy=` and `Alias=` that asks for
+    /// no link.
     pub notices: Notices,
 }
 
 /// Why units can't be enabled.
 #[derive(Debug, Drop)]
 pub enum WantedFault {
-    /// A word of this template asks for a link to an instance of it, and it has no default instance. It is the least such unit, in
-    /// byte order.
+    /// A word of this template asks for a link to an instance of it, but it has no default
+    /// instance. It is the least such unit, in byte order.
     NeedsInstance(UnitName),
     /// Two links to different files are wanted at this path. It is the least such path, in byte order.
     Clash(TreePath),
 }
 
-/// Why `wanted` gives no links.
+/// Why `wanted` returns no links.
 #[derive(Debug, Drop)]
 pub enum WantedError {
     /// See `WantedFault`.

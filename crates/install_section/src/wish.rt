@@ -57,7 +57,7 @@ pub(crate) enum Wish {
     Link(TreePath),
     /// Nothing: the word is skipped.
     Skip(Reason),
-    /// A link to the default instance of the template, but it has none.
+    /// A link to the default instance of the template, which has none.
     NoInstance,
 }
 
@@ -142,7 +142,8 @@ fn aliased(
     }
 }
 
-/// The alias that a name means: for an instance a template means its own instance, if that is a name.
+/// The alias that a name means: for an instance, the name of a template means its own instance, if
+/// that is a valid name.
 #[tactic(auto, unfolding(crate::specs::Wishes::alias_meant))]
 fn alias_meant(
     alloc: Global,
@@ -157,7 +158,8 @@ fn alias_meant(
     }
 }
 
-/// Whether a unit may have the alias: another name of its type and kind, and of a type that has aliases.
+/// Whether a unit may have the alias: another name of the same type and kind, and of a type that
+/// has aliases.
 #[tactic(auto, unfolding(crate::specs::Wishes::may_have))]
 fn may_have(unit: &UnitName, alias: &UnitName) -> bool
     ensures { result ≡ may_have unit.now alias.now }
@@ -184,7 +186,7 @@ fn has_aliases(unit_type: UnitType) -> bool
     }
 }
 
-/// Whether both have no instance, or both have the same, or both are templates.
+/// Whether both have no instance, or both have the same instance, or both are templates.
 fn are_alike(one: Option<&[u8]>, other: Option<&[u8]>) -> bool
     ensures { result ≡ are_alike (option_copied one.entry) (option_copied other.entry) }
 {

@@ -1,4 +1,4 @@
-//! The words of [Install] lists as the names of units.
+//! The words of [Install] lists, read as names of units.
 ghost use Rattle.std.specs.Prelude.{◌≡◌, IfOk, Some};
 ghost use Rattle.install_section.specs.Words.{named_by, name_or_reason, skipped};
 
@@ -21,7 +21,7 @@ pub(crate) fn named_by(
     }
 }
 
-/// The unit that a text names, or that it names none.
+/// The unit that a text names, or the reason that it names none.
 fn name_in(alloc: Global, text: &[u8]) -> Result<Result<UnitName, Reason>, AllocError>
     ensures { IfOk result (λ named. named ≡ name_or_reason (Some text.now)) }
 {
@@ -32,7 +32,7 @@ fn name_in(alloc: Global, text: &[u8]) -> Result<Result<UnitName, Reason>, Alloc
     }
 }
 
-/// What is told of a word that is skipped.
+/// The notice about a word that is skipped.
 pub(crate) fn skipped(
     unit: &UnitName,
     key: NoticeKey,

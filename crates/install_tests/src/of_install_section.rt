@@ -3,3 +3,5 @@ mod closures;
 mod large;
 mod links;
 mod units;
+
+pub(crate) use units::names;

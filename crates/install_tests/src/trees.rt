@@ -20,7 +20,8 @@ fn entry(alloc: Global, text: &[u8]) -> Result<Entry, AllocError> {
     }
 }
 
-/// Puts an entry at a path. If that is no slot, the answer is `AllocError`, by which a test fails.
+/// Puts an entry at a path. If that isn't a slot, the result is `AllocError`, which makes a test
+/// fail.
 fn put(tree: &mut Tree, path: &TreePath, entry: Entry) -> Result<(), AllocError> {
     if Slot::of(path).is_none() {
         return Err(AllocError);
@@ -36,8 +37,9 @@ fn put_text(alloc: Global, tree: &mut Tree, text: &[u8]) -> Result<(), AllocErro
     put(tree, &path, entry)
 }
 
-/// A tree with entries that have `|` between them. Each is the name of a unit, whose file is in `/usr/lib/systemd/system`, or a whole
-/// path, and behind a space the bytes of a file, or `-> ` and the target of a link.
+/// A tree with entries separated by `|`. Each is the name of a unit, whose file is in
+/// `/usr/lib/systemd/system`, or a whole path, and after a space the bytes of a file, or `-> ` and
+/// the target of a link.
 pub(crate) fn tree(alloc: Global, text: &[u8]) -> Result<Box<Tree>, AllocError> {
     let mut tree = Box::new(alloc, Tree::empty(alloc)?)?;
     for entry in text.split(|b| *b == b'|') {

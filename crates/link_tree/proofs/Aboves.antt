@@ -1,4 +1,4 @@
--- What stands above a path: each directory in turn.
+-- The entries above a path: each directory in turn.
 use Rattle.std.proofs.Common.{◌≡◌, refl, ℕ, Bool, true, false, ◌&&◌, ◌||◌, List, [], ◌∷◌, Option, Some, None, sym, ◌∙◌, ap, inl, inr}
 use Rattle.std.specs.Prelude.{is_some, if◌then◌else◌}
 use Rattle.std.specs.List.{list_any}
@@ -18,7 +18,7 @@ use Rattle.unit_paths.specs.Shape.{is_beneath}
 use Rattle.link_tree.proofs.Keys.{same-found, any-keys}
 use Rattle.link_tree.proofs.Shapes.{same_key}
 
--- whether an entry stands at a directory or above it
+-- whether an entry is at a directory or above it
 abbrev pub found_above : Entries → Option (List ℕ) → Bool
 found_above m None = false
 found_above m (Some dir) = is_some (map.get m dir) || list_any (is_beneath dir) (map.keys m)

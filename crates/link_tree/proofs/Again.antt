@@ -1,4 +1,4 @@
--- What is written of a tree is read again.
+-- Reading the text written for a tree gives the tree again.
 use Rattle.std.proofs.Common.{◌≡◌, ◌≢◌, ℕ, ◌+◌, ◌-◌, ◌<◌, ◌≤◌, Bool, true, false, cond, ◌&&◌, ◌||◌, not, List, [], ◌∷◌, ◌++◌, length, drop, get_or, All, Some, None, Ok, refl, sym, ◌∙◌, ap, arith, rules, zero, suc, subst, append_assoc, T, inl, inr, length-append, append-nil}
 use Rattle.std.specs.List.{list_all, list_any, flat_map, position}
 use Rattle.std.specs.Prelude.{codes, is_some, nat_le, nat_lt, ◌==◌}
@@ -105,7 +105,7 @@ path-text p is =
     let x = and_parts (nat_le (length p) 4095) _ is in
     ((and_parts (list_all is_text_byte p) _ x.1).0, leb-true (length p) 4095 x.0)
 
--- a digit is a byte of texts
+-- a digit is a byte that texts may have
 digit_text : (b : ℕ) → is_ascii_digit b ≡ true → is_text_byte b ≡ true
 unfolding is_text_byte
 digit_text b digit = let bounds = digit_bounds b digit in grind (arith, nat_tests, bounds.0, bounds.1)
@@ -118,7 +118,7 @@ digits_text (b ∷ bs) all = let parts = and_parts (is_ascii_digit b) (list_all 
 abbrev pub fields_line : ℕ → List ℕ → List ℕ → List ℕ
 fields_line letter first second = letter ∷ 9 ∷ first ++ 9 ∷ second
 
--- what is read of a field
+-- conditions on the text of a field
 record IsField (text : List ℕ) : Type 0 where
   bytes : list_all is_text_byte text ≡ true
   short : length text ≤ 4095
@@ -224,7 +224,7 @@ pub sorted-distinct : (es : List (List ℕ × Entry)) → T (is_sorted path_cmp 
 sorted-distinct [] sorted = λ i j d before within. absurd (omega arith)
 sorted-distinct (e ∷ es) sorted = AllPairs-cons (λ one other. one.0 ≢ other.0) e es (below-apart e.0 es (first _ _ sorted)) (sorted-distinct es (second _ _ sorted))
 
--- a path that none of those done has isn't found among them
+-- a path that is distinct from all those done isn't found among them
 pub none-alike : (done : List (List ℕ × Entry)) (e : List ℕ × Entry) (es : List (List ℕ × Entry)) → AreDistinct (done ++ e ∷ es) → find path_cmp e.0 done ≡ None
 none-alike [] e es distinct = refl
 none-alike (d ∷ ds) e es distinct =
@@ -236,7 +236,7 @@ none-alike (d ∷ ds) e es distinct =
       | inr away ↦ rw (away, none-alike ds e es (λ i j x before within. distinct (suc i) (suc j) x (omega arith) (omega arith))) refl
     ]
 
--- none of those done lies close to the next
+-- the next is neither above nor beneath any of those done
 not-crowded : (done : List (List ℕ × Entry)) (e : List ℕ × Entry) (es : List (List ℕ × Entry)) → find path_cmp e.0 done ≡ None → IsTree (from_entries (done ++ e ∷ es)) → is_crowded (from_entries done) e.0 ≡ false
 unfolding is_crowded
 not-crowded done e es none tree = any-keys (is_close e.0) (map.keys (from_entries {R = path_cmp} done)) (λ q some.
@@ -260,7 +260,7 @@ next-read : (more : ℕ) (p : List ℕ) (e : Entry) (rest : List ℕ) → 0 < mo
 next-read zero p e rest some path entry = absurd (omega arith)
 next-read (suc more) p e rest some path entry = entry-again p e rest path entry
 
--- the entries to come, read after those done
+-- the remaining entries, read after those done
 again : (more number : ℕ) (done todo : List (List ℕ × Entry)) (rest : List ℕ) → AreDistinct (done ++ todo) → IsTree (from_entries (done ++ todo)) → length todo ≤ more
     → entries_at more number (from_entries done) (flat_map entry_line todo ++ (codes "end\n" ++ rest)) ≡ Ok (from_entries (done ++ todo), rest)
 again more number done [] rest distinct tree few =
@@ -289,7 +289,7 @@ pub header-read : (bytes : List ℕ) → inventory_of (codes "unitadm-inventory 
 unfolding after_prefix
 header-read bytes = refl
 
--- An inventory is read as its tree, in whatever order its entries stand.
+-- An inventory is read as its tree, in whatever order its entries are.
 pub inventory_read : (bytes : List ℕ) (m : Entries) (rest : List ℕ) → IsInventory bytes m rest → inventory_of bytes ≡ Ok (m, rest)
 inventory_read bytes m rest is =
     ap inventory_of is.text ∙ header-read (flat_map entry_line is.entries ++ (codes "end\n" ++ rest))

@@ -1,4 +1,4 @@
--- What becomes of pieces when one of them is changed.
+-- The pieces after one of them is changed.
 use Rattle.std.proofs.Common.{Bool, ◌≡◌, ◌<◌, ◌≤◌, ◌+◌, ◌/◌, ℕ, zero, suc, true, false, not, T, List, [], ◌∷◌, ◌++◌, length, take, drop, Some, None, Result, Ok, Err, refl, sym, ap, subst, ◌∙◌, append-nil, arith}
 use Rattle.std.specs.Prelude.{slice_get, slice_set, OnOk, OnErr, is_some}
 use Rattle.std.specs.List.{insert, filter}
@@ -23,7 +23,7 @@ use Rattle.link_tree.proofs.Rows.{found_within, within_found, parted, set_parted
 pub set_same : {X : Type 0} → (xs : List X) (i : ℕ) (x : X) → slice_get xs i ≡ Some x → slice_set xs i x ≡ xs
 set_same xs i x is = set_parted xs i x x is ∙ sym (parted xs i x is)
 
--- what follows from a result
+-- consequences of a result
 pub on_ok : {A E P Q : Type 0} → (r : Result A E) → (P → Q) → OnOk r P → OnOk r Q
 on_ok (Ok value) f p = f p
 on_ok (Err e) f p = tt
@@ -50,14 +50,14 @@ module _ (ps : List (List Item)) (order : AreInOrder ps) where
   pub hold_same : (new : List (List Item)) → NoneIsEmpty new → joined new ≡ joined ps → AreInOrder new × (joined new ≡ joined ps)
   hold_same new some is = hold _ new (holds order.0) some is
 
-  -- one piece was changed, or after an error is as it was
+  -- one piece was changed, or is unchanged after an error
   pub set_becomes : {A : Type 0} (wanted : List Item) (r : Result A AllocError) (i : ℕ) (p new : List Item) → slice_get ps i ≡ Some p → OnErr r (new ≡ p) → OnOk r (AreInOrder (slice_set ps i new) × (joined (slice_set ps i new) ≡ wanted)) → Become ps (slice_set ps i new) wanted r
   set_becomes wanted (Ok value) i p new is err ok = ok
   set_becomes wanted (Err e) i p new is err ok =
       let same : slice_set ps i new ≡ ps = ap (slice_set ps i) err ∙ set_same ps i p is in
       (subst AreInOrder (sym same) order, ap joined same)
 
-  -- an error that is handed on leaves the pieces
+  -- an error that is passed on leaves the pieces unchanged
   pub unchanged : {A : Type 0} (wanted : List Item) (new : List (List Item)) → new ≡ ps → (e : AllocError) (r : Result A AllocError) → r ≡ Err e → Become ps new wanted r
   unchanged wanted new same e r is = subst (Become ps new wanted) (sym is) (subst AreInOrder (sym same) order, ap joined same)
 
@@ -81,7 +81,7 @@ module _ (ps : List (List Item)) (order : AreInOrder ps) where
     pub taken_at : {n : ℕ} → n ≡ length ps → is_first path (behind ps i at) ≡ true → i < n
     taken_at len taken = subst (λ n. i < n) (sym len) (taken_inside taken)
 
-    -- what stands at the path, where something does
+    -- the entry at the path, if there is one
     pub found_there : is_first path (behind ps i at) ≡ true → find path_cmp path (joined ps) ≡ option_map (λ (item : Item). item.1) (first_of (behind ps i at))
     found_there taken = ap (find path_cmp path) (joined_at ps i at) ∙ find_at path (before ps i at) (behind ps i at) spot.below ∙ find_first path (behind ps i at) taken
 
@@ -99,7 +99,7 @@ module _ (ps : List (List Item)) (order : AreInOrder ps) where
     pub from_there : filter (λ (item : Item). is_le (path_cmp path item.0)) (joined ps) ≡ behind ps i at
     from_there = ap (filter (λ (item : Item). is_le (path_cmp path item.0))) (joined_at ps i at) ∙ from_at path (before ps i at) (behind ps i at) spot.below ∙ from_first path (behind ps i at) parts_order spot.from
 
-    -- nothing is first where nothing is found
+    -- if nothing is found at the path, the first entry is not at it
     free_there : find path_cmp path (joined ps) ≡ None → is_first path (behind ps i at) ≡ false
     free_there none = elim (behind ps i at) as (λ es. behind ps i at ≡ es → is_first path es ≡ false) [
       | [] ↦ λ is. refl
@@ -109,7 +109,7 @@ module _ (ps : List (List Item)) (order : AreInOrder ps) where
       ] refl
     ] refl
 
-    -- behind the last piece, all entries come before the path
+    -- after the last piece: all entries come before the path
     pub all_below : slice_get ps i ≡ None → AllBelow path (joined ps)
     all_below is =
         subst (AllBelow path) (sym (joined_at ps i at ∙ ap (λ items. before ps i at ++ items) (behind_none ps i at is) ∙ append-nil (before ps i at))) spot.below
@@ -155,7 +155,7 @@ module _ (ps : List (List Item)) (order : AreInOrder ps) where
           hold_others path _ (All-append HasOne (take i ps) (drop (suc i) ps) (All-take HasOne i ps order.1) (All-drop HasOne (suc i) ps order.1))
           (gone ps i p is at there.0 there.1 (let within = spot.within p is in omega arith) ∙ others_there taken)
 
-  -- what was asked of a spot, of the pieces as borrows show them
+  -- the result of a query about a spot, for the pieces as borrows show them
   module _ {path own : List ℕ} {i at : ℕ} {qs rs : List (List Item)} {taken : Bool} (of : own ≡ path) (first : qs ≡ ps) (second : rs ≡ ps) (spot : IsSpot own qs i at) (asked : taken ≡ is_first own (behind rs i at)) where
     here : IsSpot path ps i at
     here = subst (λ p. IsSpot p ps i at) of (subst (λ xs. IsSpot own xs i at) first spot)
@@ -173,7 +173,7 @@ module _ (ps : List (List Item)) (order : AreInOrder ps) where
     put_last : put path_cmp path entry (joined ps) ≡ joined ps ++ (path, entry) ∷ []
     put_last = ap (put path_cmp path entry) (sym (append-nil (joined ps))) ∙ put_at path entry (joined ps) [] below
 
-    -- an entry behind all others: in the last piece, or as a piece of its own
+    -- an entry after all others: in the last piece, or as a piece of its own
     pub put_behind : AreInOrder (ps ++ ((path, entry) ∷ []) ∷ []) × (joined (ps ++ ((path, entry) ∷ []) ∷ []) ≡ put path_cmp path entry (joined ps))
     put_behind = hold_put path entry _ (All-push HasOne ps ((path, entry) ∷ []) order.1 (omega arith)) (joined-append ps (((path, entry) ∷ []) ∷ []) ∙ sym put_last)
 
@@ -186,7 +186,7 @@ module _ (ps : List (List Item)) (order : AreInOrder ps) where
         nothing : behind ps i at ≡ []
         nothing = behind_is ps i p is at ∙ ap (λ items. items ++ joined (drop (suc i) ps)) (drop_all at p end) ∙ ap joined (drop_all (suc i) ps last)
 
-  -- a piece cut in two, in a place that is its own
+  -- a piece split in two between two of its entries
   pub cut_becomes : (i at : ℕ) (p : List Item) → slice_get ps i ≡ Some p → 0 < at → at < length p → AreInOrder (insert (slice_set ps i (take at p)) (i + 1) (drop at p)) × (joined (insert (slice_set ps i (take at p)) (i + 1) (drop at p)) ≡ joined ps)
   cut_becomes i at p is some within =
       subst (λ n. AreInOrder (insert (slice_set ps i (take at p)) n (drop at p)) × (joined (insert (slice_set ps i (take at p)) n (drop at p)) ≡ joined ps)) (let next : suc i ≡ i + 1 = omega arith in next)
@@ -218,7 +218,7 @@ inside_half n m two half = (omega arith, omega arith)
 pub at_end : {n m : ℕ} → n ≡ m → m ≤ n
 at_end same = omega arith
 
--- the first entry stands elsewhere, or there is none
+-- the first entry is at another path, or there is none
 pub not_first : (path : List ℕ) (items : List Item) → first_of items ≡ None → is_first path items ≡ false
 not_first path [] none = refl
 not_first path (item ∷ items) none = none_some item (sym none)

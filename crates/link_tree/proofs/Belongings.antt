@@ -1,4 +1,4 @@
--- What belongs to a name when one entry has changed.
+-- The links that belong to a name after one entry has changed.
 use Rattle.std.proofs.Common.{◌≡◌, ℕ, Bool, true, false, cond, not, ◌&&◌, T, List, [], ◌∷◌, Option, Some, None, refl, sym, ap, subst, ◌∙◌, inl, inr}
 use Rattle.std.specs.Prelude.{map as list_map}
 use Rattle.std.specs.List.{filter}
@@ -21,7 +21,7 @@ use Rattle.name_lists.specs.Lists.{with_path, without_path, relisted}
 use Rattle.link_tree.specs.Links.{belongs}
 use Rattle.link_tree.specs.Belonging.{belonging, holds_at}
 
--- those entries of a map that pass a test are a map
+-- the entries of a map that pass a test are a map
 module _ (f : List ℕ → Entry → Bool) where
   abbrev kept : List (List ℕ × Entry) → List (List ℕ × Entry)
   kept es = filter (λ e. f e.0 e.1) es
@@ -137,7 +137,7 @@ keys_set f scope name p (Some e) m = elim (belongs scope name p e) as (λ b. map
   | false ↦ keys_removed m p
 ]
 
--- the list of a name, by the list before
+-- the list of a name, computed from the list before
 pub belonging_set : (scope : Scope) (name : List ℕ) (m : Entries) (p : List ℕ) (o : Option Entry) → belonging scope name (set_entry m p o) ≡ relisted (holds_at scope name p o) p (belonging scope name m)
 belonging_set scope name m p o =
     ap (list_map (λ e. e.0)) (sym (entries_those (belongs scope name) (set_entry m p o)))
@@ -145,7 +145,7 @@ belonging_set scope name m p o =
     ∙ keys_set (belongs scope name) scope name p o (those (belongs scope name) m)
     ∙ ap (λ es. relisted (holds_at scope name p o) p (list_map (λ e. e.0) es)) (entries_those (belongs scope name) m)
 
--- what isn't there needn't be taken away
+-- removing what isn't there changes nothing
 not_there : (m : Entries) (p : List ℕ) → map.get m p ≡ None → map.remove m p ≡ m
 not_there m p none = same_tree _ _ (λ q. map.get-remove nat_list_cmp_total m p q ∙ elim (cases_Bool (eq_by_cmp path_cmp q p)) as (λ x. cond (eq_by_cmp path_cmp q p) None (map.get m q) ≡ map.get m q) [
   | inl here ↦ ap (λ b. cond b None (map.get m q)) here ∙ sym (ap (map.get m) (same_key q p here) ∙ none)
@@ -156,7 +156,7 @@ none_held : (scope : Scope) (name p : List ℕ) (o : Option Entry) → holds_at 
 none_held scope name p None none = refl
 none_held scope name p (Some e) none = ap (λ b. cond b (Some e) None) none
 
--- the list of a name to which belongs neither what stood at the path nor what stands there
+-- the list of a name to which neither the old nor the new entry at the path belongs
 pub belonging_kept : (scope : Scope) (name : List ℕ) (m : Entries) (p : List ℕ) (o : Option Entry) → holds_at scope name p (map.get m p) ≡ false → holds_at scope name p o ≡ false → belonging scope name (set_entry m p o) ≡ belonging scope name m
 belonging_kept scope name m p o was now =
     ap (list_map (λ e. e.0)) (sym (entries_those (belongs scope name) (set_entry m p o)))

@@ -1,4 +1,4 @@
--- What stands beneath a path: in byte order, from the first path that can.
+-- The entries beneath a path: in byte order, from the first path that can be beneath it.
 use Rattle.std.proofs.Common.{◌≡◌, refl, ℕ, Bool, true, false, T, ◌||◌, List, [], ◌∷◌, ◌++◌, Option, Some, None, sym, ◌∙◌, ap, inl, inr, codes, append_assoc}
 use Rattle.std.specs.List.{list_any, filter}
 use Rattle.std.specs.Option.{option_map_or}
@@ -19,11 +19,11 @@ use Rattle.link_tree.proofs.Aboves.{key_path, any_or}
 use Rattle.link_tree.proofs.Maps.{first, second, less}
 use Rattle.link_tree.proofs.Keys.{same-found, or_true, any-keys}
 
--- whether the first of some entries lies beneath a path
+-- whether the first of some entries is beneath a path
 abbrev pub first_is : List ℕ → Option Item → Bool
 first_is path first = option_map_or (λ (e : Item). is_beneath e.0 path) first false
 
--- an entry is the first path that can lie beneath, or comes behind it
+-- an entry is the first path that can be beneath, or comes after it
 abbrev is_from : List ℕ → Item → Bool
 is_from path e = is_le (path_cmp (path ++ codes "/" ++ codes "\u{1}") e.0)
 
@@ -38,7 +38,7 @@ first_decides : (path : List ℕ) (e : Item) (es : List Item) (b : Bool) → is_
 first_decides path e es true here from all = rw here refl
 first_decides path e es false here from all = let rest = none_later path e.0 es from here all in rw (here, rest) refl
 
--- The first of the entries from there on decides.
+-- It depends only on the first of the entries from there on.
 pub first_beneath_decides : (path : List ℕ) (es : List Item) → T (is_sorted path_cmp es) → ((key : List ℕ) → list_any (eq_by_cmp path_cmp key) (keys_of es) ≡ true → is_path key ≡ true) → first_is path (first_of (filter (is_from path) es)) ≡ list_any (λ other. is_beneath other path) (keys_of es)
 first_beneath_decides path [] sorted paths = refl
 first_beneath_decides path (e ∷ es) sorted paths =
@@ -50,7 +50,7 @@ first_beneath_decides path (e ∷ es) sorted paths =
           )
     ]
 
--- where no path can lie beneath, none does
+-- if no path can be beneath, none is
 pub none_beneath : (path : List ℕ) (keys : List (List ℕ)) → is_path path ≡ true → first_beneath path ≡ None → ((key : List ℕ) → list_any (eq_by_cmp path_cmp key) keys ≡ true → is_path key ≡ true) → list_any (λ other. is_beneath other path) keys ≡ false
 none_beneath path keys is none paths = any-keys (λ other. is_beneath other path) keys (λ key some. false_from_ne_true (is_beneath key path) (λ beneath.
     let at = beneath-parts key path beneath in
@@ -58,13 +58,13 @@ none_beneath path keys is none paths = any-keys (λ other. is_beneath other path
     let there : first_beneath path ≡ Some (path ++ codes "/" ++ codes "\u{1}") = rw first refl in
     cc))
 
--- The first of a tree's entries from there on decides.
+-- It depends only on the first of a tree's entries from there on.
 pub first_found : (path first : List ℕ) (m : Entries) → IsTree m → first_beneath path ≡ Some first → first_is path (first_of (filter (λ (e : Item). is_le (path_cmp first e.0)) (map.entries m))) ≡ list_any (λ other. is_beneath other path) (map.keys m)
 first_found path first m tree at =
     ap (λ text. first_is path (first_of (filter (λ (e : Item). is_le (path_cmp text e.0)) (map.entries m)))) (sym (first_at path first at))
     ∙ first_beneath_decides path (map.entries m) (map.entries_sorted m) (λ key some. key_path m key tree some)
 
--- a path is crowded by what stands above it and by what stands beneath
+-- a path is crowded by the entries above it and by those beneath it
 pub crowded_or : (m : Entries) (path : List ℕ) → is_crowded m path ≡ (list_any (is_beneath path) (map.keys m) || list_any (λ other. is_beneath other path) (map.keys m))
 unfolding is_crowded is_close
 crowded_or m path = any_or (is_close path) (is_beneath path) (λ other. is_beneath other path) (λ other. refl) (map.keys m)

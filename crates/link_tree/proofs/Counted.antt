@@ -1,4 +1,4 @@
--- The bytes of what is written of a tree can be counted.
+-- The number of bytes written for a tree can be counted without overflow.
 use Rattle.std.proofs.Common.{◌≡◌, ℕ, ◌*◌, ◌^◌, ◌<◌, ◌≤◌, true, List, [], ◌∷◌, ◌++◌, length, codes, ap, sym, subst, arith, append_assoc, length-append}
 use Rattle.std.specs.List.{flat_map}
 use Rattle.std.specs.Fmt.{decimal}
@@ -17,7 +17,7 @@ use Rattle.link_tree.specs.declared.entry.Entry.{Entry}
 use Rattle.link_tree.specs.declared.entry.Entry.TheVariants.{File, Link}
 use Rattle.link_tree.proofs.Again.{entry-fits, found-at, made_of, none-alike, path-text, sorted-distinct, target-text}
 
--- more than the lines of an entry have
+-- more bytes than the lines of an entry have
 abbrev pub most_of_line : ℕ
 most_of_line = 2097152
 

@@ -15,7 +15,7 @@ use Rattle.link_tree.proofs.Changed.{is_at, get-set_entry}
 use Rattle.link_tree.proofs.Same.{same_entries}
 use Rattle.link_tree.specs.Differences.{same, change, with_change, difference, differences}
 
--- what the changes hold at a path
+-- the value of the changes at a path
 abbrev pub change_at : Entries → Entries → List ℕ → Option Change
 change_at t u q = cond (same (map.get t q) (map.get u q)) None (Some (change q (map.get t q) (map.get u q)))
 
@@ -64,7 +64,7 @@ module _ (t u : Entries) (q : List ℕ) where
   no_entry None h = refl
   no_entry (Some entry) h = absurd (false≢true (sym h))
 
-  -- what stands in neither tree is alike in both
+  -- a path that is in neither tree has no change
   all_paths : (b : Bool) → list_any (is_at q) (map.keys t ++ map.keys u) ≡ b → cond b (change_at t u q) None ≡ change_at t u q
   all_paths true h = refl
   all_paths false h =
@@ -85,7 +85,7 @@ pub same-itself : (o : Option Entry) → same o o ≡ true
 same-itself None = refl
 same-itself (Some entry) = (same_entries entry entry).1 refl
 
--- a tree has no changes from itself
+-- there are no changes from a tree to itself
 pub differences-same : (t : Entries) → differences t t ≡ map.empty
 differences-same t = same_differences (differences t t) map.empty (λ q. get-differences t t q ∙ ap (λ b. cond b None (Some (change q (map.get t q) (map.get t q)))) (same-itself (map.get t q)) ∙ sym (map.get-empty path_cmp q))
 
@@ -95,11 +95,11 @@ same_is None (Some e) h = absurd (false≢true h)
 same_is (Some e) None h = absurd (false≢true h)
 same_is (Some one) (Some other) h = ap (λ entry. Some entry) ((same_entries one other).0 h)
 
--- the change at a path, by what stands there now
+-- the change at a path, by the entry there now
 abbrev change_to : Entries → List ℕ → Option Entry → Option Change
 change_to t q there = cond (same (map.get t q) there) None (Some (change q (map.get t q) there))
 
--- what is noted when an entry is set is what has changed then
+-- the change recorded when an entry is set is the actual change at its path
 pub differences-set : (t u : Entries) (p : List ℕ) (o : Option Entry) → with_change (differences t u) p (map.get t p) o ≡ differences t (set_entry u p o)
 differences-set t u p o = same_differences _ _ (λ q. noted q ∙ sym (get-differences t (set_entry u p o) q ∙ ap (λ there. cond (same (map.get t q) there) None (Some (change q (map.get t q) there))) (get-set_entry u p o q)))
   where

@@ -1,4 +1,4 @@
--- Where a path has its place: in a piece, and among the pieces by their last entries.
+-- The place of a path: in a piece, and among the pieces by their last entries.
 use Rattle.std.proofs.Common.{◌≡◌, ◌<◌, ◌≤◌, ◌-◌, ℕ, zero, suc, Bool, true, false, T, List, [], ◌∷◌, ◌++◌, length, take, drop, Some, None, refl, sym, ap, subst, ◌∙◌, append-nil, append_assoc, ◌⊎◌, inl, inr, arith}
 use Rattle.std.specs.Prelude.{slice_get, slice_index_or}
 use Rattle.std.specs.List.{AllWithin}
@@ -61,7 +61,7 @@ module _ (path : List ℕ) where
       ap (last_is_below (e ∷ f ∷ es)) (let n : length (e ∷ f ∷ es) - 1 ≡ suc (length es) = omega arith in n)
       ∙ ap (last_is_below (f ∷ es)) (let n : length es ≡ length (f ∷ es) - 1 = omega arith in n)
 
-  -- where the last entry comes before the path, all do
+  -- if the last entry comes before the path, all do
   pub ends_all : (es : List Item) → T (is_sorted path_cmp es) → ends_before path es ≡ true → AllBelow path es
   ends_all [] order is = All-nil (IsBefore path)
   ends_all (e ∷ []) order is = All-cons (IsBefore path) e [] is (All-nil (IsBefore path))
@@ -78,12 +78,12 @@ module _ (path : List ℕ) where
   all_left [] cs all = All-nil (IsBefore path)
   all_left (b ∷ bs) cs all = All-cons (IsBefore path) b bs (All-head (IsBefore path) b (bs ++ cs) all) (all_left bs cs (All-tail (IsBefore path) b (bs ++ cs) all))
 
-  -- what comes before a list of entries before the path does so too
+  -- entries before a list of entries that are before the path are also before it
   all_before : (bs cs : List Item) → T (is_sorted path_cmp (bs ++ cs)) → AllBelow path cs → 0 < length cs → AllBelow path (bs ++ cs)
   all_before bs [] order all some = absurd (omega arith)
   all_before bs (c ∷ cs) order all some = All-append (IsBefore path) bs (c ∷ cs) (before_entry path bs c cs order (All-head (IsBefore path) c cs all)) all
 
-  -- a piece that ends before the path has only pieces before it that do
+  -- all pieces before a piece that ends before the path also end before it
   upto_end : (ps : List (List Item)) (j : ℕ) (d : List Item) → T (is_sorted path_cmp (joined ps)) → NoneIsEmpty ps → j < length ps → ends_before path (slice_index_or ps j d) ≡ true → AllBelow path (joined (take (suc j) ps))
   upto_end [] j d order some within is = absurd (omega arith)
   upto_end (p ∷ ps) zero d order some within is =
@@ -116,7 +116,7 @@ module _ (path : List ℕ) where
   pieces_parted (p ∷ ps) order some (suc i) (suc j) d upto within is =
       pieces_parted ps (order_right p (joined ps) order) (All-tail HasOne p ps some) i j d (omega arith) (omega arith) is
 
-  -- a piece that doesn't end before the path, behind one that does, is the first
+  -- a piece that doesn't end before the path, right after one that does, is the first
   module _ (ps : List (List Item)) (order : AreInOrder ps) where
     pub ends_upto : (i j : ℕ) (p : List Item) → i ≡ suc j → slice_get ps j ≡ Some p → ends_before path p ≡ true → AllWithin (λ piece. ends_before path piece ≡ true) ps 0 i
     ends_upto i j p next is ends k d low high =
@@ -176,7 +176,7 @@ module _ (path : List ℕ) where
         starts [] from more = absurd (omega arith)
         starts (b ∷ bs) from more = from
 
-    -- the place behind all pieces
+    -- the place after all pieces
     pub spot_behind : slice_get ps i ≡ None → IsSpot path ps i 0
     spot_behind is = record {
       below = All-append (IsBefore path) (joined (take i ps)) [] (earlier_below ps i (holds order.0) order.1 upto point.0) (All-nil (IsBefore path));

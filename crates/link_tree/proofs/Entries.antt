@@ -1,4 +1,4 @@
--- One entry more of an inventory.
+-- One more entry of an inventory.
 use Rattle.std.proofs.Common.{append_assoc, [], ◌∷◌, ◌++◌, ◌≡◌, ℕ, ◌+◌, ◌-◌, ◌<◌, ◌≤◌, Bool, true, false, List, Option, None, Some, Result, Ok, Err, refl, sym, ap, ◌∙◌, arith, zero, suc, subst, nat_le}
 use Rattle.std.specs.Option.{is_some}
 use Rattle.std.proofs.lemmas.Bool.{leb-true}
@@ -28,7 +28,7 @@ abbrev pub has_room : ℕ → Bool
 has_room zero = false
 has_room (suc more) = true
 
--- the next entry, where so many more may come
+-- the next entry, if at most this number of entries may still follow
 abbrev pub next_of : ℕ → List ℕ → Result (Option Next × List ℕ) InventoryFault
 next_of more bytes = entry_at (has_room more) (front_line 16384 bytes)
 
@@ -57,7 +57,7 @@ entries_at-more (suc more) number m m' bytes rest entry room e p =
 abbrev pub Read : Type 0
 Read = Result Entries (InventoryFault × ℕ)
 
--- what was read gives, with whatever follows what was taken, what all of it gives
+-- the entries read, with whatever follows the bytes taken, give the result of the whole input
 abbrev pub Reached : Option (List ℕ) → Option (List ℕ) → ℕ → Read → Type 0
 Reached first now number read = Takes first now (λ taken rest. (more : List ℕ) → (read >>= λ m. entries_at (65537 - number) number m more) ≡ entries_at 65536 1 map.empty (taken ++ more))
 
@@ -71,11 +71,11 @@ pub room_of : (number more : ℕ) → 65537 - number ≡ more → nat_le number 
 room_of number zero h = grind (arith, nat_tests)
 room_of number (suc more) h = grind (arith, nat_tests)
 
--- there is room where an entry was read
+-- there was room if an entry was read
 pub has_come : (number : ℕ) (o : Option Next) (entry : Next) → o ≡ Some entry → (is_some o ≡ true → nat_le number 65536 ≡ true) → number ≤ 65536
 has_come number o entry some room = leb-true number 65536 (room (ap is_some some))
 
--- the step that reads one entry more
+-- the step that reads one more entry
 step : (more number : ℕ) (read : Read) (bytes rest : List ℕ) (entry : Next) → 0 < more → next_of more bytes ≡ Ok (Some entry, rest) → (read >>= λ m. entries_at more number m bytes) ≡ (with_entry read number entry >>= λ m. entries_at (more - 1) (number + 1) m rest)
 step more number (Err f) bytes rest entry room e = refl
 step more number (Ok m) bytes rest entry room e = one (placed m entry) refl
@@ -91,14 +91,14 @@ module _ (first mid new : Option (List ℕ)) (number : ℕ) (read : Read) (so_fa
       let here = subst (λ (room : Bool). ReadsFront (λ o. o) new r (entry_at room (front_line 16384 at.0))) (room_of number (65537 - number) refl) (reads at.0 at.1) in
       (at.0, subst (λ (y : Result (Option Next) (ReadError InventoryFault)). ReadsFront (λ o. o) new y (next_of (65537 - number) at.0)) is here, at.2)
 
-  -- the entry that came, behind what was taken before
+  -- the entry that was read, after the bytes taken before
   pub came_next : (o : Option Next) (entry : Next) → r ≡ Ok o → o ≡ Some entry → (left : List ℕ) → mid ≡ Some left → (rest : List ℕ) × (new ≡ Some rest) × Taken (next_of (65537 - number)) left (Some entry) rest
   came_next o entry is some left e =
       let here = subst (λ (room : Bool). ReadsFront (λ o. o) new r (entry_at room (front_line 16384 left))) (room_of number (65537 - number) refl) (reads left e) in
       let at = subst (λ (y : Result (Option Next) (ReadError InventoryFault)). ReadsFront (λ o. o) new y (next_of (65537 - number) left)) (is ∙ ap (λ (x : Option Next). Ok x) some) here in
       (at.0, at.1, entry_taken (has_room (65537 - number)) left (Some entry) at.0 at.2)
 
-  -- where the pending entries can't be placed, neither can all
+  -- if the pending entries can't be placed, neither can all
   pub reached_stop : (f : InventoryError) (now : Read) → GivesOn (Err f) now read → TreeOf new (Err f) (entries_at 65536 1 map.empty bytes)
   reached_stop (inventories.Fault fault k) now stop =
       let at = reached_rest first mid number read so_far bytes e in
@@ -118,7 +118,7 @@ module _ (first mid new : Option (List ℕ)) (number : ℕ) (read : Read) (so_fa
   reached_bad errors.ReadFault m is all = tt
   reached_bad errors.OutOfMemory m is all = tt
 
-  -- with one entry more
+  -- with one more entry
   one_more : (o : Option Next) (entry : Next) → r ≡ Ok o → o ≡ Some entry → number ≤ 65536 → (rest : List ℕ) × (new ≡ Some rest) × ((with_entry read number entry >>= λ m. entries_at (65537 - (number + 1)) (number + 1) m rest) ≡ entries_at 65536 1 map.empty bytes)
   one_more o entry is some room =
       let at = seen (Ok (Some entry)) (is ∙ ap (λ (x : Option Next). Ok x) some) in

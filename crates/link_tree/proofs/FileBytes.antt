@@ -35,7 +35,7 @@ contents_undecided size items all =
     let none : drop size items ≡ [] = drop_all size items (omega (arith, all)) in
     contents_long size items (omega (arith, all)) ∙ ap (ended (take size items)) none
 
--- the size of a file that may be
+-- the size of an allowed file
 pub sized : (size : ℕ) (items : List ℕ) → size ≤ MAX_FILE → length items ≡ size → is_contents items ≡ true
 unfolding is_contents
 sized size items few all = grind (arith, nat_tests)
@@ -61,7 +61,7 @@ module _ (size : ℕ) (bytes items : List ℕ) (mid new : Option (List ℕ)) (is
       let ended_at = gave_end mid new here.0 here.1 (drop size bytes) is.2 in
       contents_long size bytes is.0 ∙ ap (ended (take size bytes)) ended_at.1
 
--- a line end stands behind a file's bytes
+-- a line end follows a file's bytes
 ended_is : (contents found after rest : List ℕ) → ended contents after ≡ Ok (found, rest) → (contents ≡ found) × (after ≡ 10 ∷ rest)
 ended_is contents found [] rest h = no_ok h
 ended_is contents found (b ∷ bs) rest h =
@@ -69,7 +69,7 @@ ended_is contents found (b ∷ bs) rest h =
     let parts : (contents, bs) ≡ (found, rest) = ok_is at.1 in
     (ap (λ x. x.0) parts, λ i. eqb-true b 10 at.0 i ∷ (parts i).1)
 
--- The bytes of a file are so many, and a line end stands behind them.
+-- The file has the stated number of bytes, and a line end follows them.
 pub contents_are : (size : ℕ) (bytes found rest : List ℕ) → contents_at size bytes ≡ Ok (found, rest) → (length found ≡ size) × (bytes ≡ found ++ 10 ∷ rest)
 unfolding contents_at
 contents_are size bytes found rest h =

@@ -1,4 +1,5 @@
--- Entries at slots come into a tree in any order that keeps those at one path in theirs.
+-- Entries at slots can be added to a tree in any order that keeps the order of those at the same
+-- path.
 use Rattle.std.proofs.Common.{◌≡◌, ℕ, ◌+◌, ◌<◌, Bool, true, false, not, ◌&&◌, cond, List, [], ◌∷◌, ◌++◌, Option, None, Some, Result, Ok, Err, All, refl, sym, ap, ◌∙◌, subst, inl, inr, arith}
 use Rattle.std.specs.Prelude.{is_some, min}
 use Rattle.std.specs.List.{filter}
@@ -26,21 +27,21 @@ use Rattle.link_tree.proofs.Shapes.{grown_tree, same_key}
 use Rattle.link_tree.proofs.Free.{slot_free}
 use Rattle.unit_paths.proofs.Slots.{slot_shape}
 
--- the least number so far of an entry whose path was taken
+-- the smallest number so far of an entry whose path was taken
 abbrev pub noted : Bool → Option ℕ → ℕ → Option ℕ
 noted true least number = Some (earlier least number)
 noted false least number = least
 
--- all are put in, in this order
+-- all are inserted, in this order
 abbrev pub inserted : Option ℕ → Entries → List PendingEntry → Option ℕ × Entries
 inserted least m [] = (least, m)
 inserted least m (a ∷ xs) = inserted (noted (is_some (map.get m a.path)) least a.number) (map.insert m a.path a.entry) xs
 
--- whether they are at one path
+-- whether they are at the same path
 abbrev same : PendingEntry → PendingEntry → Bool
 same a b = eq_by_cmp path_cmp a.path b.path
 
--- two numbers are noted in either order
+-- two numbers can be noted in either order
 min-comm : (k i j : ℕ) → min (min k i) j ≡ min (min k j) i
 min-comm k i j = omega arith
 
@@ -54,7 +55,7 @@ noted_swap true false least i j = refl
 noted_swap false true least i j = refl
 noted_swap false false least i j = refl
 
--- what stands at one path isn't changed at another
+-- an insertion at one path doesn't change the entry at another
 other_kept : (m : Entries) (a b : PendingEntry) → same a b ≡ false → map.get (map.insert m b.path b.entry) a.path ≡ map.get m a.path
 other_kept m a b other = get-insert nat_list_cmp_total m b.path b.entry a.path ∙ ap (λ t. cond t (Some b.entry) (map.get m a.path)) other
 
@@ -74,7 +75,7 @@ inserted_swap m a b other = same_map nat_list_cmp_total exact_bytes _ _ (λ q.
     (λ at_a at_b. false≢true (sym other ∙ ap (λ p. eq_by_cmp path_cmp p b.path) (sym (same_key q a.path at_a)) ∙ at_b))
     ∙ sym (get-insert nat_list_cmp_total (map.insert m a.path a.entry) b.path b.entry q ∙ ap (cond (eq_by_cmp path_cmp q b.path) (Some b.entry)) (get-insert nat_list_cmp_total m a.path a.entry q)))
 
--- two entries at two paths come in either order
+-- two entries at different paths can be added in either order
 swap : (least : Option ℕ) (m : Entries) (a b : PendingEntry) (rest : List PendingEntry) → same a b ≡ false → inserted least m (b ∷ a ∷ rest) ≡ inserted least m (a ∷ b ∷ rest)
 swap least m a b rest other =
     let kept_a = ap is_some (other_kept m a b other) in
@@ -86,7 +87,7 @@ swap least m a b rest other =
     ∙ sym (ap (λ t. noted t (noted (is_some (map.get m a.path)) least a.number) b.number) kept_b) in
     λ i. inserted (numbers i) (inserted_swap m a b other i) rest
 
--- lists without the elements that pass a test
+-- lists in which no element passes a test
 cons_none : {X : Type 0} (x : X) (xs : List X) → x ∷ xs ≡ [] → ⊥
 cons_none x xs h = cc
 
@@ -94,7 +95,7 @@ none_first : {X : Type 0} (b : Bool) (x : X) (xs : List X) → cond b (x ∷ xs)
 none_first true x xs h = absurd (cons_none x xs h)
 none_first false x xs h = (refl, h)
 
--- an entry comes first, where none before it is at its path
+-- an entry can be moved to the front if none before it is at its path
 to_front : (least : Option ℕ) (m : Entries) (a : PendingEntry) (front back : List PendingEntry) → filter (same a) front ≡ [] → inserted least m (front ++ a ∷ back) ≡ inserted least m (a ∷ front ++ back)
 to_front least m a [] back none = refl
 to_front least m a (b ∷ front) back none =
@@ -108,7 +109,7 @@ cons_head h = cc
 cons_rest : {X : Type 0} {x y : X} {xs ys : List X} → x ∷ xs ≡ y ∷ ys → xs ≡ ys
 cons_rest h = cc
 
--- where the first that passes a test stands
+-- the position of the first element that passes a test
 pub record Split {X : Type 0} (p : X → Bool) (xs : List X) (a : X) : Type 0 where
   front : List X
   back : List X
@@ -132,14 +133,14 @@ split p (x ∷ xs) a rest h = elim (cases_Bool (p x)) [
   })
 ]
 
--- those at each path stand in the same order
+-- those at each path are in the same order
 abbrev pub KeepTurns : List PendingEntry → List PendingEntry → Type 0
 KeepTurns xs ys = (x : PendingEntry) → filter (same x) ys ≡ filter (same x) xs
 
 same_self : (a : PendingEntry) → same a a ≡ true
 same_self a = (eq_by_cmp_equiv nat_list_cmp_total).refl a.path
 
--- and do so without one that stands first of its path in both
+-- and still are without the entry that is the first of its path in both
 turns_left : (a : PendingEntry) (xs front back : List PendingEntry) → filter (same a) front ≡ [] → KeepTurns (a ∷ xs) (front ++ a ∷ back) → KeepTurns xs (front ++ back)
 turns_left a xs front back none turns x =
     let all = sym (filter-append (same x) front (a ∷ back)) ∙ turns x in
@@ -156,7 +157,7 @@ no_turns : (ys : List PendingEntry) → KeepTurns [] ys → ys ≡ []
 no_turns [] turns = refl
 no_turns (y ∷ ys) turns = absurd (cons_none y (filter (same y) ys) (sym (ap (λ t. cond t (y ∷ filter (same y) ys) (filter (same y) ys)) (same_self y)) ∙ turns y))
 
--- any order that keeps turns leads to the same
+-- any order that keeps the order at each path gives the same result
 pub inserted_alike : (least : Option ℕ) (m : Entries) (xs ys : List PendingEntry) → KeepTurns xs ys → inserted least m ys ≡ inserted least m xs
 inserted_alike least m [] ys turns = ap (inserted least m) (no_turns ys turns)
 inserted_alike least m (a ∷ xs) ys turns =
@@ -175,7 +176,7 @@ filter_twice p q weaker (x ∷ xs) = elim (cases_Bool (q x)) [
       ap (λ t. filter p (cond t (x ∷ filter q xs) (filter q xs))) other ∙ filter_twice p q weaker xs ∙ sym (ap (λ t. cond t (x ∷ filter p xs) (filter p xs)) out))
 ]
 
--- a stable sort by what is the same at one path keeps turns
+-- a stable sort by a key that is equal for equal paths keeps the order at each path
 module _ (key : List ℕ → ℕ) where
   abbrev tied : PendingEntry → PendingEntry → Bool
   tied = ties (λ x y. is_lt (nat_cmp (key x.path) (key y.path)))
@@ -190,7 +191,7 @@ module _ (key : List ℕ → ℕ) where
   turns_kept xs ys stable x =
       sym (filter_twice (same x) (tied x) (same_tied x) ys) ∙ ap (filter (same x)) (stable x) ∙ filter_twice (same x) (tied x) (same_tied x) xs
 
--- numbers that come later are greater
+-- later numbers are greater
 min-first : (k n : ℕ) → k < n → min k n ≡ k
 min-first k n less = omega arith
 
@@ -229,7 +230,7 @@ module _ (m : Entries) (a : PendingEntry) (xs : List PendingEntry) where
   one_inserted (Some e) there later free shape rest = taken_first e there later
   one_inserted None there later free shape rest = placed_first there free shape rest
 
--- in the order of their numbers, all are placed, or the first whose path is taken is told
+-- in the order of their numbers, all are placed, or the first whose path is taken is reported
 pub inserted_places : (m : Entries) (xs : List PendingEntry) → IsTree m → All IsAtSlot xs → AreRising xs → IsInserted (inserted None m xs).0 (inserted None m xs).1 (place_all m xs)
 inserted_places m [] tree slots rising = refl
 inserted_places m (a ∷ xs) tree slots rising =
@@ -238,12 +239,12 @@ inserted_places m (a ∷ xs) tree slots rising =
     one_inserted m a xs (map.get m a.path) refl rising.0 free (slot_shape a.path slot.0)
     (inserted_places (map.insert m a.path a.entry) xs (grown_tree m a.path a.entry tree slot.1 free) (All-tail IsAtSlot a xs slots) rising.1)
 
--- and so in any order that a stable sort gives
+-- and the same in any order that a stable sort gives
 pub inserted_as_read : (m : Entries) (xs ys : List PendingEntry) (taken : Option ℕ) (new : Entries) → IsTree m → All IsAtSlot xs → AreRising xs → IsStableByKey (λ a. sort_key a.path) nat_cmp xs ys → (taken, new) ≡ inserted None m ys → IsInserted taken new (place_all m xs)
 inserted_as_read m xs ys taken new tree slots rising stable is =
     subst (λ (r : Option ℕ × Entries). IsInserted r.0 r.1 (place_all m xs)) (sym (is ∙ inserted_alike None m xs ys (turns_kept sort_key xs ys stable))) (inserted_places m xs tree slots rising)
 
--- one entry more is pending
+-- one more entry is pending
 pub one_pending : (m : Entries) (xs : List PendingEntry) (a : PendingEntry) → place_all m (xs ++ a ∷ []) ≡ with_entry (place_all m xs) a.number (a.path, a.entry)
 one_pending m [] a = alone (placed m (a.path, a.entry))
   where

@@ -1,4 +1,4 @@
--- A slot is free: no entry is in its way.
+-- A slot is free: no entry conflicts with it.
 use Rattle.std.proofs.Common.{◌≡◌, ℕ, true, false, not, ◌&&◌, List, Option, Some, None, refl, ◌∙◌}
 use Rattle.std.specs.Prelude.{is_some}
 use Rattle.std.specs.FinMap as map
@@ -20,6 +20,6 @@ unfolding fits_at
 good_at m path None tree at some = absurd (false≢true some)
 good_at m path (Some entry) tree at some = not-true (is_bad_shape path) (and_parts (is_path path && is_entry entry) (not (is_bad_shape path)) (tree.fits path entry at)).1
 
--- no entry is in a slot's way
+-- no entry conflicts with a slot
 pub slot_free : (m : Entries) (slot : List ℕ) → IsTree m → is_slot slot ≡ true → is_crowded m slot ≡ false
 slot_free m slot tree is = crowded_is m slot ∙ any-keys (is_close slot) (map.keys m) (λ q some. slot_apart slot q is (good_at m q (map.get m q) tree refl (contains_key-keys m q ∙ some)))

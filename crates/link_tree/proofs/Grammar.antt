@@ -36,12 +36,12 @@ use Rattle.link_tree.proofs.Results.{both_ok, else_ok, no_ok, ok_is}
 use Rattle.link_tree.proofs.Undecided.{front_is}
 use Rattle.link_tree.proofs.GrammarLines.{line_is, line_text, IsSaid}
 
--- what stands at the front of bytes: an entry, where there is room for one, or the line `end`
+-- what is at the front of the bytes: an entry, if there is room for one, or the line `end`
 abbrev IsNext : Bool → List ℕ → Option Next → List ℕ → Type 0
 IsNext room bytes None rest = bytes ≡ codes "end\n" ++ rest
 IsNext room bytes (Some entry) rest = (room ≡ true) × (bytes ≡ entry_line entry ++ rest) × (is_path entry.0 ≡ true) × (is_entry entry.1 ≡ true)
 
--- the entry that a line begins: for a file its bytes stand behind the line
+-- the entry that a line begins: for a file its bytes follow the line
 said_is : (room : Bool) (said : EntryLine) (bytes after : List ℕ) (o : Option Next) (rest : List ℕ) → bytes ≡ line_text said ++ 10 ∷ after → IsSaid said → (if room then entry_of said after else end_of said after) ≡ Ok (o, rest) → IsNext room bytes o rest
 said_is true lines.End bytes after o rest is good h = subst (λ x. IsNext true bytes x.0 x.1) (ok_is h) is
 said_is true (lines.Link path target) bytes after o rest is good h = subst (λ x. IsNext true bytes x.0 x.1) (ok_is h) (refl, is ∙ sym (link-bytes path target after), good.0, good.1)
@@ -54,7 +54,7 @@ said_is false lines.End bytes after o rest is good h = subst (λ x. IsNext false
 said_is false (lines.Link path target) bytes after o rest is good h = no_ok h
 said_is false (lines.File path size) bytes after o rest is good h = no_ok h
 
--- what was read from the front of bytes stands there
+-- what was read from the front of the bytes is there
 next_is : (room : Bool) (bytes : List ℕ) (o : Option Next) (rest : List ℕ) → entry_at room (front_line 16384 bytes) ≡ Ok (o, rest) → IsNext room bytes o rest
 next_is room bytes o rest h =
     let at = both_ok (line_of_front (front_line 16384 bytes)) (λ found. if room then entry_of found.0 found.1 else end_of found.0 found.1) (o, rest) h in
@@ -67,7 +67,7 @@ not_some : (o : Option Entry) → is_some o ≡ false → o ≡ None
 not_some None h = refl
 not_some (Some e) h = absurd (false≢true (sym h))
 
--- An entry came into the tree: nothing stood at its path, and nothing above or beneath it.
+-- An entry was added to the tree: nothing was at its path, and nothing above or beneath it.
 record IsPlaced (m : Entries) (path : List ℕ) (entry : Entry) (m' : Entries) : Type 0 where
   free : map.get m path ≡ None
   apart : is_crowded m path ≡ false
@@ -91,7 +91,8 @@ not_among path (d ∷ ds) none = elim (cases_Bool (eq_by_cmp path_cmp path d.0))
       All-cons (λ one. one.0 ≢ path) d ds other (not_among path ds (rw away at none)))
 ]
 
--- What bytes were, of which a tree was read: the entries still to do after those done, and the line `end`.
+-- The form of bytes from which a tree was read: the remaining entries after those done, and the
+-- line `end`.
 record AreRead (more : ℕ) (done : List Next) (bytes : List ℕ) (m : Entries) (rest : List ℕ) : Type 0 where
   todo : List Next
   text : bytes ≡ flat_map entry_line todo ++ (codes "end\n" ++ rest)
@@ -100,7 +101,8 @@ record AreRead (more : ℕ) (done : List Next) (bytes : List ℕ) (m : Entries) 
   map : m ≡ from_entries (done ++ todo)
   tree : IsTree m
 
--- bytes of which a tree is read, where so many more entries may come, are entries and the line `end`
+-- bytes from which a tree is read, if at most this many more entries are allowed, are entries and
+-- the line `end`
 abbrev Reads : ℕ → Type 0
 Reads more = (number : ℕ) (done : List Next) (bytes : List ℕ) (m : Entries) (rest : List ℕ) → AreDistinct done → IsTree (from_entries done) → entries_at more number (from_entries done) bytes ≡ Ok (m, rest) → AreRead more done bytes m rest
 
@@ -147,7 +149,7 @@ module _ (more number : ℕ) (done : List Next) (bytes : List ℕ) (m : Entries)
         tree = next.tree;
       }
 
--- one entry more, or the end: the rest of the bytes has room for one entry less
+-- one more entry, or the end: the rest of the bytes has room for one entry less
 step : (more : ℕ) → (0 < more → Reads (more - 1)) → Reads more
 step more later number done bytes m rest distinct tree read = one (next_of more bytes) refl
   where
@@ -162,7 +164,7 @@ entries_are (suc more) =
     let less : more ≡ suc more - 1 = omega arith in
     step (suc more) (λ some. subst Reads less (entries_are more))
 
--- What is read as a tree is an inventory.
+-- Bytes that are read as a tree are an inventory.
 inventory_is : (bytes : List ℕ) (m : Entries) (rest : List ℕ) → inventory_of bytes ≡ Ok (m, rest) → IsInventory bytes m rest
 inventory_is bytes m rest h = go (after_prefix header bytes) refl h
   where

@@ -1,4 +1,4 @@
--- Which text a line was, where it was read without a fault.
+-- Which text a line was, if it was read without a fault.
 use Rattle.std.proofs.Common.{◌≡◌, ℕ, ◌+◌, ◌<◌, ◌≤◌, ◌==◌, Bool, true, false, ◌&&◌, not, List, [], ◌∷◌, ◌++◌, length, get_or, take, drop, Option, None, Some, Ok, Err, refl, sym, ap, ◌∙◌, inl, inr, arith, subst, nat_lt}
 use Rattle.std.specs.Prelude.{codes, if◌then◌else◌}
 use Rattle.std.specs.Fmt.{decimal}
@@ -22,7 +22,7 @@ use Rattle.link_tree.proofs.Again.{fields_line}
 some_is : {A : Type 0} {x y : A} → Some x ≡ Some y → x ≡ y
 some_is h = cc
 
--- a value that a test let through
+-- a value that passed a test
 then_some : {A : Type 0} (test : Bool) (o : Option A) (x : A) → (if test then o else None) ≡ Some x → (test ≡ true) × (o ≡ Some x)
 then_some true o x h = (refl, h)
 then_some false o x h = none_some x h
@@ -31,14 +31,14 @@ else_some : {A : Type 0} (test : Bool) (o : Option A) (x : A) → (if test then 
 else_some true o x h = none_some x h
 else_some false o x h = h
 
--- a list, cut at one of its elements
+-- a list, split at one of its elements
 cut_at : (xs : List ℕ) (i d : ℕ) → i < length xs → xs ≡ take i xs ++ get_or xs i d ∷ drop (i + 1) xs
 cut_at xs i d within = sym (take-append-drop i xs) ∙ ap (λ l. take i xs ++ l) (drop_more xs i d within)
 
 abbrev Fields : Type 0
 Fields = List ℕ × List ℕ
 
--- a tab stands between the two parts of what was cut at a tab
+-- a tab is between the two parts of a text that was split at a tab
 cut_is : (text : List ℕ) (fields : Fields) → cut_at_tab text ≡ Some fields → text ≡ fields.0 ++ 9 ∷ fields.1
 cut_is text fields h = cut (position is_tab text) refl h
   where
@@ -53,7 +53,7 @@ two_are : (cut : Option Fields) (fields : Fields) → two_fields cut ≡ Some fi
 two_are None fields h = h
 two_are (Some found) fields h = else_some (list_any is_tab found.1) (Some found) fields h
 
--- A letter and two fields were read of just one text.
+-- A letter and two fields can be read from only one text.
 fields_are : (letter : ℕ) (line : List ℕ) (fields : Fields) → fields_of letter line ≡ Some fields → line ≡ fields_line letter fields.0 fields.1
 fields_are letter [] fields h = none_some fields h
 fields_are letter (a ∷ []) fields h = none_some fields h
@@ -63,13 +63,13 @@ fields_are letter (a ∷ b ∷ rest) fields h =
     let tail = cut_is rest fields (two_are (cut_at_tab rest) fields x.1) in
     λ i. eqb-true a letter front.0 i ∷ eqb-true b 9 front.1 i ∷ tail i
 
--- the one text of what a line says
+-- the unique text of a parsed line
 abbrev pub line_text : EntryLine → List ℕ
 line_text (lines.Link path target) = fields_line 76 path target
 line_text (lines.File path size) = fields_line 70 (decimal size) path
 line_text lines.End = codes "end"
 
--- what a line says of a link or a file may be
+-- what a parsed line of a link or a file may contain
 abbrev pub IsSaid : EntryLine → Type 0
 IsSaid (lines.Link path target) = (is_path path ≡ true) × (is_target target ≡ true)
 IsSaid (lines.File path size) = (is_path path ≡ true) × (size ≤ 1048576)
@@ -100,7 +100,7 @@ by_letter_is line said (Some file) link f l h = subst (λ text. Says text said) 
 by_letter_is line said None (Some link) f l h = subst (λ text. Says text said) (sym (fields_are 76 line link l)) (link_is link.0 link.1 said h)
 by_letter_is line said None None f l h = no_ok h
 
--- A line that says something is the one text of that.
+-- A line that is parsed without a fault is the unique text of its meaning.
 pub line_is : (line : List ℕ) (said : EntryLine) → line_of line ≡ Ok said → (line ≡ line_text said) × IsSaid said
 unfolding line_of
 line_is line said h = elim (cases_Bool (bytes_eq line (codes "end"))) [

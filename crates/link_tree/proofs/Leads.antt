@@ -1,4 +1,4 @@
--- The changes between two trees lead from the one to the other.
+-- Applying the changes between two trees to the first gives the second.
 use Rattle.std.proofs.Common.{◌≡◌, ◌≢◌, ℕ, true, false, cond, T, List, [], ◌∷◌, map as list_map, Option, Some, None, All, refl, sym, ◌∙◌, ap, subst, inl, inr}
 use Rattle.std.specs.List.{AllByRecursion}
 use Rattle.std.specs.List.Sorted.{IsStrictlySortedBy}
@@ -32,21 +32,21 @@ changes_of es = list_map (λ e. e.1) es
 abbrev paths_of : List Row → List (List ℕ)
 paths_of es = list_map (λ c. c.path) (changes_of es)
 
--- a path below another is another
+-- a path that is less than another is a different path
 apart : (q p : List ℕ) → T (is_lt (path_cmp q p)) → is_at q p ≡ false
 apart q p h = ap is_eq (less (path_cmp q p) h)
 
--- what a change that is found leaves
+-- the entry after a change, if there is one
 abbrev pub after_found : Option Change → Option Entry → Option Entry
 after_found None o = o
 after_found (Some c) o = c.after
 
 module _ (t u : Entries) where
-  -- what stands at a path in both trees, as a change
+  -- the entries at a path in both trees, as a change
   abbrev change_of : List ℕ → Change
   change_of path = change path (map.get t path) (map.get u path)
 
-  -- each path differs in the two trees, and the change there says how
+  -- at each path the two trees differ, and the change there is the difference
   abbrev Differ : List Row → Type 0
   Differ [] = Unit {0}
   Differ (e ∷ es) = (e.1 ≡ change_of e.0) × (same (map.get t e.0) (map.get u e.0) ≡ false) × Differ es
@@ -75,7 +75,7 @@ module _ (t u : Entries) where
   rows_differ : Differ rows
   rows_differ = all_differ rows in_order (λ q c found. sym (found_at q) ∙ found)
 
-  -- changes of later paths keep one
+  -- changes of later paths don't affect an earlier one
   keeps_below : (q : List ℕ) (es : List Row) → Differ es → T (below_all path_cmp q es) → KeepsPath q (changes_of es)
   keeps_below q [] d below = tt
   keeps_below q (e ∷ es) d below =
@@ -105,7 +105,7 @@ module _ (t u : Entries) where
     | inr other ↦ rw other refl
   ]
 
-  -- what has changed says what stands there now
+  -- the entry in the second tree follows from the change at the path, or from the first tree
   pub there : (q : List ℕ) → after_found (map.get (differences t u) q) (map.get t q) ≡ map.get u q
   there q = ap (λ found. after_found found (map.get t q)) (get-differences t u q) ∙ changed_there q
 
@@ -135,18 +135,18 @@ module _ (t u : Entries) where
     in_order = rows_in_order rows rows_differ in_order;
   }
 
-  -- what holds of each path at which the trees differ
+  -- what is true of each path at which the trees differ
   module _ (P : List ℕ → Type 0) (at : (path : List ℕ) → same (map.get t path) (map.get u path) ≡ false → P path) where
     rows_at : (es : List Row) → Differ es → All (λ change. P change.path) (changes_of es)
     rows_at [] d = All-nil (λ change. P change.path)
     rows_at (e ∷ es) d = All-cons (λ change. P change.path) e.1 (changes_of es) (subst (λ c. P c.path) (sym d.0) (at e.0 d.1)) (rows_at es d.2)
 
-    -- holds of each that is changed
+    -- it is true of each changed path
     pub changes_at : All (λ change. P change.path) (changes_between t u)
     unfolding changes_between
     changes_at = rows_at rows rows_differ
 
-  -- where the trees differ at slots alone, all changes are of slots
+  -- if the trees differ only at slots, all changes are at slots
   pub changes_at_slots : DifferAtSlots t u → All (λ change. is_slot change.path ≡ true) (changes_between t u)
   changes_at_slots alike = changes_at (λ path. is_slot path ≡ true) slot_at
     where
@@ -156,7 +156,7 @@ module _ (t u : Entries) where
         | inr off ↦ absurd (not_alike path other (alike path off))
       ]
 
--- trees that differ at slots alone still do when an entry was set at a slot
+-- trees that differ only at slots still do after an entry was set at a slot
 pub set_at_slot : (t u : Entries) (slot : List ℕ) (o : Option Entry) → is_slot slot ≡ true → DifferAtSlots t u → DifferAtSlots t (set_entry u slot o)
 set_at_slot t u slot o here alike path off = elim (cases_Bool (is_at path slot)) [
   | inl same ↦ absurd (false≢true (sym off ∙ ap is_slot (same_key path slot same) ∙ here))

@@ -1,4 +1,4 @@
--- Digits, one after another, and the length that they write.
+-- Digits, one after another, and the length that they represent.
 use Rattle.std.proofs.Common.{◌≡◌, ℕ, zero, suc, ◌+◌, ◌-◌, ◌*◌, ◌^◌, ◌<◌, ◌≤◌, ◌==◌, min, true, not, List, [], ◌∷◌, None, Some, refl, sym, ap, ◌∙◌, length, drop, get_or, inl, inr, arith}
 use Rattle.std.specs.Fmt.{decimal}
 use Rattle.std.proofs.lemmas.Fmt.{digits_decimal, digits_value-decimal, first_decimal, decimal_nonempty, decimal-digits_value, length-decimal-le}
@@ -12,7 +12,7 @@ use Rattle.std.proofs.lemmas.Str.{digit_value_digit}
 use Rattle.link_tree.specs.EntryLines.{is_length, length_of}
 use Rattle.link_tree.specs.Laws.{LengthsAreDecimals}
 
--- numbers from so many on are alike
+-- numbers from this one on are treated as equal
 abbrev pub most : ℕ
 most = 1048577
 
@@ -92,7 +92,7 @@ length_of_decimal n fits =
     let is = length_from (decimal n) (decimal_nonempty n fits) (decimal_digits n fits) (no_zero_before n fits) in
     rw (is, digits_value-decimal numerals n fits) refl
 
--- what a length begins with
+-- conditions on the first digit of a length
 record IsSpelled (text : List ℕ) : Type 0 where
   some : 0 < length text
   lone : get_or text 0 0 ≡ 48 → length text ≡ 1

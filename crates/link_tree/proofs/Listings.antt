@@ -1,4 +1,4 @@
--- To which names a link belongs, and which lists change with what stands at a path.
+-- The names to which a link belongs, and the lists that change when the entry at a path changes.
 use Rattle.std.proofs.Common.{◌≡◌, ℕ, Bool, true, false, cond, not, ◌&&◌, ◌||◌, List, [], Option, Some, None, refl, sym, ap, ◌∙◌, inl, inr}
 use Rattle.std.specs.FinMap as map
 use Rattle.std.specs.List.{after_last}
@@ -23,14 +23,14 @@ use Rattle.link_tree.proofs.Changed.{same_bytes, other_bytes}
 abbrev end_of : List ℕ → List ℕ
 end_of target = after_last is_slash target
 
--- what is no link of the scope belongs to no name
+-- an entry that is not a link of the scope belongs to no name
 pub none_belongs : (scope : Scope) (name path : List ℕ) (o : Option Entry) → may_belong scope path o ≡ false → holds_at scope name path o ≡ false
 unfolding belongs
 none_belongs scope name path None none = refl
 none_belongs scope name path (Some (File contents)) none = refl
 none_belongs scope name path (Some (Link target)) none = ap (λ b. b && is_named name path target) none
 
--- such a link belongs to the names that it bears
+-- such a link belongs to its own name and to the one at the end of its target
 pub belongs_named : (scope : Scope) (name path target : List ℕ) → may_belong scope path (Some (Link target)) ≡ true → belongs scope name path (Link target) ≡ is_named name path target
 unfolding belongs
 belongs_named scope name path target may = ap (λ b. b && is_named name path target) may
@@ -60,17 +60,17 @@ another_name scope name path (Some (Link target)) own end =
     unnamed = ap (λ b. b || (not (is_instance (kind_of (instance_of name))) && bytes_eq (end_of target) name)) away
         ∙ ap (λ b. not (is_instance (kind_of (instance_of name))) && b) ends ∙ never (not (is_instance (kind_of (instance_of name))))
 
--- the lists are those of before where nothing belongs
+-- the lists are unchanged if nothing belongs to a name
 pub nothing_changes : (scope : Scope) (lists : Shelves) (m : Entries) (p : List ℕ) (was now : Option Entry) → map.get m p ≡ was → IsListed scope m lists → may_belong scope p was ≡ false → may_belong scope p now ≡ false → IsListed scope (set_entry m p now) lists
 nothing_changes scope lists m p was now stood listing none nor name =
     listing name ∙ sym (belonging_kept scope name m p now (ap (holds_at scope name p) stood ∙ none_belongs scope name p was none) (none_belongs scope name p now nor))
 
--- a list that is written where it may differ
+-- a list is updated if it may differ
 choose : {X : Type 0} (b : Bool) (x y z : X) → y ≡ cond b x z → (b ≡ false → z ≡ x) → y ≡ x
 choose true x y z is other = is
 choose false x y z is other = is ∙ other refl
 
--- all lists that may differ were written
+-- all lists that may differ were updated
 pub all_relisted : (scope : Scope) (m : Entries) (p : List ℕ) (was now : Option Entry) (old one two three : Shelves) → map.get m p ≡ was → IsListed scope m old
     → ((t : List ℕ) → listed one t ≡ cond (bytes_eq t (name_at p)) (belonging scope t (set_entry m p now)) (listed old t))
     → ((t : List ℕ) → listed two t ≡ cond (is_end t p was) (belonging scope t (set_entry m p now)) (listed one t))
@@ -83,12 +83,12 @@ all_relisted scope m p was now old one two three stood listing first second thir
     choose (bytes_eq t (name_at p)) new (listed one t) (listed old t) (first t) (λ not_own.
     listing t ∙ sym (belonging_kept scope t m p now (ap (holds_at scope t p) stood ∙ another_name scope t p was not_own not_was) (another_name scope t p now not_own not_now)))))
 
--- the list of one name, made from the list of before
+-- the list of one name, made from the old list
 pub relisted_is : (scope : Scope) (name p : List ℕ) (now : Option Entry) (m : Entries) (old : Shelves) (holds : Bool) → holds ≡ holds_at scope name p now → IsListed scope m old → relisted holds p (listed old name) ≡ belonging scope name (set_entry m p now)
 relisted_is scope name p now m old holds is listing =
     ap (λ b. relisted b p (listed old name)) is ∙ ap (relisted (holds_at scope name p now) p) (listing name) ∙ sym (belonging_set scope name m p now)
 
--- where a name is asked for, its own list is read
+-- looking up a name reads the list of that name
 pub own_name : (name t : List ℕ) (f : List ℕ → List (List ℕ)) (x y : List (List ℕ)) → x ≡ f name → cond (bytes_eq t name) x y ≡ cond (bytes_eq t name) (f t) y
 own_name name t f x y is = elim (cases_Bool (bytes_eq t name)) [
   | inl here ↦ ap (λ l. cond (bytes_eq t name) l y) (is ∙ ap f (sym (same_bytes t name here)))
@@ -117,7 +117,7 @@ module _ (path target text : List ℕ) where
   abbrev is_plain : Bool
   is_plain = not (is_instance (kind_of (instance_of text)))
 
-  -- a link that bears its own name alone
+  -- a link that belongs only to its own name
   pub one_name : other_name path target ≡ None → is_named text path target ≡ bytes_eq text own
   one_name none = ap (λ b. b || (is_plain && bytes_eq end text)) (turned own text) ∙ elim (cases_Bool (bytes_eq end text)) [
     | inr away ↦ ap (λ b. bytes_eq text own || (is_plain && b)) away ∙ without (bytes_eq text own) is_plain
@@ -141,7 +141,7 @@ module _ (path target text : List ℕ) where
       second true h = refl
       second false h = no_option (sym h)
 
-  -- a link that bears two names
+  -- a link that belongs to two names
   pub two_names : (name : List ℕ) → other_name path target ≡ Some name → (is_named text path target ≡ (bytes_eq text own || bytes_eq text name)) × (bytes_eq name own ≡ false)
   two_names name some = both (bytes_eq end own) (is_instance (kind_of (instance_of end))) refl refl some
     where
@@ -161,7 +161,7 @@ module _ (path target text : List ℕ) where
           never true = refl
           never false = refl
 
--- what two names make of the list of a third
+-- the effect of updating two names on the list of a third
 pub listed_twice : (text own name : List ℕ) (f : List (List ℕ) → List (List ℕ)) (l : List (List ℕ)) → bytes_eq name own ≡ false → cond (bytes_eq text name) (f (cond (bytes_eq text own) (f l) l)) (cond (bytes_eq text own) (f l) l) ≡ cond (bytes_eq text own || bytes_eq text name) (f l) l
 listed_twice text own name f l apart = elim (cases_Bool (bytes_eq text own)) [
   | inl here ↦ (let away : bytes_eq text name ≡ false = ap (λ (t : List ℕ). bytes_eq t name) (same_bytes text own here) ∙ turned own name ∙ apart in
@@ -169,7 +169,7 @@ listed_twice text own name f l apart = elim (cases_Bool (bytes_eq text own)) [
   | inr other ↦ ap (λ b. cond (bytes_eq text name) (f (cond b (f l) l)) (cond b (f l) l)) other ∙ sym (ap (λ b. cond (b || bytes_eq text name) (f l) l) other)
 ]
 
--- an entry that belongs to no name leaves the lists
+-- an entry that belongs to no name leaves the lists unchanged
 pub none_listed : (scope : Scope) (text path : List ℕ) (entry : Entry) (more l : List (List ℕ)) → may_belong scope path (Some entry) ≡ false → l ≡ cond (belongs scope text path entry) more l
 none_listed scope text path entry more l none = sym (ap (λ b. cond b more l) (none_belongs scope text path (Some entry) none))
 

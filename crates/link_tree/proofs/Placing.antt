@@ -1,4 +1,4 @@
--- An entry comes to stand where nothing is in its way.
+-- An entry is added if nothing conflicts with its path.
 use Rattle.std.proofs.Common.{◌≡◌, ℕ, List, None, true, false, Ok, Err, refl}
 use Rattle.std.specs.Prelude.{is_some}
 use Rattle.std.specs.FinMap as map

@@ -1,4 +1,4 @@
--- Where several steps, one after another, gave a value, each of them did.
+-- If several steps, one after another, gave a value, each of them did.
 use Rattle.std.proofs.Common.{◌≡◌, Bool, true, false, Result, Ok, Err, refl, sym, ap, subst}
 use Rattle.std.specs.Prelude.{if◌then◌else◌, OnOk, OnErr}
 use Rattle.link_tree.specs.Inventory.{◌>>=◌}
@@ -9,7 +9,7 @@ ok_is h = cc
 pub no_ok : {A E P : Type 0} {e : E} {x : A} → ◌≡◌ {A = Result A E} (Err e) (Ok x) → P
 no_ok h = cc
 
--- a result that a test let through
+-- a result that passed a test
 pub else_ok : {A E : Type 0} (test : Bool) (e : E) (r : Result A E) (x : A) → (if test then Err e else r) ≡ Ok x → (test ≡ false) × (r ≡ Ok x)
 else_ok true e r x h = no_ok h
 else_ok false e r x h = (refl, h)
@@ -25,7 +25,7 @@ pub both_ok : {A B E : Type 0} (r : Result A E) (f : A → Result B E) (y : B) �
 both_ok (Ok x) f y h = (x, refl, h)
 both_ok (Err e) f y h = no_ok h
 
--- what holds of what became of a value, whether the call was done or not
+-- what is true of the new state of a value, whether the call succeeded or not
 pub either_way : {A E M : Type 0} (r : Result A E) (P : M → Type 0) (old new wanted : M) → OnOk r (new ≡ wanted) → OnErr r (new ≡ old) → P wanted → P old → P new
 either_way (Ok x) P old new wanted ok err is was = subst P (sym ok) is
 either_way (Err e) P old new wanted ok err is was = subst P (sym err) was

@@ -1,4 +1,4 @@
--- Lists and pieces, parted at an index.
+-- Lists and pieces, split at an index.
 use Rattle.std.proofs.Common.{◌≡◌, ◌<◌, ◌≤◌, ◌+◌, ℕ, zero, suc, List, [], ◌∷◌, ◌++◌, length, take, drop, Some, None, refl, sym, ap, ◌∙◌, append_assoc, append-nil, arith}
 use Rattle.std.specs.List.{flat_map}
 use Rattle.std.proofs.lemmas.List.Concat.{flat_map-append}
@@ -61,7 +61,7 @@ module _ {X : Type 0} where
   set_parted (z ∷ xs) zero x y is = refl
   set_parted (z ∷ xs) (suc i) x y is = ap (λ zs. z ∷ zs) (set_parted xs i x y is)
 
--- what is left from an index on begins with what was read there
+-- the rest from an index on begins with the element read there
 pub drop_read : {X : Type 0} → (xs : List X) (i : ℕ) (x : X) → i < length xs → x ≡ slice_index_or xs i x → drop i xs ≡ x ∷ drop (i + 1) xs
 drop_read xs i x within is = drop_found xs i x (index_found xs i x x within (sym is)) ∙ ap (λ n. x ∷ drop n xs) (let next : suc i ≡ i + 1 = omega arith in next)
 
@@ -80,7 +80,7 @@ nothing : (n : ℕ) → ◌++◌ {A = Item} (drop n []) [] ≡ []
 nothing zero = refl
 nothing (suc n) = refl
 
--- the pieces, cut between the entries before a place and those behind it
+-- the pieces, split between the entries before a place and those after it
 pub joined_at : (ps : List (List Item)) (i at : ℕ) → joined ps ≡ before ps i at ++ behind ps i at
 joined_at [] zero at = sym (no_entry at)
 joined_at [] (suc i) at = sym (no_entry at)
@@ -90,7 +90,7 @@ joined_at (p ∷ ps) (suc i) at =
     ∙ ap (λ items. items ++ behind ps i at) (sym (append_assoc p (joined (take i ps)) (take at (slice_index_or ps i []))))
 
 module _ (ps : List (List Item)) (i : ℕ) (p : List Item) (is : slice_get ps i ≡ Some p) where
-  -- the entries before and behind the i-th piece
+  -- the entries before and after the i-th piece
   abbrev earlier : List Item
   earlier = joined (take i ps)
 
@@ -134,7 +134,7 @@ module _ (ps : List (List Item)) (i : ℕ) (p : List Item) (is : slice_get ps i 
     pub removed : joined (slice_set ps i (take at p ++ drop (suc at) p)) ≡ before ps i at ++ all_but_first (behind ps i at)
     removed = joined_set (take at p ++ drop (suc at) p) ∙ left (drop (suc at) p) ∙ ap (λ items. before ps i at ++ all_but_first items) (sym behind_item)
 
-    -- the whole piece goes with its one entry
+    -- the whole piece is removed with its only entry
     pub gone : length p ≡ 1 → joined (take i ps ++ drop (suc i) ps) ≡ before ps i at ++ all_but_first (behind ps i at)
     gone one =
         joined-append (take i ps) (drop (suc i) ps)
@@ -150,7 +150,7 @@ module _ (ps : List (List Item)) (i : ℕ) (p : List Item) (is : slice_get ps i 
         none_behind : (q : List Item) (n : ℕ) → length q ≡ 1 → drop (suc n) q ≡ []
         none_behind q n all = drop_all (suc n) q (omega arith)
 
-  -- a piece cut in two
+  -- a piece split in two
   pub cut_in_two : (at : ℕ) → joined (take i ps ++ (take at p ∷ drop at p ∷ drop (suc i) ps)) ≡ joined ps
   cut_in_two at =
       joined-append (take i ps) (take at p ∷ drop at p ∷ drop (suc i) ps)

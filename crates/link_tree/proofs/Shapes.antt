@@ -51,7 +51,7 @@ left-some : (b : Bool) (o : Option Entry) → is_some (cond b None o) ≡ true �
 left-some true o h = absurd (false≢true h)
 left-some false o h = h
 
--- less is a tree still
+-- a tree without some of its entries is still a tree
 pub removed_tree : (m : Entries) (path : List ℕ) → IsTree m → IsTree (map.remove m path)
 removed_tree m path tree = record {
   fits = λ q e at. tree.fits q e (left-cond _ e _ (sym (get-remove nat_list_cmp_total m path q) ∙ at));
@@ -71,12 +71,12 @@ none_of f (k ∷ ks) q none some =
       | inr there ↦ none_of f ks q parts.1 there
     ]
 
--- what isn't crowded is apart from each entry
+-- a path that isn't crowded is neither above nor beneath any entry
 apart_from : (m : Entries) (path q : List ℕ) → is_crowded m path ≡ false → is_some (map.get m q) ≡ true → is_close path q ≡ false
 unfolding is_crowded
 apart_from m path q none some = none_of (is_close path) (map.keys m) q none (sym (contains_key-keys m q) ∙ some)
 
--- an entry more that may stand there
+-- one more entry that is allowed at its path
 pub grown_tree : (m : Entries) (path : List ℕ) (entry : Entry) → IsTree m → fits_at path entry ≡ true → is_crowded m path ≡ false → IsTree (map.insert m path entry)
 grown_tree m path entry tree fits free = record {
   fits = λ q e at. elim (at-cond (eq_by_cmp path_cmp q path) entry e (map.get m q) (sym (get-insert nat_list_cmp_total m path entry q) ∙ at)) [

@@ -1,4 +1,4 @@
--- Entries in order, looked at from the place of a path.
+-- Entries in order, viewed from the place of a path.
 use Rattle.std.proofs.Common.{◌≡◌, ℕ, Bool, true, false, cond, not, T, List, [], ◌∷◌, ◌++◌, Some, None, refl, sym, ap, subst, ◌∙◌}
 use Rattle.std.specs.List.{filter}
 use Rattle.std.specs.Option.{option_map}
@@ -33,7 +33,7 @@ lower is = less _ (holds is)
 turned : (k path : List ℕ) → path_cmp k path ≡ Less → path_cmp path k ≡ Greater
 turned k path is = nat_list_cmp_total.antisymm path k ∙ ap ordering_reverse is
 
--- an entry before the path stands elsewhere
+-- an entry before the path is at another path
 pub elsewhere : (path : List ℕ) (item : Item) → is_lt (path_cmp item.0 path) ≡ true → path_cmp path item.0 ≡ Greater
 elsewhere path item is = turned item.0 path (lower is)
 
@@ -65,7 +65,7 @@ module _ (path : List ℕ) where
       ap (λ r. cond (is_le r) (b ∷ filter is_from (bs ++ cs)) (filter is_from (bs ++ cs))) (elsewhere path b (All-head (IsBefore path) b bs below))
       ∙ from_at bs cs (All-tail (IsBefore path) b bs below)
 
-  -- the first entry at the path or after it, and all behind it
+  -- the first entry at the path or after it, and all after it
   from_lower : (k : List ℕ) → is_lt (path_cmp k path) ≡ false → is_le (path_cmp path k) ≡ true
   from_lower k is = elim (path_cmp k path) as (λ r. path_cmp k path ≡ r → is_lt r ≡ false → is_le (path_cmp path k) ≡ true) [
     | Less ↦ λ at off. absurd (false≢true (sym off))
@@ -94,7 +94,7 @@ module _ (path : List ℕ) where
       let here = from_lower c.0 from in
       ap (λ b. cond b (c ∷ filter is_from cs) (filter is_from cs)) here ∙ ap (λ items. c ∷ items) (all_from cs (after_first c.0 cs here (first _ _ order)))
 
-  -- what is not there is nowhere behind
+  -- if the path is not at the first entry, it is nowhere after it
   not_first : (c : Item) (cs : List Item) → is_lt (path_cmp c.0 path) ≡ false → eq_by_cmp path_cmp path c.0 ≡ false → path_cmp path c.0 ≡ Less
   not_first c cs from off = elim (path_cmp path c.0) as (λ r. path_cmp path c.0 ≡ r → is_eq r ≡ false → r ≡ Less) [
     | Less ↦ λ at o. refl
@@ -148,7 +148,7 @@ pub order_right : (bs cs : List Item) → T (is_sorted path_cmp (bs ++ cs)) → 
 order_right [] cs order = order
 order_right (b ∷ bs) cs order = order_right bs cs (second _ _ order)
 
--- what comes before an entry that comes before the path does so too
+-- an entry that comes before an entry before the path is also before the path
 pub before_entry : (path : List ℕ) (bs : List Item) (c : Item) (cs : List Item) → T (is_sorted path_cmp (bs ++ c ∷ cs)) → is_lt (path_cmp c.0 path) ≡ true → AllBelow path bs
 before_entry path [] c cs order is = All-nil (IsBefore path)
 before_entry path (b ∷ bs) c cs order is =

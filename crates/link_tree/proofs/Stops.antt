@@ -1,4 +1,4 @@
--- Where the reading of an inventory stops.
+-- Where reading an inventory stops.
 use Rattle.std.proofs.Common.{if◌then◌else◌, true, ◌≡◌, ℕ, zero, suc, ◌-◌, ◌≤◌, Bool, List, [], ◌∷◌, ◌++◌, length, drop, Option, Some, None, Result, Ok, Err, refl, sym, ap, ◌∙◌, subst, inl, inr, arith, append_assoc, nat_le, take-append-drop}
 use Rattle.std.proofs.lemmas.List.{length-take-le}
 use Rattle.std.specs.Prelude.{IsErr, IsErrAnd}
@@ -38,11 +38,11 @@ in_number Open number (errors.Fault fault) old new stops = λ other. stops
 in_number Open number errors.ReadFault old new stops = stops
 in_number Open number errors.OutOfMemory old new stops = tt
 
--- a reader of nothing, which failed
+-- a failed result without a value
 abbrev failed : ReadError InventoryFault → Result (Unit {0}) (ReadError InventoryFault)
 failed f = Err f
 
--- what comes behind a line
+-- what comes after a line
 module _ (room : Bool) (said : EntryLine) (first mid : Option (List ℕ)) (reads : (bytes : List ℕ) → first ≡ Some bytes → (rest : List ℕ) × (mid ≡ Some rest) × (line_of_front (front_line 16384 bytes) ≡ Ok (said, rest))) where
   pub line_stopped : Takes first mid (StopsAt (λ taken. entry_at room (front_line 16384 taken) ≡ Err Truncated))
   line_stopped bytes e =
@@ -64,7 +64,7 @@ module _ (room : Bool) (said : EntryLine) (first mid : Option (List ℕ)) (reads
             ∙ ap (λ (t : Bool). if t then entry_of said taken else end_of said taken) some ∙ cut,
       )
 
--- where an entry can't come into the tree, all before it did
+-- if an entry can't be added to the tree, all before it were added
 pub place_refused : (e : ReadError InventoryFault) (number : ℕ) (before : Read) (m : Entries) {X : Type 0} (placed : Result X InventoryFault) → IsFaultOf e placed → Ok m ≡ before → IsDuplicateOrAt number before (numbered number e)
 place_refused (errors.Fault fault) number before m placed is all = λ other. (refl, (m, sym all))
 place_refused errors.ReadFault number before m placed is all = absurd is
@@ -102,7 +102,7 @@ abbrev pub IsOpen : ℕ → List ℕ → Type 0
 IsOpen number taken = (1 ≤ number) × (entries_at 65536 1 map.empty taken ≡ Err (Truncated, number))
 
 module _ (first mid new : Option (List ℕ)) (number : ℕ) (read : Read) (so_far : Reached first mid number read) (from : 1 ≤ number) where
-  -- nothing is decided behind what was taken before
+  -- nothing is decided after the bytes taken before
   open_behind : (m : Entries) → Ok m ≡ read → Takes first mid (λ front rest. (taken : List ℕ) → next_of (65537 - number) taken ≡ Err Truncated → IsOpen number (front ++ taken))
   open_behind m all bytes e =
       let at = so_far bytes e in (
@@ -121,7 +121,7 @@ module _ (first mid new : Option (List ℕ)) (number : ℕ) (read : Read) (so_fa
         let behind = subst (λ (room : Bool). Takes first mid (λ front rest. (taken : List ℕ) → entry_at room (front_line 16384 taken) ≡ Err Truncated → IsOpen number (front ++ taken))) (sym (room_of number (65537 - number) refl)) (open_behind m all) in
         in_number IsOpen number f first new (failed_later first mid new (λ taken. entry_at (nat_le number 65536) (front_line 16384 taken) ≡ Err Truncated) (IsOpen number) behind r (failed f) f is refl stops)
 
-    -- it was read, and can't come into the tree
+    -- it was read, and can't be added to the tree
     module _ (reads : (bytes : List ℕ) → mid ≡ Some bytes → ReadsFront (λ o. o) new r (entry_at (nat_le number 65536) (front_line 16384 bytes))) (o : Option Next) (entry : Next) (is : r ≡ Ok o) (some : o ≡ Some entry) where
       pub stops_refused : (f : InventoryError) → IsDuplicateOrAt number read f → StopsInEntry IsOpen (Err f) first new
       stops_refused (inventories.Fault fault k) refused = λ other bytes e.

@@ -1,4 +1,4 @@
--- What was taken while nothing was decided yet.
+-- The bytes taken while nothing was decided yet.
 use Rattle.std.proofs.Common.{if◌then◌else◌, ◌≡◌, ℕ, Bool, true, false, List, ◌∷◌, ◌++◌, Option, Some, Result, Ok, Err, refl, sym, ap, ◌∙◌, append_assoc}
 use Rattle.byte_streams.specs.Lines.{Front, Whole, Last, Long, front_line}
 use Rattle.byte_streams.proofs.Pieces.{line_is_open, line_is_whole}
@@ -14,7 +14,8 @@ use Rattle.link_tree.specs.declared.inventory_fault.InventoryFault.TheVariants.{
 use Rattle.link_tree.proofs.Results.{both_ok, no_ok, ok_is, ok_parts}
 use Rattle.link_tree.proofs.FileBytes.{contents_are, contents_read, contents_undecided}
 
--- What a reader took of some bytes, up to a line end. It reads the same whatever follows, and without that line end nothing is decided.
+-- The bytes that a reader took, up to a line end. They are read the same whatever follows, and
+-- without that line end nothing is decided.
 pub record Taken {X : Type 0} (read : List ℕ → Result (X × List ℕ) InventoryFault) (bytes : List ℕ) (x : X) (rest : List ℕ) : Type 0 where
   pub before : List ℕ
   pub is : bytes ≡ before ++ 10 ∷ rest
@@ -24,7 +25,7 @@ pub record Taken {X : Type 0} (read : List ℕ → Result (X × List ℕ) Invent
 abbrev pub read_line : List ℕ → Result (EntryLine × List ℕ) InventoryFault
 read_line bytes = line_of_front (front_line 16384 bytes)
 
--- what a line says, and what follows it
+-- what a line means, and what follows it
 pub front_is : (front : Front) (said : EntryLine) (after : List ℕ) → line_of_front front ≡ Ok (said, after) → (line : List ℕ) × (front ≡ Whole line after) × (line_of line ≡ Ok said)
 front_is Long said after h = no_ok h
 front_is (Last line) said after h = no_ok h
@@ -59,7 +60,7 @@ contents_taken size bytes contents rest is =
 abbrev pub read_entry : Bool → List ℕ → Result (Option (List ℕ × Entry) × List ℕ) InventoryFault
 read_entry room bytes = entry_at room (front_line 16384 bytes)
 
--- what is read behind a line
+-- what is read after a line
 module _ (room : Bool) (bytes : List ℕ) (said : EntryLine) (after : List ℕ) (line : Taken read_line bytes said after) where
   abbrev pub behind : EntryLine → List ℕ → Result (Option (List ℕ × Entry) × List ℕ) InventoryFault
   behind said after = if room then entry_of said after else end_of said after
@@ -70,7 +71,7 @@ module _ (room : Bool) (bytes : List ℕ) (said : EntryLine) (after : List ℕ) 
   pub line_undecided : read_entry room line.before ≡ Err Truncated
   line_undecided = ap (λ read. read >>= λ found. behind found.0 found.1) line.undecided
 
-  -- the line was all
+  -- the line was the whole entry
   line_alone : (o : Option (List ℕ × Entry)) (rest : List ℕ) → behind said after ≡ Ok (o, rest) → ((more : List ℕ) → behind said more ≡ Ok (o, more)) → after ≡ rest → Taken (read_entry room) bytes o rest
   line_alone o rest is same left = record {
     before = line.before;

@@ -33,7 +33,7 @@ module _ (pieces : List (List Item)) (order : AreInOrder pieces) where
   pub get_whole : (path : List ℕ) → map.get (whole (joined pieces)) path ≡ find path_cmp path (joined pieces)
   get_whole path = map.get-from_sorted path_cmp (joined pieces) path (holds order.0)
 
-  -- pieces that hold what is wanted are the map that is wanted
+  -- pieces that hold the wanted entries represent the wanted map
   pub put_whole : (path : List ℕ) (entry : Entry) (new : List (List Item)) → AreInOrder new × (joined new ≡ put path_cmp path entry (joined pieces)) → whole (joined new) ≡ map.insert (whole (joined pieces)) path entry
   put_whole path entry new become =
       map.same_entries_map _ _ (map.entries-from_sorted path_cmp (joined new) (holds become.0.0) ∙ become.1
@@ -47,7 +47,7 @@ module _ (pieces : List (List Item)) (order : AreInOrder pieces) where
       ∙ ap (λ b. cond b None (find path_cmp q (joined pieces))) ((eq_by_cmp_equiv nat_list_cmp_total).symm path q)
       ∙ sym (map.get-remove nat_list_cmp_total (whole (joined pieces)) path q ∙ ap (cond (eq_by_cmp path_cmp q path) None) (get_whole q)))
 
-  -- how many entries there are then
+  -- the number of entries afterwards
   pub length_over : (path : List ℕ) (entry : Entry) → is_some (find path_cmp path (joined pieces)) ≡ true → length (put path_cmp path entry (joined pieces)) ≡ length (joined pieces)
   length_over path entry there =
       length-put path_cmp nat_list_cmp_total path entry (joined pieces) (holds order.0) ∙ ap (λ b. cond b (length (joined pieces)) (length (joined pieces) + 1)) there
@@ -60,7 +60,7 @@ module _ (pieces : List (List Item)) (order : AreInOrder pieces) where
   length_less path there =
       ap (λ b. cond b 1 0 + length (others path (joined pieces))) (sym there) ∙ length_without path_cmp nat_list_cmp_total path (joined pieces) (holds order.0)
 
-  -- what is not there can't be taken out
+  -- removing what is not there changes nothing
   pub nothing_taken : (path : List ℕ) → find path_cmp path (joined pieces) ≡ None → whole (joined pieces) ≡ map.remove (whole (joined pieces)) path
   nothing_taken path free = map.same_map nat_list_cmp_total exact_bytes _ _ (λ q. sym (map.get-remove nat_list_cmp_total (whole (joined pieces)) path q ∙ away q (eq_by_cmp path_cmp q path) refl))
     where
@@ -74,7 +74,7 @@ none_whole = map.empty_of_len (whole []) (map.len-entries (whole []) ∙ ap leng
 pub one_back : (n m : ℕ) → 1 + m ≡ n → (1 ≤ n) × (n - 1 ≡ m)
 one_back n m more = (omega arith, omega arith)
 
--- what is found with its path stands there
+-- an entry found with its path is the one at that path
 pub placed_is : (path : List ℕ) (there : Option Entry) (item : Item) → Some item ≡ option_map (λ entry. (path, entry)) there → (item.0 ≡ path) × (there ≡ Some item.1)
 placed_is path None item is = cc
 placed_is path (Some entry) item is = let same : item ≡ (path, entry) = cc in (ap (λ (x : Item). x.0) same, ap (λ (x : Item). Some x.1) (sym same))

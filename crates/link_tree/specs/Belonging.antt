@@ -23,27 +23,30 @@ paths_of scope name entries = list_map (λ e. e.0) (filter (λ e. belongs scope 
 abbrev pub belonging : Scope → List ℕ → Entries → List (List ℕ)
 belonging scope name m = paths_of scope name (map.entries m)
 
--- whether what stands at a path belongs to a name
+-- whether the entry at a path belongs to a name
 abbrev pub holds_at : Scope → (name path : List ℕ) → Option Entry → Bool
 holds_at scope name path None = false
 holds_at scope name path (Some entry) = belongs scope name path entry
 
--- whether what stands at a path is a link of the scope, and none to /dev/null: only such a link belongs to a name
+-- whether the entry at a path is a link of the scope that does not lead to /dev/null: only such a
+-- link belongs to a name
 abbrev pub may_belong : Scope → List ℕ → Option Entry → Bool
 may_belong scope path None = false
 may_belong scope path (Some (File contents)) = false
 may_belong scope path (Some (Link target)) = is_of_scope scope (slot_of path) && not (is_null_target path target)
 
--- the name with which a target ends, where it is another than the link's and no instance's: the link belongs to both
+-- the name at the end of a target, if it differs from the link's name and is not an instance's: the
+-- link belongs to both
 abbrev pub other_name : (path target : List ℕ) → Option (List ℕ)
 other_name path target = cond (bytes_eq (after_last is_slash target) (name_at path) || is_instance (kind_of (instance_of (after_last is_slash target)))) None (Some (after_last is_slash target))
 
--- whether what stands at a path is a link whose target ends with the text, and the link has another name than its target
+-- whether the entry at a path is a link whose target ends with the text, and the link's own name
+-- differs from that of its target
 abbrev pub is_end : (text path : List ℕ) → Option Entry → Bool
 is_end text path None = false
 is_end text path (Some (File contents)) = false
 is_end text path (Some (Link target)) = not (bytes_eq (after_last is_slash target) (name_at path)) && bytes_eq text (after_last is_slash target)
 
--- The lists have for each name the links of the scope that belong to it.
+-- For each name, the lists contain exactly the links of the scope that belong to it.
 abbrev pub IsListed : Scope → Entries → Shelves → Type 0
 IsListed scope m lists = (name : List ℕ) → listed lists name ≡ belonging scope name m

@@ -15,7 +15,7 @@ use Prim.Native.Char.{code}
 abbrev pub is_tab : ℕ → Bool
 is_tab b = b == code "\t"
 
--- what stands before the first tab and after it
+-- the parts before and after the first tab
 abbrev pub cut_at_tab : List ℕ → Option (List ℕ × List ℕ)
 cut_at_tab text = option_map (λ i. (take i text, drop (i + 1) text)) (position is_tab text)
 
@@ -24,18 +24,18 @@ abbrev pub two_fields : Option (List ℕ × List ℕ) → Option (List ℕ × Li
 two_fields None = None
 two_fields (Some fields) = if list_any is_tab fields.1 then None else Some fields
 
--- the two fields behind a letter, with a tab before each
+-- the two fields after a letter, with a tab before each
 abbrev pub fields_of : ℕ → List ℕ → Option (List ℕ × List ℕ)
 fields_of letter [] = None
 fields_of letter (a ∷ []) = None
 fields_of letter (a ∷ b ∷ rest) = if a == letter && is_tab b then two_fields (cut_at_tab rest) else None
 
--- a length is written in digits, without a zero before others
+-- a length is written in digits, without leading zeros
 unfoldable pub is_length : List ℕ → Bool
 is_length [] = false
 is_length (b ∷ bs) = list_all is_ascii_digit (b ∷ bs) && (is_root bs || not (b == code "0"))
 
--- the number that a length writes
+-- the number that a length represents
 abbrev pub length_of : List ℕ → Option ℕ
 length_of text = if is_length text then Some (digits_value 10 text) else None
 
@@ -57,13 +57,13 @@ file_line (Some length) path =
 abbrev pub link_line : List ℕ → List ℕ → Result EntryLine InventoryFault
 link_line path target = if is_path path && is_target target then Ok (Link path target) else Err BadPath
 
--- F stands before the fields of a file, L before those of a link
+-- F comes before the fields of a file, L before those of a link
 abbrev pub by_letter : Option (List ℕ × List ℕ) → Option (List ℕ × List ℕ) → Result EntryLine InventoryFault
 by_letter (Some file) link = file_line (length_of file.0) file.1
 by_letter None (Some link) = link_line link.0 link.1
 by_letter None None = Err BadLine
 
--- What a line says, or what is wrong with it.
+-- The meaning of a line, or what is wrong with it.
 unfoldable pub line_of : List ℕ → Result EntryLine InventoryFault
 line_of line =
     if bytes_eq line (codes "end") then Ok End

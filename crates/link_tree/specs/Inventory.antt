@@ -34,7 +34,7 @@ abbrev pub ended : List ℕ → List ℕ → Result (List ℕ × List ℕ) Inven
 ended contents [] = Err Truncated
 ended contents (b ∷ rest) = if b == code "\n" then Ok (contents, rest) else Err BadLine
 
--- so many bytes of a file, and the bytes after their line end
+-- this number of bytes of a file, and the bytes after their line end
 unfoldable pub contents_at : ℕ → List ℕ → Result (List ℕ × List ℕ) InventoryFault
 contents_at size bytes = if nat_lt (length bytes) size then Err Truncated else ended (take size bytes) (drop size bytes)
 
@@ -46,7 +46,7 @@ entry_of (lines.File path size) rest = do
   found ← contents_at size rest
   Ok (Some (path, File found.0), found.1)
 
--- the end alone may come
+-- only the line `end` is allowed
 abbrev pub end_of : EntryLine → List ℕ → Result (Option (List ℕ × Entry) × List ℕ) InventoryFault
 end_of lines.End rest = Ok (None, rest)
 end_of (lines.Link path target) rest = Err TooMany
@@ -58,7 +58,7 @@ entry_at room front = do
   found ← line_of_front front
   if room then entry_of found.0 found.1 else end_of found.0 found.1
 
--- with an entry more
+-- with one more entry
 unfoldable pub placed : Entries → List ℕ × Entry → Result Entries InventoryFault
 placed m (path, entry) =
     if is_some (map.get m path) then Err Duplicate
@@ -71,7 +71,8 @@ abbrev pub in_entry : {A : Type 0} → ℕ → Result A InventoryFault → Resul
 in_entry number (Ok x) = Ok x
 in_entry number (Err fault) = Err (fault, number)
 
--- The entries at the front, from the one of this number on, and the bytes after them. So many more may come.
+-- The entries at the front, from the one of this number on, and the bytes after them. At most this
+-- many more are allowed.
 unfoldable pub entries_at : ℕ → ℕ → Entries → List ℕ → Result (Entries × List ℕ) (InventoryFault × ℕ)
 entries_at zero number m bytes = do
   found ← in_entry number (entry_at false (front_line 16384 bytes))
@@ -80,7 +81,7 @@ entries_at (suc more) number m bytes = do
   found ← in_entry number (entry_at true (front_line 16384 bytes))
   option_map_or (λ entry. in_entry number (placed m entry) >>= λ grown. entries_at more (number + 1) grown found.1) found.0 (Ok (m, found.1))
 
--- what each inventory begins with
+-- the first line of every inventory
 abbrev pub header : List ℕ
 header = codes "unitadm-inventory 1\n"
 
@@ -92,7 +93,8 @@ header_of (Some rest) = Ok (tt, rest)
 abbrev pub header_at : List ℕ → Result (Unit {0} × List ℕ) InventoryFault
 header_at bytes = header_of (after_prefix header bytes)
 
--- The tree of an inventory, and the bytes after it, or the first fault with the number of its entry: that of the header is 0.
+-- The tree of an inventory, and the bytes after it, or the first fault with the number of its
+-- entry: that of the header is 0.
 abbrev pub inventory_of : List ℕ → Result (Entries × List ℕ) (InventoryFault × ℕ)
 inventory_of bytes = do
   found ← in_entry 0 (header_at bytes)

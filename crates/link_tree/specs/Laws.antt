@@ -10,7 +10,7 @@ use Rattle.link_tree.specs.Shape.{IsTree}
 use Rattle.link_tree.specs.EntryLines.{length_of}
 use Rattle.link_tree.specs.Inventory.{inventory_of}
 
--- What is written of a tree is read again as the same tree, whatever follows.
+-- Reading the text written for a tree gives the same tree, whatever follows.
 abbrev pub ReadsBack : Type 0
 ReadsBack = (m : Entries) (rest : List ℕ) → IsTree m → map.len m ≤ 65536 → inventory_of (inventory_text m ++ rest) ≡ Ok (m, rest)
 
@@ -18,13 +18,14 @@ ReadsBack = (m : Entries) (rest : List ℕ) → IsTree m → map.len m ≤ 65536
 abbrev pub LengthsAreDecimals : Type 0
 LengthsAreDecimals = (text : List ℕ) (n : ℕ) → n < 2 ^ 64 → (length_of text ≡ Some n) ↔ (text ≡ decimal n)
 
--- Changes from what stands in a tree can be taken back, and then it is the very tree again.
+-- Changes that start from the present entries of a tree can be undone, which gives exactly the same
+-- tree again.
 abbrev pub TakenBack : Type 0
 TakenBack = (m : Entries) (changes : List Change) → AreFrom m changes
     → AreFrom (after_changes changes m) (inverse_of changes) × (after_changes (inverse_of changes) (after_changes changes m) ≡ m)
 
--- Changes that lead from one tree to another: each from what stands in the first to something else, in byte order of
--- their paths, each path once.
+-- Changes that turn one tree into another: each from the entry in the first tree to a different
+-- one, in byte order of their paths, each path once.
 pub record Leads (t u : Entries) (changes : List Change) : Type 0 where
   pub from : AreFrom t changes
   pub to : after_changes changes t ≡ u

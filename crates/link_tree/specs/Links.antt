@@ -21,7 +21,7 @@ abbrev pub is_null_link : List ℕ → Entry → Bool
 is_null_link path (File contents) = false
 is_null_link path (Link target) = is_null_target path target
 
--- whether a scope is this one
+-- whether two scopes are equal
 abbrev pub is_scope : Scope → Option Scope → Bool
 is_scope scope None = false
 is_scope Etc (Some Etc) = true
@@ -38,11 +38,13 @@ is_instance Plain = false
 is_instance Template = false
 is_instance Instance = true
 
--- a link of this name, or one whose target ends with this name after its last slash, unless the name is an instance's
+-- a link of this name, or one whose target ends with this name after its last slash, unless the
+-- name is an instance's
 abbrev pub is_named : (name path target : List ℕ) → Bool
 is_named name path target = bytes_eq (name_at path) name || (not (is_instance (kind_of (instance_of name))) && bytes_eq (after_last is_slash target) name)
 
--- A link of a scope belongs to a name that it has, or with which its target ends; a link to /dev/null belongs to none.
+-- A link of a scope belongs to its own name and to the one at the end of its target; a link to
+-- /dev/null belongs to no name.
 unfoldable pub belongs : Scope → (name path : List ℕ) → Entry → Bool
 belongs scope name path (File contents) = false
 belongs scope name path (Link target) = is_of_scope scope (slot_of path) && not (is_null_target path target) && is_named name path target

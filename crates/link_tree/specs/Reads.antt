@@ -1,4 +1,4 @@
--- What reading and writing an inventory returned, against what the bytes say.
+-- The results of reading and writing an inventory, compared with what the bytes say.
 use Rattle.std.specs.Prelude.{◌≡◌, ◌≢◌, ℕ, zero, suc, List, Option, Some, Result, Ok, Err}
 use Rattle.std.specs.Io.KnownBytes.{Keeps}
 use Rattle.unit_paths.specs.declared.fault.PathError.{PathError}
@@ -19,7 +19,7 @@ use Rattle.link_tree.specs.declared.inventory_fault.InventoryError.TheVariants a
 use Rattle.link_tree.specs.declared.writing.WriteError.{WriteError}
 use Rattle.link_tree.specs.declared.writing.WriteError.TheVariants as writes
 
--- what a line's bad path or target is
+-- how an invalid path or target in a line is reported
 abbrev pub path_error_seen : PathError → ReadError InventoryFault
 path_error_seen paths.BadPath = reads.Fault faults.BadPath
 path_error_seen paths.OutOfMemory = reads.OutOfMemory
@@ -34,43 +34,46 @@ numbered number (reads.Fault fault) = inventories.Fault fault number
 numbered number reads.ReadFault = inventories.ReadFault number
 numbered number reads.OutOfMemory = inventories.OutOfMemory
 
--- A tree with the bytes after it left, or the first fault, unless the source failed or memory ran out.
+-- A tree and the remaining bytes after it, or the first fault, unless the source failed or memory
+-- ran out.
 abbrev pub TreeOf : Option (List ℕ) → Result Entries InventoryError → Result (Entries × List ℕ) (InventoryFault × ℕ) → Type 0
 TreeOf left (Ok tree) read = (rest : List ℕ) × (left ≡ Some rest) × (read ≡ Ok (tree, rest))
 TreeOf left (Err (inventories.Fault fault number)) read = read ≡ Err (fault, number)
 TreeOf left (Err (inventories.ReadFault number)) read = Unit {0}
 TreeOf left (Err inventories.OutOfMemory) read = Unit {0}
 
--- the reading of the bytes left, where these are known
+-- the result of reading the remaining bytes, if these are known
 abbrev pub ReadsTree : Option (List ℕ) → Option (List ℕ) → Result Entries InventoryError → (List ℕ → Result (Entries × List ℕ) (InventoryFault × ℕ)) → Type 0
 ReadsTree old new result reading = (bytes : List ℕ) → old ≡ Some bytes → TreeOf new result (reading bytes)
 
--- The bytes taken decide nothing yet: they are a part of the header, or an inventory that is truncated in the entry of this number.
+-- The bytes taken decide nothing yet: they are a part of the header, or an inventory that is
+-- truncated in the entry of this number.
 abbrev pub IsUndecided : ℕ → List ℕ → Type 0
 IsUndecided zero taken = IsCutPrefix header taken
 IsUndecided (suc n) taken = inventory_of taken ≡ Err (faults.Truncated, suc n)
 
--- A fault is told at the end of the bytes or with the byte that decides it, but for a duplicate, which may be told later. A read fault comes
--- only while the bytes taken decide nothing, in the entry that it names.
+-- A fault is reported at the end of the bytes or at the byte that decides it, except a duplicate,
+-- which may be reported later. A read fault occurs only while the bytes taken decide nothing, in
+-- the entry that it names.
 abbrev pub StopsInEntry : (ℕ → List ℕ → Type 0) → Result Entries InventoryError → (old new : Option (List ℕ)) → Type 0
 StopsInEntry IsOpen (Ok tree) old new = Unit {0}
 StopsInEntry IsOpen (Err (inventories.Fault fault number)) old new = fault ≢ faults.Duplicate → Takes old new (StopsAt (IsOpen number))
 StopsInEntry IsOpen (Err (inventories.ReadFault number)) old new = Takes old new (λ taken rest. IsOpen number taken)
 StopsInEntry IsOpen (Err inventories.OutOfMemory) old new = Unit {0}
 
--- A read fault has a cause, and a tree was read without a failure.
+-- A read fault has a cause, and if a tree was read, there was no failure.
 abbrev pub AccountsTree : Result Entries InventoryError → Counters → Counters → Type 0
 AccountsTree (Ok tree) old new = IsCalm old new
 AccountsTree (Err (inventories.ReadFault number)) old new = HasCause old new
 AccountsTree (Err (inventories.Fault fault number)) old new = Unit {0}
 AccountsTree (Err inventories.OutOfMemory) old new = Unit {0}
 
--- Nothing but the first bytes of the text went out.
+-- Only a prefix of the text was sent.
 abbrev pub SentBefore : WriteError → Option (List ℕ) → Option (List ℕ) → List ℕ → Type 0
 SentBefore writes.OutOfMemory old new text = Keeps old new
 SentBefore (writes.Fault n) old new text = StopsIn old new text n
 
--- A write fault has a cause, and a text was written without a failure.
+-- A write fault has a cause, and if a text was written, there was no failure.
 abbrev pub AccountsWrite : Result (Unit {0}) WriteError → Counters → Counters → Type 0
 AccountsWrite (Ok done) old new = IsCalm old new
 AccountsWrite (Err (writes.Fault n)) old new = HasCause old new

@@ -22,7 +22,7 @@ abbrev pub set_entry : Entries → List ℕ → Option Entry → Entries
 set_entry m path (Some entry) = map.insert m path entry
 set_entry m path None = map.remove m path
 
--- the tree after a change: what stood there before is replaced
+-- the tree after a change: the entry at its path is replaced
 abbrev pub after_change : Change → Entries → Entries
 after_change change m = set_entry m change.path change.after
 
@@ -36,7 +36,7 @@ abbrev pub entry_line : List ℕ × Entry → List ℕ
 entry_line (path, File contents) = codes "F\t" ++ decimal (length contents) ++ (codes "\t" ++ path ++ codes "\n") ++ contents ++ codes "\n"
 entry_line (path, Link target) = codes "L\t" ++ path ++ (codes "\t" ++ target) ++ codes "\n"
 
--- the one text of a tree
+-- the unique text of a tree
 abbrev pub inventory_text : Entries → List ℕ
 inventory_text m = codes "unitadm-inventory 1\n" ++ flat_map entry_line (map.entries m) ++ codes "end\n"
 
@@ -44,15 +44,15 @@ abbrev pub KeepsPath : List ℕ → List Change → Type 0
 KeepsPath path [] = Unit {0}
 KeepsPath path (change ∷ changes) = (bytes_eq path change.path ≡ false) × KeepsPath path changes
 
--- Each change is from what stands there, and no path changes twice.
+-- Each change starts from the present entry at its path, and no path changes twice.
 abbrev pub AreFrom : Entries → List Change → Type 0
 AreFrom m [] = Unit {0}
 AreFrom m (change ∷ changes) = (map.get m change.path ≡ change.before) × KeepsPath change.path changes × AreFrom m changes
 
--- the change that takes this one back
+-- the change that undoes this one
 abbrev pub taken_back : Change → Change
 taken_back change = record { path = change.path; before = change.after; after = change.before }
 
--- the changes that take these back, in the same order
+-- the changes that undo these, in the same order
 abbrev pub inverse_of : List Change → List Change
 inverse_of changes = list_map taken_back changes

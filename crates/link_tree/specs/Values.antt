@@ -1,4 +1,4 @@
--- The values that trees hold: what an entry is made of, and how values are told apart.
+-- The values in trees: the parts of an entry, and how values are compared.
 use Rattle.std.specs.Prelude.{◌≡◌, ℕ, Bool, false, List, ◌⊎◌, refl}
 use Rattle.std.proofs.Common.{inl, inr}
 use Rattle.std.specs.Coded.{Coded, code_by, coded_ℕ, coded_list, coded⊎}
@@ -24,7 +24,7 @@ same_entry (Link one) (Link other) = bytes_eq one other
 same_entry (File one) (Link other) = false
 same_entry (Link one) (File other) = false
 
--- an entry as one of two texts
+-- an entry encoded as one of two texts
 abbrev pub parts_of : Entry → List ℕ ⊎ List ℕ
 parts_of (File contents) = inl contents
 parts_of (Link target) = inr target

@@ -22,7 +22,7 @@ fn is_of_scope(scope: Scope, path: &TreePath) -> bool
     }
 }
 
-/// What follows the last slash of a target, or all of it if there is none.
+/// The part of a target after its last slash, or all of it if it has no slash.
 pub fn last_part(target: &[u8]) -> &[u8]
     ensures { result.now ≡ after_last is_slash target.now }
 {
@@ -34,7 +34,7 @@ pub fn last_part(target: &[u8]) -> &[u8]
     target
 }
 
-/// Whether the entry at a path is a link of the scope, and none to `/dev/null`.
+/// Whether the entry at a path is a link of the scope that does not lead to `/dev/null`.
 pub(crate) fn may_belong(scope: Scope, path: &TreePath, entry: Option<&Entry>) -> bool
     ensures { result ≡ may_belong scope path.now (option_copied entry.entry) }
 {
@@ -44,7 +44,8 @@ pub(crate) fn may_belong(scope: Scope, path: &TreePath, entry: Option<&Entry>) -
     }
 }
 
-/// Whether a link has this name, or its target ends with it after its last slash, unless the name is an instance's.
+/// Whether a link has this name, or its target ends with it after its last slash, unless the name
+/// is an instance's.
 fn is_named(name: &[u8], path: &TreePath, target: &Target) -> bool
     ensures { result ≡ is_named name.now path.now target.now }
 {
@@ -52,23 +53,24 @@ fn is_named(name: &[u8], path: &TreePath, target: &Target) -> bool
         || (kind_in(name) != Kind::Instance && last_part(target.text()) == name)
 }
 
-/// Whether the entry at a path is a link of the scope that belongs to a name, as `systemctl disable`
-/// removes it: its own file name is the name; or the name is no instance's, and what follows the last
-/// slash of the link's target is the name. A link to `/dev/null` belongs to no name, nor does a file.
+/// Whether the entry at a path is a link of the scope that belongs to a name, so that `systemctl
+/// disable` removes it: either its own file name is the name, or the name is not an instance's and
+/// is the part of the link's target after the last slash. A link to `/dev/null` belongs to no name,
+/// and neither does a file.
 pub fn belongs(scope: Scope, name: &UnitName, path: &TreePath, entry: &Entry) -> bool
     ensures { result ≡ belongs scope name.now path.now entry.now }
 {
     text_belongs(scope, name.text(), path, entry)
 }
 
-/// The same of any text.
+/// The same, for a name given as any text.
 #[tactic(auto, unfolding(crate::specs::Links::belongs))]
 pub(crate) fn text_belongs(scope: Scope, name: &[u8], path: &TreePath, entry: &Entry) -> bool
     ensures { result ≡ belongs scope name.now path.now entry.now }
 {
     match entry {
         Entry::File(_) => false,
-        // (most of the entries that are walked over have another name, and that is the fastest test)
+        // (most of the entries visited have another name, and this is the fastest test)
         Entry::Link(target) if !is_named(name, path, target) => false,
         Entry::Link(_) => is_of_scope(scope, path) && !is_null_link(path, entry),
     }

@@ -1,4 +1,4 @@
-//! What commands do to a tree, path by path.
+//! What commands change in a tree, path by path.
 ghost use Rattle.std.specs.Prelude.{◌≡◌, IfOk};
 ghost use Rattle.link_tree.specs.Trees.{taken_back};
 
@@ -6,7 +6,8 @@ use crate::entry::Entry;
 use std::alloc::AllocError;
 use unit_paths::TreePath;
 
-/// What a command does at one path: the entry before, or none, becomes the entry after, or none.
+/// What a command changes at one path: the entry before (or none) is replaced by the entry after
+/// (or none).
 #[derive(Debug, Drop)]
 pub struct Change {
     pub path: TreePath,
@@ -26,7 +27,7 @@ impl Change {
         })
     }
 
-    /// The change that takes this one back.
+    /// The change that undoes this one.
     pub fn taken_back(&self) -> Result<Change, AllocError>
         ensures { IfOk result (λ change. change ≡ taken_back self.now) }
     {

@@ -1,4 +1,4 @@
-//! What files hold.
+//! The contents of files.
 ghost use Rattle.std.specs.Prelude.{◌≡◌, IfOk, true, false};
 ghost use Rattle.link_tree.specs.Files.{is_contents};
 ghost use Rattle.link_tree.specs.declared.contents.FileError.TheVariants as files;
@@ -8,13 +8,13 @@ use std::marker::Model;
 use std::sync::ArcSlice;
 use thiserror::Error;
 
-/// The largest file, in bytes.
+/// The size of the largest file, in bytes.
 pub const MAX_FILE: usize = 1_048_576;
 
-/// Why some bytes give no file.
+/// Why some bytes cannot be the contents of a file.
 #[derive(Clone, Copy, Debug, PartialEq, Eq, Hash, Error)]
 pub enum FileError {
-    /// There are over 1,048,576 of them.
+    /// There are more than 1,048,576 of them.
     #[error("file too large")]
     TooLarge,
     #[error("out of memory")]
@@ -29,7 +29,8 @@ impl From<AllocError> for FileError {
     }
 }
 
-/// What a file holds: at most 1,048,576 bytes, which its copies share. Contracts see the bytes.
+/// The contents of a file: at most 1,048,576 bytes, which its copies share. Contracts see the
+/// bytes.
 #[derive(Debug, Drop)]
 pub struct Contents {
     bytes: ArcSlice<u8>,
@@ -52,7 +53,7 @@ impl Contents {
     ///
     /// # Errors
     ///
-    /// `TooLarge`, where there are more; want of memory.
+    /// `TooLarge` if there are more; out of memory.
     #[tactic(auto, unfolding(crate::specs::Files::is_contents))]
     pub fn copied(alloc: Global, bytes: &[u8]) -> Result<Contents, FileError>
         ensures contents { IfOk result (λ contents. (contents ≡ bytes.now) × (is_contents bytes.now ≡ true)) }
@@ -65,7 +66,7 @@ impl Contents {
         Ok(Contents { bytes })
     }
 
-    /// Takes the bytes of a file.
+    /// Takes ownership of the bytes of a file.
     pub(crate) fn new(bytes: Vec<u8>) -> Result<Contents, AllocError>
         requires { is_contents bytes.items ≡ true }
         ensures { IfOk result (λ contents. contents ≡ bytes.items) }
@@ -83,7 +84,7 @@ impl Contents {
         &self.bytes
     }
 
-    /// Equal contents, without a copy of the bytes.
+    /// Equal contents, without copying the bytes.
     pub fn copy(&self) -> Result<Contents, AllocError>
         ensures { IfOk result (λ contents. contents ≡ self.now) }
     {

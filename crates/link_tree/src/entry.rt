@@ -9,7 +9,7 @@ use crate::contents::{Contents, FileError};
 use std::alloc::{AllocError, Global};
 use unit_paths::{Target, TargetError, TreePath, is_null_target};
 
-/// What stands at a path.
+/// The entry at a path.
 #[derive(Debug, Drop)]
 pub enum Entry {
     File(Contents),
@@ -23,7 +23,7 @@ impl Entry {
     ///
     /// # Errors
     ///
-    /// `TooLarge`, where there are more; want of memory.
+    /// `TooLarge` if there are more; out of memory.
     pub fn file(alloc: Global, bytes: &[u8]) -> Result<Entry, FileError>
         ensures file { IfOk result (λ entry. (entry ≡ File bytes.now) × (is_contents bytes.now ≡ true)) }
         ensures large { result ≡ Err FileError.TooLarge → is_contents bytes.now ≡ false }
@@ -31,11 +31,11 @@ impl Entry {
         Ok(Entry::File(Contents::copied(alloc, bytes)?))
     }
 
-    /// A link with this target, as it is written: 1 to 4,095 bytes without NUL, TAB and LF.
+    /// A link with this target, exactly as written: 1 to 4,095 bytes without NUL, TAB and LF.
     ///
     /// # Errors
     ///
-    /// `BadTarget` for any other text; want of memory.
+    /// `BadTarget` for any other text; out of memory.
     pub fn link(alloc: Global, target: &[u8]) -> Result<Entry, TargetError>
         ensures link { IfOk result (λ entry. (entry ≡ Link target.now) × (is_target target.now ≡ true)) }
         ensures bad { result ≡ Err TargetError.BadTarget → is_target target.now ≡ false }
@@ -86,7 +86,8 @@ impl Clone for Entry {
     }
 }
 
-/// Whether a link leads to `/dev/null`, which masks a unit: systemctl(1), `mask`. A file never does, and no memory is taken.
+/// Whether a link leads to `/dev/null`, which masks a unit: systemctl(1), `mask`. False for every
+/// file. Allocates no memory.
 pub fn is_null_link(link: &TreePath, entry: &Entry) -> bool
     ensures { result ≡ is_null_link link.now entry.now }
 {

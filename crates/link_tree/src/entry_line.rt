@@ -15,18 +15,18 @@ use memchr::memchr;
 use std::alloc::Global;
 use unit_paths::{PathError, Target, TargetError, TreePath};
 
-/// What a line of an inventory says.
+/// The meaning of a line of an inventory.
 #[derive(Debug, Drop)]
 pub(crate) enum EntryLine {
-    /// A file of so many bytes stands at the path; they follow.
+    /// A file of this number of bytes is at the path; its bytes follow.
     File(TreePath, usize),
-    /// A link stands at the path.
+    /// A link is at the path.
     Link(TreePath, Target),
     /// There are no more entries.
     End,
 }
 
-/// What a line says.
+/// Parses a line.
 #[tactic(auto, unfolding(crate::specs::EntryLines::line_of))]
 pub(crate) fn line_of(alloc: Global, line: &[u8]) -> Result<EntryLine, ReadError<InventoryFault>>
     ensures line { Gives (λ x. x) result (line_of line.now) }
@@ -83,7 +83,7 @@ fn target_of(alloc: Global, text: &[u8]) -> Result<Target, ReadError<InventoryFa
     Target::parse(alloc, text).map_err(target_error)
 }
 
-/// The number of a file's bytes, as far as a file may have so many, and one more beyond that.
+/// The number of a file's bytes, or the maximum plus one if it exceeds the maximum.
 fn length_of(text: &[u8]) -> Option<usize>
     ensures { result ≡ option_map (min (MAX_FILE + 1)) (length_of text.now) }
 {
@@ -110,7 +110,7 @@ fn is_number(text: &[u8]) -> bool
     text.iter().all(|b| b.is_ascii_digit())
 }
 
-/// The number that digits write, as far as a file may have so many bytes.
+/// The number that the digits represent, or one more than the largest file size if it exceeds that.
 fn value_of(digits: &[u8]) -> usize
     requires { list_all is_ascii_digit digits.now ≡ true }
     ensures { result ≡ min (MAX_FILE + 1) (digits_value 10 digits.now) }
@@ -138,7 +138,7 @@ fn cut_at_tab(text: &[u8]) -> Option<(&[u8], &[u8])>
     }
 }
 
-/// The two fields behind a letter, with a tab before each.
+/// The two fields after a letter, with a tab before each.
 fn fields_of(letter: u8, line: &[u8]) -> Option<(&[u8], &[u8])>
     ensures { option_map (λ x. (x.0.now, x.1.now)) result ≡ fields_of letter line.now }
 {

@@ -25,19 +25,22 @@ use unit_paths::{Slot, TreePath};
 /// The longest line of an inventory, in bytes before its end.
 pub const MAX_LINE: usize = 16384;
 
-/// How many entries are read.
+/// The largest number of entries that is read.
 pub const MAX_ENTRIES: u32 = 65536;
 
 /// What each inventory begins with.
 const HEADER: &[u8; 20] = b"unitadm-inventory 1\n";
 
-/// Reads an inventory up to the end of its line `end`, and leaves what follows in the source. It has at most 65,536 entries, in any order.
+/// Reads an inventory up to the end of its line `end`, and leaves the bytes after it in the source.
+/// It has at most 65,536 entries, in any order.
 ///
 /// # Errors
 ///
-/// The first fault in reading order, with the number of its entry: entries count from 1, the header is 0, and the line `end` counts as the
-/// next entry. For one entry the faults are tried in the order of `InventoryFault`'s table in docs/RULES.md, "Inventories". A read fault,
-/// where the source fails, or is interrupted 1,000 times in a row, before one of these is decided. Want of memory.
+/// The first fault in reading order, with the number of its entry: entries count from 1, the header
+/// is 0, and the line `end` counts as the next entry. Within one entry, faults are checked in the
+/// order of the table of `InventoryFault` in docs/RULES.md, "Inventories". A read fault, if the
+/// source fails, or is interrupted 1,000 times in a row, before one of these is decided. Out of
+/// memory.
 pub fn read_inventory<S: Source>(alloc: Global, source: &mut S) -> Result<Tree, InventoryError>
     ensures tree { ReadsTree (S.left source.old) (S.left source.new) result inventory_of }
     ensures stops { StopsInEntry IsUndecided result (S.left source.old) (S.left source.new) }
@@ -52,7 +55,7 @@ pub fn read_inventory<S: Source>(alloc: Global, source: &mut S) -> Result<Tree, 
     }
 }
 
-/// The entries up to the line `end`. No links are listed by their names while they come.
+/// The entries up to the line `end`. The lists of links by name are not built while reading them.
 fn read_entries<S: Source>(alloc: Global, source: &mut S) -> Result<TreePart, InventoryError>
     ensures tree { ReadsTree (S.left source.old) (S.left source.new) result (entries_at MAX_ENTRIES 1 map.empty) }
     ensures stops { StopsInEntry (λ number taken. (1 ≤ number) × (entries_at MAX_ENTRIES 1 map.empty taken ≡ Err (InventoryFault.Truncated, number))) result (S.left source.old) (S.left source.new) }
@@ -79,7 +82,8 @@ fn read_entries<S: Source>(alloc: Global, source: &mut S) -> Result<TreePart, In
     }
 }
 
-/// Adds an entry to the pending ones if it stands at a slot, and else to the tree, after the pending ones.
+/// Adds an entry to the pending ones if it is at a slot; otherwise first inserts the pending ones
+/// into the tree, then this one.
 fn add_entry(
     alloc: Global,
     tree: &mut TreePart,
@@ -166,7 +170,8 @@ fn read_header<S: Source>(source: &mut S) -> Result<(), ReadError<InventoryFault
     }
 }
 
-/// Reads the next entry, or `None` for the line `end`, which alone may come where there is no room.
+/// Reads the next entry, or `None` for the line `end`, which is the only valid line if there is no
+/// room for an entry.
 fn read_entry<S: Source>(
     alloc: Global,
     source: &mut S,
@@ -189,7 +194,7 @@ fn read_entry<S: Source>(
     }
 }
 
-/// Reads what follows the line of an entry: the bytes of a file, nothing of a link.
+/// Reads what follows the line of an entry: the bytes of a file, nothing for a link.
 fn read_entry_of<S: Source>(
     alloc: Global,
     source: &mut S,
@@ -234,7 +239,7 @@ fn line_of_read(alloc: Global, line: Line) -> Result<EntryLine, ReadError<Invent
     }
 }
 
-/// Reads the bytes of a file and the line end behind them.
+/// Reads the bytes of a file and the line end after them.
 fn read_contents<S: Source>(
     alloc: Global,
     source: &mut S,

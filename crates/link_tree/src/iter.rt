@@ -10,7 +10,7 @@ use std::marker::Model;
 use std::slice;
 use unit_paths::TreePath;
 
-/// The entries of a tree that are still to come, in the byte order of their paths. Contracts see their list.
+/// The remaining entries of a tree, in the byte order of their paths. Contracts see their list.
 #[derive(Drop)]
 pub struct Iter<'a> {
     items: slice::Iter<'a, PlacedEntry>,
@@ -46,7 +46,7 @@ impl<'a> Iter<'a> {
         }
     }
 
-    /// The next entry, with its path, for another tree to share.
+    /// The next entry, with its path, to be shared with another tree.
     pub fn next_placed(&mut self) -> Option<&'a PlacedEntry>
         ensures { TakesFirst deref self.old result self.new }
     {

@@ -1,16 +1,16 @@
-//! What holds of all trees: each function does nothing, and its contract is the law.
+//! Laws of all trees: each function does nothing, and its contract is the law.
 ghost use Rattle.link_tree.specs.Laws.{ReadsBack, LengthsAreDecimals, TakenBack, ChangesLead};
 ghost use Rattle.link_tree.specs.Grammar.{InventoriesAreEntries};
 
-/// What is written of a tree is read again as that tree, whatever follows it, where it has at most as many
-/// entries as are read.
+/// Reading the text written for a tree gives that tree back, whatever bytes follow it, if the tree
+/// has no more entries than the reader accepts.
 pub fn inventories_are_read_back()
     ensures { ReadsBack }
 {}
 
-/// Bytes are read as a tree, with some rest, exactly where they are the header, the lines of at most 65,536
-/// entries with distinct paths in any order, and the line `end`, then that rest. The tree is the map of these
-/// entries, each of which may stand where it does, and none beneath another.
+/// Bytes are read as a tree with some rest exactly if they are the header, the lines of at most
+/// 65,536 entries with distinct paths in any order, and the line `end`, then that rest. The tree is
+/// the map of these entries, each of which is allowed at its path, and none is beneath another.
 pub fn inventories_are_their_entries()
     ensures { InventoriesAreEntries }
 {}
@@ -20,12 +20,13 @@ pub fn lengths_have_one_spelling()
     ensures { LengthsAreDecimals }
 {}
 
-/// Changes from what stands in a tree can be taken back, and then it is the very tree again.
+/// Changes that start from the present entries of a tree can be undone, which gives exactly the
+/// same tree again.
 pub fn changes_are_taken_back()
     ensures { TakenBack }
 {}
 
-/// The changes between two trees lead from the one to the other.
+/// Applying the changes between two trees to the first gives the second.
 pub fn changes_lead_from_tree_to_tree()
     ensures { ChangesLead }
 {}

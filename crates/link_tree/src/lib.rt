@@ -1,4 +1,5 @@
-//! Trees of unit files and links: systemd.unit(5), "Unit File Load Path", and the one text of a tree, its inventory.
+//! Trees of unit files and links: systemd.unit(5), "Unit File Load Path", and the unique text of a
+//! tree, its inventory.
 #![tactic(auto)]
 
 mod belonging;

@@ -1,4 +1,5 @@
-//! The links of a scope by the names to which they belong: `systemctl disable` removes those of a name.
+//! The links of a scope by the names to which they belong: `systemctl disable` removes the links of
+//! a name.
 ghost use Rattle.std.specs.Prelude.{◌≡◌, ◌∷◌, ◌++◌, [], ℕ, List, cond, IfOk, OnOk};
 ghost use Rattle.std.specs.FinMap as map;
 ghost use Rattle.std.specs.Option.{option_copied};
@@ -60,7 +61,7 @@ fn list_piece(
     Ok(())
 }
 
-/// Lists an entry behind the others, under each name to which it belongs.
+/// Appends an entry to the list of each name to which it belongs.
 fn list_item(
     alloc: Global,
     lists: &mut NameLists,
@@ -84,7 +85,8 @@ fn list_item(
     Ok(())
 }
 
-/// The name with which a target ends, where a link of another name belongs to it too: it is no instance's.
+/// The name at the end of a link's target, if it differs from the link's own name and the link
+/// belongs to it too: it is not an instance's.
 fn other_name<'a>(path: &TreePath, target: &'a Target) -> Option<&'a [u8]>
     ensures { option_copied result ≡ other_name path.now target.now }
 {
@@ -108,7 +110,8 @@ fn list_under(
     Ok(())
 }
 
-/// The lists when what stands at a path has changed: beside those from before, so that an error leaves these.
+/// The lists after the entry at a path has changed, as new lists: an error leaves the old ones
+/// unchanged.
 pub(crate) fn names_after(
     alloc: Global,
     lists: &NameLists,
@@ -137,7 +140,8 @@ pub(crate) fn names_after(
     Ok(next)
 }
 
-/// Lists under the name with which the target of a link ends what belongs to it after the change, if the link has another name.
+/// Updates the list of the name at the end of a link's target with what belongs to it after the
+/// change, if the link has another name.
 fn relist_end(
     alloc: Global,
     next: &mut NameLists,
@@ -160,7 +164,7 @@ fn relist_end(
     Ok(())
 }
 
-/// Lists under a name what belongs to it after the change.
+/// Updates the list of a name with what belongs to it after the change.
 fn relist(
     alloc: Global,
     next: &mut NameLists,
@@ -178,7 +182,7 @@ fn relist(
     Ok(())
 }
 
-/// Whether what stands at a path belongs to a name.
+/// Whether the entry at a path belongs to a name.
 fn holds_at(scope: Scope, name: &[u8], path: &TreePath, entry: Option<&Entry>) -> bool
     ensures { result ≡ holds_at scope name.now path.now (option_copied entry.entry) }
 {

@@ -1,5 +1,5 @@
-//! Entries at slots that were read and aren't in the tree yet: they are put there many at a time, sorted, so that neighbours lie near one another in
-//! memory.
+//! Entries at slots that were read and aren't in the tree yet: they are put there many at a time,
+//! sorted, so that neighbours are close together in memory.
 ghost use Rattle.std.specs.Prelude.{◌≡◌, ◌/◌, All, IfOk, max, min};
 ghost use Rattle.link_tree.specs.Pending.{AreRising, IsAtSlot, IsInserted, earlier, place_all, shifted, sort_key, with_bytes};
 ghost use Rattle.link_tree.specs.declared.pending.TheConstants.{LEAST_PENDING, MOST_PENDING};
@@ -9,10 +9,10 @@ use crate::tree_part::TreePart;
 use std::alloc::AllocError;
 use unit_paths::TreePath;
 
-/// How many entries may be pending beside a small tree.
+/// The largest number of pending entries if the tree is small.
 const LEAST_PENDING: usize = 16;
 
-/// How many entries may be pending beside a large tree.
+/// The largest number of pending entries if the tree is large.
 const MOST_PENDING: usize = 4096;
 
 /// An entry that was read, with its number.
@@ -23,11 +23,12 @@ pub(crate) struct PendingEntry {
     pub number: u32,
 }
 
-/// How many bytes of a name pending entries are sorted by.
+/// The number of bytes of a name in the sort key of pending entries.
 const SORTED_BYTES: usize = 15;
 
-/// What pending entries are sorted by: the length of the directory, and the first bytes of the name. It is the same at one path,
-/// mostly rises with the path, and to compare it no text has to be fetched from memory.
+/// The sort key of pending entries: the length of the directory, and the first bytes of the name.
+/// It is the same for equal paths, mostly rises with the path, and comparing it needs no text to be
+/// fetched from memory.
 fn sort_key(pending: &PendingEntry) -> u128
     ensures { result ≡ sort_key pending.now.path }
 {
@@ -36,7 +37,7 @@ fn sort_key(pending: &PendingEntry) -> u128
     with_bytes(pending.path.directory().len() as u128, first)
 }
 
-/// The key with these bytes behind it.
+/// The key with these bytes appended.
 fn with_bytes(mut key: u128, bytes: &[u8]) -> u128
     ensures { result ≡ with_bytes key bytes.now }
 {
@@ -46,7 +47,7 @@ fn with_bytes(mut key: u128, bytes: &[u8]) -> u128
     key
 }
 
-/// The key with a byte behind it.
+/// The key with a byte appended.
 #[inline]
 fn shifted(key: u128, byte: u8) -> u128
     ensures { result ≡ shifted key byte }
@@ -54,14 +55,16 @@ fn shifted(key: u128, byte: u8) -> u128
     key.wrapping_mul(256).wrapping_add(u128::from(byte))
 }
 
-/// How many entries may be pending beside a tree of so many: few enough that they take a small part of its memory.
+/// The largest number of pending entries for a tree with this number of entries: few enough that
+/// they take little memory compared with the tree.
 pub(crate) fn most_pending(entries: usize) -> usize
     ensures { result ≡ min MOST_PENDING (max LEAST_PENDING (entries / 8)) }
 {
     (entries / 8).clamp(LEAST_PENDING, MOST_PENDING)
 }
 
-/// Puts the pending entries into the tree, and answers the number of the first whose path was taken when its turn came.
+/// Puts the pending entries into the tree, and returns the number of the first entry whose path was
+/// already taken when it was inserted.
 pub(crate) fn insert_all(
     tree: &mut TreePart,
     mut pending: Vec<PendingEntry>,
@@ -86,7 +89,7 @@ pub(crate) fn insert_all(
     Ok(taken)
 }
 
-/// The lesser of two numbers, or the one.
+/// The smaller of two numbers, or the second if there is no first.
 fn earlier(taken: Option<u32>, number: u32) -> u32
     ensures { result ≡ earlier taken number }
 {

@@ -1,4 +1,4 @@
-//! Pieces of a tree: entries that follow one another, shared by copies until one of them is changed.
+//! Pieces of a tree: consecutive entries, shared by copies until one of them is changed.
 ghost use Rattle.std.specs.Prelude.{◌≡◌, ◌≤◌, ◌<◌, ◌+◌, ◌++◌, ◌∷◌, [], length, take, drop, slice_set, IfOk, OnOk, OnErr, IsTrue, true, ◌↔◌};
 ghost use Rattle.std.specs.FinMap.{is_sorted};
 ghost use Rattle.link_tree.specs.Trees.{path_cmp};
@@ -11,7 +11,7 @@ use std::marker::Model;
 use std::sync::Arc;
 use unit_paths::TreePath;
 
-/// How many entries a piece has before it is cut in two.
+/// The number of entries at which a piece is split in two.
 const MAX_PIECE: usize = 128;
 
 /// Entries in the byte order of their paths. Contracts see their list.
@@ -63,7 +63,7 @@ impl Piece {
         &self.items
     }
 
-    /// Whether it is to be cut in two before an entry is added.
+    /// Whether it must be split in two before an entry is added.
     pub(crate) fn is_full(&self) -> bool
         ensures { IsTrue result ↔ (MAX_PIECE ≤ length self.now) }
     {
@@ -80,7 +80,7 @@ impl Piece {
         }
     }
 
-    /// Where the path stands or would be put.
+    /// The place where the path is or would be inserted.
     pub(crate) fn place_of(&self, path: &TreePath) -> usize
         requires sorted { is_sorted path_cmp self.now ≡ true }
         ensures bound { result ≤ length self.now }
@@ -100,7 +100,7 @@ impl Piece {
         Ok(())
     }
 
-    /// Puts an entry in place of the one here.
+    /// Replaces the entry at this place.
     pub(crate) fn replace(&mut self, at: usize, placed: PlacedEntry) -> Result<(), AllocError>
         requires { at < length self.old }
         ensures ok { OnOk result (self.new ≡ slice_set self.old at placed) }
@@ -110,7 +110,7 @@ impl Piece {
         Ok(())
     }
 
-    /// Takes the entry here away.
+    /// Removes the entry at this place.
     pub(crate) fn remove(&mut self, at: usize) -> Result<(), AllocError>
         requires { at < length self.old }
         ensures ok { OnOk result (self.new ≡ take at self.old ++ drop (at + 1) self.old) }
@@ -120,7 +120,8 @@ impl Piece {
         Ok(())
     }
 
-    /// Cuts it in two: this piece keeps the entries before the place, and the others are answered as a piece.
+    /// Splits it in two: this piece keeps the entries before the place, and the others are returned
+    /// as a piece.
     pub(crate) fn split_off(&mut self, alloc: Global, at: usize) -> Result<Piece, AllocError>
         requires { at ≤ length self.old }
         ensures kept { OnOk result (self.new ≡ take at self.old) }

@@ -1,4 +1,4 @@
-//! The entries of a tree in pieces, one after another in the byte order of the paths.
+//! The entries of a tree in consecutive pieces, in the byte order of the paths.
 ghost use Rattle.std.specs.Prelude.{◌≡◌, ◌<◌, ◌≤◌, true, [], length, slice_index_or, IfOk, OnOk, OnErr, None, is_some};
 ghost use Rattle.std.specs.Ordering.{is_le};
 ghost use Rattle.std.specs.List.{AllWithin, filter};
@@ -54,7 +54,7 @@ impl Clone for Pieces {
 }
 
 impl Pieces {
-    /// No piece.
+    /// No pieces.
     pub(crate) fn none(alloc: Global) -> Pieces
         ensures { result ≡ map.empty }
     {
@@ -80,7 +80,7 @@ impl Pieces {
         self.count
     }
 
-    /// What stands at the path.
+    /// The entry at the path.
     pub(crate) fn get(&self, path: &TreePath) -> Option<&Entry>
         ensures { option_copied result ≡ map.get self.now path.now }
     {
@@ -90,7 +90,7 @@ impl Pieces {
         }
     }
 
-    /// What stands at the path, with the path.
+    /// The entry at the path, with the path.
     pub(crate) fn placed(&self, path: &TreePath) -> Option<&PlacedEntry>
         ensures { option_copied result ≡ option_map (λ entry. (path.now, entry)) (map.get self.now path.now) }
     {
@@ -102,7 +102,7 @@ impl Pieces {
         }
     }
 
-    /// Where the entries take their memory.
+    /// The allocator that the entries use.
     pub(crate) fn allocator(&self) -> Global {
         *self.pieces.allocator()
     }
@@ -115,7 +115,7 @@ impl Pieces {
         item_at(pieces, spot_of(pieces, path))
     }
 
-    /// Puts an entry at its path, and answers whether another stood there.
+    /// Puts an entry at its path, and returns whether it replaced another.
     pub(crate) fn put(&mut self, placed: PlacedEntry) -> Result<bool, AllocError>
         ensures ok { OnOk result (self.new ≡ map.insert self.old placed.0 placed.1) }
         ensures stood { IfOk result (λ stood. stood ≡ is_some (map.get self.old placed.0)) }
@@ -128,7 +128,7 @@ impl Pieces {
             replace(&mut self.pieces, spot, placed)?;
             return Ok(true);
         }
-        // More entries than can be counted are more than memory holds.
+        // There can't be more entries than can be counted, since memory can't hold them.
         if self.count == usize::MAX {
             return Err(AllocError);
         }
@@ -137,7 +137,7 @@ impl Pieces {
         Ok(false)
     }
 
-    /// Takes the entry at the path away.
+    /// Removes the entry at the path.
     pub(crate) fn remove(&mut self, path: &TreePath) -> Result<(), AllocError>
         ensures ok { OnOk result (self.new ≡ map.remove self.old path.now) }
         ensures err { OnErr result (self.new ≡ self.old) }
@@ -158,7 +158,8 @@ struct Spot {
     at: usize,
 }
 
-/// Where a path stands or would be put: in the first piece that doesn't end before it. Where all do, behind them.
+/// The place where a path is or would be inserted: in the first piece that doesn't end before it.
+/// If all pieces end before it, the place after them.
 fn spot_of(pieces: &[Piece], path: &TreePath) -> Spot
     requires { AreInOrder pieces.now }
     ensures { IsSpot path.now pieces.now result.piece result.at }
@@ -167,7 +168,7 @@ fn spot_of(pieces: &[Piece], path: &TreePath) -> Spot
     spot_in(pieces, piece, path)
 }
 
-/// The same, where this piece is tried before all are searched.
+/// The same, but this piece is tried before all are searched.
 fn spot_near(pieces: &[Piece], near: usize, path: &TreePath) -> Spot
     requires { AreInOrder pieces.now }
     ensures { IsSpot path.now pieces.now result.piece result.at }
@@ -193,7 +194,7 @@ fn is_first_from(pieces: &[Piece], piece: usize, path: &TreePath) -> bool
     }
 }
 
-/// Whether all pieces before this one end before the path: where the last of them does, all do.
+/// Whether all pieces before this one end before the path: if the last of them does, all do.
 fn earlier_end_before(pieces: &[Piece], piece: usize, path: &TreePath) -> bool
     requires order { AreInOrder pieces.now }
     requires upto { piece ≤ length pieces.now }
@@ -229,7 +230,7 @@ fn item_at(pieces: &[Piece], spot: Spot) -> Option<&PlacedEntry>
     }
 }
 
-/// Whether the entry at the spot of a path stands at this path.
+/// Whether the entry at the spot of a path is at this path.
 fn stands_at(pieces: &[Piece], spot: Spot, path: &TreePath) -> bool
     requires { IsWithin pieces.now spot.piece spot.at }
     ensures { result ≡ is_first path.now (behind pieces.now spot.piece spot.at) }
@@ -240,7 +241,7 @@ fn stands_at(pieces: &[Piece], spot: Spot, path: &TreePath) -> bool
     }
 }
 
-/// Puts an entry in place of the one that stands at its path.
+/// Replaces the entry at its path.
 fn replace(pieces: &mut Vec<Piece>, spot: Spot, placed: PlacedEntry) -> Result<(), AllocError>
     requires order { AreInOrder pieces.old.items }
     requires spot { IsSpot placed.0 pieces.old.items spot.piece spot.at }
@@ -250,7 +251,7 @@ fn replace(pieces: &mut Vec<Piece>, spot: Spot, placed: PlacedEntry) -> Result<(
     pieces[spot.piece].replace(spot.at, placed)
 }
 
-/// Adds an entry at a path where none stands. A full piece is cut in two first.
+/// Adds an entry at a path where there is none. A full piece is split in two first.
 fn add(pieces: &mut Vec<Piece>, spot: Spot, placed: PlacedEntry) -> Result<(), AllocError>
     requires order { AreInOrder pieces.old.items }
     requires spot { IsSpot placed.0 pieces.old.items spot.piece spot.at }
@@ -279,8 +280,8 @@ fn add_at(pieces: &mut Vec<Piece>, spot: Spot, placed: PlacedEntry) -> Result<()
     }
 }
 
-/// Adds an entry behind all others: to the last piece, or where that is full, or there is none, as a piece of its own. So pieces
-/// that are filled in order are full.
+/// Adds an entry after all others: to the last piece, or as a piece of its own if the last one is
+/// full or there is none. So pieces that are filled in order are full.
 fn add_behind(pieces: &mut Vec<Piece>, placed: PlacedEntry) -> Result<(), AllocError>
     requires order { AreInOrder pieces.old.items }
     requires below { AllBelow placed.0 (joined pieces.old.items) }
@@ -297,7 +298,7 @@ fn add_behind(pieces: &mut Vec<Piece>, placed: PlacedEntry) -> Result<(), AllocE
     Ok(())
 }
 
-/// Cuts a piece in two.
+/// Splits a piece in two.
 fn cut(pieces: &mut Vec<Piece>, at: usize) -> Result<(), AllocError>
     requires order { AreInOrder pieces.old.items }
     requires within { at < length pieces.old.items }
@@ -312,7 +313,7 @@ fn cut(pieces: &mut Vec<Piece>, at: usize) -> Result<(), AllocError>
     Ok(())
 }
 
-/// Takes the entry at the spot of its path away, and a piece that it leaves empty.
+/// Removes the entry at the spot of its path, and also its piece if that becomes empty.
 fn take_out(pieces: &mut Vec<Piece>, spot: Spot, path: &TreePath) -> Result<(), AllocError>
     requires order { AreInOrder pieces.old.items }
     requires spot { IsSpot path.now pieces.old.items spot.piece spot.at }

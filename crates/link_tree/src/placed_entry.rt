@@ -7,7 +7,8 @@ use std::marker::Model;
 use std::sync::Arc;
 use unit_paths::TreePath;
 
-/// A path, and what stands there, so that another tree can share both (`Tree::share_in`). Contracts see the pair.
+/// A path and the entry at it, so that another tree can share both (`Tree::share_in`). Contracts
+/// see the pair.
 #[derive(Debug, Drop)]
 pub struct PlacedEntry {
     parts: Arc<(TreePath, Entry)>,
@@ -57,7 +58,7 @@ impl PlacedEntry {
         &self.parts.0
     }
 
-    /// What stands there.
+    /// The entry at the path.
     pub fn entry(&self) -> &Entry
         ensures { result.now ≡ self.now.1 }
     {

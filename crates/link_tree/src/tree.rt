@@ -24,8 +24,9 @@ use std::marker::Model;
 use unit_name::UnitName;
 use unit_paths::{Scope, TreePath};
 
-/// Entries by their paths, none beneath another and none where slots don't allow it, and of each scope the links that belong to
-/// each name. All of it lies in parts that copies share: a change copies few of them. Contracts see a finite map.
+/// Entries by their paths, none beneath another and none where slots don't allow it, and for each
+/// scope the links that belong to each name. All of it is kept in parts that copies share: a change
+/// copies few of them. Contracts see a finite map.
 #[derive(Debug, Drop)]
 pub struct Tree {
     part: TreePart,
@@ -59,7 +60,7 @@ impl Tree {
         Tree::of(alloc, TreePart::empty(alloc)?)
     }
 
-    /// The tree of these entries: its links are listed by their names.
+    /// The tree of these entries: the lists of its links by name are built.
     pub fn of(alloc: Global, part: TreePart) -> Result<Tree, AllocError>
         ensures { IfOk result (λ tree. tree ≡ part) }
     {
@@ -75,8 +76,9 @@ impl Tree {
         &self.part
     }
 
-    /// The paths of the links of the scope that belong to the name, as `systemctl disable` removes them, in byte order. Takes no memory,
-    /// and goes through no entries: they are looked up by the name.
+    /// The paths of the links of the scope that belong to the name, which `systemctl disable`
+    /// removes, in byte order. Allocates no memory and scans no entries: they are looked up by the
+    /// name.
     pub fn belonging(&self, scope: Scope, name: &UnitName) -> &[TreePath]
         ensures { result.now ≡ belonging scope name.now self.now }
     {
@@ -93,14 +95,14 @@ impl Tree {
         }
     }
 
-    /// What stands at the path.
+    /// The entry at the path.
     pub fn get(&self, path: &TreePath) -> Option<&Entry>
         ensures { option_copied result ≡ map.get self.now path.now }
     {
         self.part.get(path)
     }
 
-    /// What stands at the path, with the path, for another tree to share.
+    /// The entry at the path, with the path, to be shared with another tree.
     pub fn placed(&self, path: &TreePath) -> Option<&PlacedEntry>
         ensures { option_copied result ≡ option_map (λ entry. (path.now, entry)) (map.get self.now path.now) }
     {
@@ -114,14 +116,15 @@ impl Tree {
         self.part.len()
     }
 
-    /// Whether there is none.
+    /// Whether the tree is empty.
     pub fn is_empty(&self) -> bool
         ensures { IsTrue result ↔ (map.len self.now ≡ 0) }
     {
         self.len() == 0
     }
 
-    /// Each path with its entry, once, in the byte order of the paths; contracts say only that each is there once.
+    /// Each path with its entry, once, in the byte order of the paths; contracts say only that each
+    /// occurs once.
     pub fn iter(&self) -> Iter<'_>
         ensures entries { IsPermutation result (map.entries self.now) }
         ensures runs { ShowsInOrder (deref_pair {K = List ℕ} {X = Entry}) }
@@ -129,7 +132,7 @@ impl Tree {
         self.part.iter()
     }
 
-    /// An equal tree, which shares its parts with this one and takes no memory.
+    /// An equal tree, which shares its parts with this one and allocates no memory.
     pub fn share(&self) -> Result<Tree, AllocError>
         ensures { IfOk result (λ tree. tree ≡ self.now) }
     {
@@ -147,14 +150,15 @@ impl Tree {
         self.share()
     }
 
-    /// A tree has the shape of one: its entries may stand where they do, and none lies beneath another.
+    /// A tree has the shape of one: its entries are allowed at their paths, and none is beneath
+    /// another.
     pub fn shape(&self)
         ensures { IsTree self.now }
     {
         self.part.shape();
     }
 
-    /// Puts an entry at a slot in place of what stands there, or with `None` takes that away.
+    /// Puts an entry at a slot, replacing the one there, or with `None` removes the one there.
     pub fn set(&mut self, slot: &TreePath, entry: Option<Entry>) -> Result<(), AllocError>
         requires { is_slot slot.now ≡ true }
         ensures ok { OnOk result (self.new ≡ set_entry self.old slot.now entry) }
@@ -173,7 +177,8 @@ impl Tree {
         }
     }
 
-    /// Leaves at a slot what stands there in another tree, and shares it with that tree: an entry, or nothing.
+    /// Makes a slot the same as in another tree, an entry or nothing, and shares the entry with
+    /// that tree.
     pub fn set_as_in(&mut self, slot: &TreePath, other: &Tree) -> Result<(), AllocError>
         requires { is_slot slot.now ≡ true }
         ensures ok { OnOk result (self.new ≡ set_entry self.old slot.now (map.get other.now slot.now)) }
@@ -185,7 +190,8 @@ impl Tree {
         self.share_in(placed)
     }
 
-    /// Puts an entry of another tree at its slot, in place of what stands there, and shares it with that tree.
+    /// Puts an entry of another tree at its slot, replacing the one there, and shares it with that
+    /// tree.
     pub fn share_in(&mut self, placed: &PlacedEntry) -> Result<(), AllocError>
         requires { is_slot placed.now.0 ≡ true }
         ensures ok { OnOk result (self.new ≡ set_entry self.old placed.now.0 (Some placed.now.1)) }
@@ -198,7 +204,7 @@ impl Tree {
         Ok(())
     }
 
-    /// The tree with these changes made: each replaces what stands at a slot. `self` is unchanged.
+    /// The tree with these changes made: each replaces the entry at a slot. `self` is unchanged.
     pub fn with_changes(&self, changes: &[Change]) -> Result<Tree, AllocError>
         requires slots { All (λ change. is_slot change.path ≡ true) changes.now }
         requires from { AreFrom self.now changes.now }
@@ -211,8 +217,8 @@ impl Tree {
         Ok(tree)
     }
 
-    /// Makes these changes: each replaces what stands at a slot. One alone is made in place; several are made on a copy, which then takes this
-    /// tree's place.
+    /// Makes these changes: each replaces the entry at a slot. A single change is made in place;
+    /// several are made on a copy, which then replaces this tree.
     pub fn make_changes(&mut self, changes: &[Change]) -> Result<(), AllocError>
         requires slots { All (λ change. is_slot change.path ≡ true) changes.now }
         requires from { AreFrom self.old changes.now }
@@ -236,7 +242,7 @@ impl Tree {
         self.part.pieces()
     }
 
-    /// Puts an entry at the path, and answers whether another stood there.
+    /// Puts an entry at the path, and returns whether it replaced another.
     pub(crate) fn insert(&mut self, path: TreePath, entry: Entry) -> Result<bool, AllocError>
         requires fits { fits_at path entry ≡ true }
         requires apart { is_crowded self.old path ≡ false }
@@ -248,7 +254,8 @@ impl Tree {
         self.put(placed)
     }
 
-    /// The same, where the entry has its path with it. The next lists of names are made first: after the entry is put, nothing fails.
+    /// The same, for an entry that has its path with it. The next lists of names are made first:
+    /// after the entry is put, nothing fails.
     fn put(&mut self, placed: PlacedEntry) -> Result<bool, AllocError>
         requires fits { fits_at placed.0 placed.1 ≡ true }
         requires apart { is_crowded self.old placed.0 ≡ false }
@@ -263,7 +270,7 @@ impl Tree {
         Ok(stood)
     }
 
-    /// Takes the entry at the path away. As with `put`, nothing fails after that.
+    /// Removes the entry at the path. As with `put`, nothing fails after that.
     fn remove(&mut self, path: &TreePath) -> Result<(), AllocError>
         ensures ok { OnOk result (self.new ≡ map.remove self.old path.now) }
         ensures err { OnErr result (self.new ≡ self.old) }
@@ -275,7 +282,7 @@ impl Tree {
         Ok(())
     }
 
-    /// The links of the two scopes by their names, when what stands at a path has changed.
+    /// The links of the two scopes by their names, after the entry at a path has changed.
     fn names_after(
         &self,
         path: &TreePath,
@@ -305,7 +312,7 @@ impl Tree {
         Ok((etc, run))
     }
 
-    /// Whether an entry lies beneath the path, or the path beneath an entry.
+    /// Whether an entry is beneath the path, or the path beneath an entry.
     pub(crate) fn is_crowded(&self, path: &TreePath) -> Result<bool, AllocError>
         ensures { IfOk result (λ crowded. crowded ≡ is_crowded self.now path.now) }
     {
@@ -313,8 +320,8 @@ impl Tree {
     }
 }
 
-/// Appends a number as it is written: in decimal digits, without leading zeros. Where memory runs out, the text stays as it
-/// was.
+/// Appends a number in decimal digits, without leading zeros. If memory runs out, the text stays
+/// unchanged.
 pub fn push_decimal(out: &mut Vec<u8>, number: usize) -> Result<(), AllocError>
     ensures ok { OnOk result (out.new.items ≡ out.old.items ++ decimal number) }
     ensures err { OnErr result (out.new.items ≡ out.old.items) }

@@ -1,4 +1,4 @@
-//! Entries by their paths, without what is known of names.
+//! Entries by their paths, without the lists of names.
 ghost use Rattle.std.specs.Prelude.{◌≡◌, IfOk, OnOk, OnErr, IsTrue, true, false, is_some, Some, ◌↔◌, ℕ, List, IsPermutation};
 ghost use Rattle.std.specs.List.{list_any};
 ghost use Rattle.std.specs.Map.Iter.{ShowsInOrder, deref_pair};
@@ -20,9 +20,9 @@ use std::marker::Model;
 use std::sync::Arc;
 use unit_paths::TreePath;
 
-/// Entries by their paths, none beneath another and none where slots don't allow it: those of a tree, or some of them. They lie in
-/// pieces, in the byte order of the paths, and copies share these: a change copies the piece in which it is made, and no other.
-/// Contracts see a finite map.
+/// Entries by their paths, none beneath another and none where slots don't allow it: all of a tree,
+/// or some of them. They are kept in pieces, in the byte order of the paths, and copies share
+/// these: a change copies the piece in which it is made, and no other. Contracts see a finite map.
 #[derive(Debug, Drop)]
 pub struct TreePart {
     pieces: Arc<Pieces>,
@@ -47,7 +47,7 @@ impl Model for TreePart {
 }
 
 impl TreePart {
-    /// No entry.
+    /// A part with no entries.
     pub fn empty(alloc: Global) -> Result<TreePart, AllocError>
         ensures { IfOk result (λ part. part ≡ map.empty) }
     {
@@ -56,14 +56,14 @@ impl TreePart {
         })
     }
 
-    /// What stands at the path.
+    /// The entry at the path.
     pub fn get(&self, path: &TreePath) -> Option<&Entry>
         ensures { option_copied result ≡ map.get self.now path.now }
     {
         self.pieces.get(path)
     }
 
-    /// What stands at the path, with the path, for another tree to share.
+    /// The entry at the path, with the path, to be shared with another tree.
     pub fn placed(&self, path: &TreePath) -> Option<&PlacedEntry>
         ensures { option_copied result ≡ option_map (λ entry. (path.now, entry)) (map.get self.now path.now) }
     {
@@ -77,14 +77,15 @@ impl TreePart {
         self.pieces.len()
     }
 
-    /// Whether there is none.
+    /// Whether the part is empty.
     pub fn is_empty(&self) -> bool
         ensures { IsTrue result ↔ (map.len self.now ≡ 0) }
     {
         self.len() == 0
     }
 
-    /// Each path with its entry, once, in the byte order of the paths; contracts say only that each is there once.
+    /// Each path with its entry, once, in the byte order of the paths; contracts say only that each
+    /// occurs once.
     pub fn iter(&self) -> Iter<'_>
         ensures entries { IsPermutation result (map.entries self.now) }
         ensures runs { ShowsInOrder (deref_pair {K = List ℕ} {X = Entry}) }
@@ -92,7 +93,7 @@ impl TreePart {
         Iter::new(self.pieces())
     }
 
-    /// An equal part, which shares its pieces with this one and takes no memory.
+    /// An equal part, which shares its pieces with this one and allocates no memory.
     pub fn share(&self) -> Result<TreePart, AllocError>
         ensures { IfOk result (λ part. part ≡ self.now) }
     {
@@ -108,14 +109,15 @@ impl TreePart {
         self.share()
     }
 
-    /// The entries may stand where they do, and none lies beneath another.
+    /// The entries are allowed at their paths, and none is beneath another.
     pub fn shape(&self)
         ensures { IsTree self.now }
     {
         let _pieces = &self.pieces;
     }
 
-    /// Puts an entry of another tree at its slot, in place of what stands there, and shares it with that tree.
+    /// Puts an entry of another tree at its slot, replacing the one there, and shares it with that
+    /// tree.
     pub fn share_in(&mut self, placed: &PlacedEntry) -> Result<(), AllocError>
         requires { is_slot placed.now.0 ≡ true }
         ensures ok { OnOk result (self.new ≡ set_entry self.old placed.now.0 (Some placed.now.1)) }
@@ -138,12 +140,12 @@ impl TreePart {
         self.pieces.pieces()
     }
 
-    /// Where the entries take their memory.
+    /// The allocator that the entries use.
     pub(crate) fn allocator(&self) -> Global {
         self.pieces.allocator()
     }
 
-    /// Puts an entry at the path, and answers whether another stood there.
+    /// Puts an entry at the path, and returns whether it replaced another.
     pub(crate) fn insert(&mut self, path: TreePath, entry: Entry) -> Result<bool, AllocError>
         requires fits { fits_at path entry ≡ true }
         requires apart { is_crowded self.old path ≡ false }
@@ -155,7 +157,7 @@ impl TreePart {
         self.put(placed)
     }
 
-    /// The same, where the entry has its path with it.
+    /// The same, for an entry that has its path with it.
     pub(crate) fn put(&mut self, placed: PlacedEntry) -> Result<bool, AllocError>
         requires fits { fits_at placed.0 placed.1 ≡ true }
         requires apart { is_crowded self.old placed.0 ≡ false }
@@ -166,7 +168,7 @@ impl TreePart {
         Arc::make_mut(&mut self.pieces)?.put(placed)
     }
 
-    /// Takes the entry at the path away.
+    /// Removes the entry at the path.
     pub(crate) fn remove(&mut self, path: &TreePath) -> Result<(), AllocError>
         ensures ok { OnOk result (self.new ≡ map.remove self.old path.now) }
         ensures err { OnErr result (self.new ≡ self.old) }
@@ -174,7 +176,7 @@ impl TreePart {
         Arc::make_mut(&mut self.pieces)?.remove(path)
     }
 
-    /// Whether an entry lies beneath the path, or the path beneath an entry.
+    /// Whether an entry is beneath the path, or the path beneath an entry.
     pub(crate) fn is_crowded(&self, path: &TreePath) -> Result<bool, AllocError>
         ensures { IfOk result (λ crowded. crowded ≡ is_crowded self.now path.now) }
     {
@@ -182,7 +184,7 @@ impl TreePart {
         Ok(self.has_above(path)? || self.has_beneath(path)?)
     }
 
-    /// Whether the path lies beneath an entry: each directory above it is looked up.
+    /// Whether the path is beneath an entry: each directory above it is looked up.
     fn has_above(&self, path: &TreePath) -> Result<bool, AllocError>
         requires { IsTree self.now }
         ensures { IfOk result (λ found. found ≡ list_any (is_beneath path.now) (map.keys self.now)) }
@@ -198,7 +200,7 @@ impl TreePart {
         Ok(false)
     }
 
-    /// Whether an entry lies beneath the path: the first that could is looked up.
+    /// Whether an entry is beneath the path: the first that could be is looked up.
     fn has_beneath(&self, path: &TreePath) -> Result<bool, AllocError>
         requires { IsTree self.now }
         ensures { IfOk result (λ found. found ≡ list_any (λ other. is_beneath other path.now) (map.keys self.now)) }

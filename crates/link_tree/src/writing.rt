@@ -1,4 +1,4 @@
-//! Writing trees: the one text of a tree.
+//! Writing trees: the unique text of a tree.
 ghost use Rattle.std.specs.Prelude.{◌≡◌, ◌<◌, ◌^◌, ◌++◌, true, [], length, OnOk, IfErr};
 ghost use Rattle.std.specs.FinMap as map;
 ghost use Rattle.std.specs.Io.KnownBytes.{Appends};
@@ -25,10 +25,11 @@ pub enum WriteError {
     OutOfMemory,
 }
 
-/// More entries than memory holds, of which the lines' bytes can still be counted.
+/// More entries than fit in memory, yet few enough that the bytes of their lines can be counted.
 const MOST_ENTRIES: usize = 0x100_0000_0000;
 
-/// More bytes than memory holds, to which those of so many entries can still be added.
+/// More bytes than fit in memory, yet few enough that the bytes of `MOST_ENTRIES` entries can be
+/// added.
 const MOST_BYTES: usize = 0x4000_0000_0000_0000;
 
 fn write_line<K: Sink>(
@@ -100,7 +101,7 @@ fn write_tree<K: Sink>(
     writer.write(b"end\n", sink)
 }
 
-/// Writes a text and that of the tree behind it, and flushes.
+/// Writes a text followed by that of the tree, and flushes.
 fn write_both<K: Sink>(
     mut writer: BufferedWriter,
     text: &[u8],
@@ -119,8 +120,9 @@ fn write_both<K: Sink>(
     writer.finish(sink)
 }
 
-/// Writes a text and the one text of the tree behind it, and flushes. All memory is taken before the first byte goes out,
-/// so want of it leaves nothing written. Over 2⁴⁰ entries, or 2⁶² bytes of text, count as more than memory holds.
+/// Writes a text followed by the unique text of the tree, and flushes. All memory is allocated
+/// before the first byte is sent, so if memory runs out, nothing is written. Over 2⁴⁰ entries, or
+/// 2⁶² bytes of text, count as out of memory.
 pub fn write_before_inventory<K: Sink>(
     alloc: Global,
     text: &[u8],
@@ -145,8 +147,8 @@ pub fn write_before_inventory<K: Sink>(
     }
 }
 
-/// Writes the one text of the tree, and flushes. All memory is taken before the first byte goes out, so want of it
-/// leaves nothing written. Over 2⁴⁰ entries count as more than memory holds.
+/// Writes the unique text of the tree, and flushes. All memory is allocated before the first byte
+/// is sent, so if memory runs out, nothing is written. Over 2⁴⁰ entries count as out of memory.
 pub fn write_inventory<K: Sink>(alloc: Global, tree: &Tree, sink: &mut K) -> Result<(), WriteError>
     ensures ok { OnOk result (Appends (K.written sink.old) (K.written sink.new) (inventory_text tree.now)) }
     ensures flushed { OnOk result (K.flushed sink.new ≡ true) }

@@ -23,18 +23,18 @@ pub later_cell : (first cell : List ℕ) (cells : List (List ℕ)) → Contains 
 later_cell first cell cells (k, within, is) = (suc k, omega (arith, within), is)
 
 module _ (t : Entries) (cell : List ℕ) where
-  -- the cell is reached from a path by fewer than so many links
+  -- the cell is reached from a path by fewer links than this number
   abbrev Reached : ℕ → List ℕ → Type 0
   Reached most path = (links : ℕ) × (links < most) × Leads t path links cell
 
-  -- the cells of a chain that has come to a link with this target
+  -- the cells of a chain that has reached a link with this target
   abbrev Looked : (links : ℕ) (last link target : List ℕ) → Type 0
   Looked links last link target = Contains ((chain links last link target).cells t) cell
 
   abbrev OnChain : (links : ℕ) (link target : List ℕ) → Type 0
   OnChain links link target = (next : List ℕ) × (canonical link target ≡ Some next) × (is_null next ≡ false) × Reached links next
 
-  -- at a path, and then behind the link that stands there
+  -- at a path, and then after the link that is there
   entry_to : (links : ℕ) (link next : List ℕ) (o : Option Entry) → map.get t next ≡ o → Contains ((by_entry (chain links link next) next link o).cells t) cell
       → (target : List ℕ) × (map.get t next ≡ Some (entries.Link target)) × Looked links link next target
   entry_to links link next None is h = no_cell cell h
@@ -64,7 +64,7 @@ module _ (t : Entries) (cell : List ℕ) where
   chain_to zero last link target h = no_cell cell h
   chain_to (suc links) last link target h = path_to links link target (λ next other here. chain_to links link next other here) (canonical link target) refl h
 
-  -- the way back
+  -- the other direction
   by_link : (links : ℕ) (link next target : List ℕ) → map.get t next ≡ Some (entries.Link target) → Looked links link next target
       → Contains (next ∷ (by_entry (chain links link next) next link (map.get t next)).cells t) cell
   by_link links link next target is here = later_cell next cell _ (subst (λ o. Contains ((by_entry (chain links link next) next link o).cells t) cell) (sym is) here)

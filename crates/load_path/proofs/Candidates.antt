@@ -24,7 +24,7 @@ abbrev pub Slot : Type 0
 Slot = Place × List ℕ
 
 module _ (t : Entries) where
-  -- the candidates that are looked at, and the first at which something stands
+  -- the candidates that are looked at, and the first one that has an entry
   abbrev pub after_one : Option Entry → List (List ℕ) → List (List ℕ)
   after_one None cells = cells
   after_one (Some entry) cells = []
@@ -67,7 +67,7 @@ module _ (t : Entries) where
   template-is Template name = (refl, refl)
   template-is Instance name = first_in-is places (template_of name)
 
-  -- more candidates behind others
+  -- the cells of later candidates, which are only looked at if nothing was found before
   abbrev unless_found : Option Standing → List (List ℕ) → List (List ℕ)
   unless_found None cells = cells
   unless_found (Some first) cells = []
@@ -113,7 +113,7 @@ module _ (t : Entries) where
         more.1 ∙ ap (λ o. or_found o (found (template_slots (kind_of (instance_of name)) name))) own.1 ∙ sym both.1,
       )
 
-  -- the place of a candidate among the others
+  -- the position of a candidate among the others
   abbrev Splits : List Slot → Slot → Type 0
   Splits xs slot = (before after : List Slot) × (xs ≡ before ++ slot ∷ after) × All (λ earlier. map.get t earlier.1 ≡ None) before
 
@@ -146,7 +146,7 @@ module _ (t : Entries) where
   found_to [] first h = cc
   found_to (one ∷ rest) first h = found_by one rest first (map.get t one.1) refl h (λ later. found_to rest first later)
 
-  -- the way back
+  -- the other direction
   none_at : (one : Slot) (before : List Slot) → All (λ earlier. map.get t earlier.1 ≡ None) (one ∷ before) → map.get t one.1 ≡ None
   none_at one before all = All-head (λ (earlier : Slot). map.get t earlier.1 ≡ None) one before all
 

@@ -1,4 +1,4 @@
--- Chains of links, as they are followed and as they stand.
+-- Chains of links: how they are followed, and how they are in a tree.
 use Rattle.std.proofs.Common.{◌≡◌, ℕ, zero, suc, ◌+◌, ◌-◌, ◌<◌, ◌≤◌, true, false, cond, List, [], ◌∷◌, length, Option, Some, None, refl, sym, ap, subst, ◌∙◌, arith}
 use Rattle.std.specs.FinMap as map
 use Rattle.unit_paths.specs.Canonical.{canonical}
@@ -15,7 +15,7 @@ use Rattle.load_path.specs.Laws.{FollowIsChain, FileIsLed}
 use Rattle.load_path.specs.Chains.Leads.{Here, Onward}
 use Rattle.load_path.specs.Chains.EndsAt.{AtNothing, AtFile, AtEmptyFile, AtNullLink, AtBadTarget, BeforeNothing, BeforeNinthLink}
 
--- where the chain ends that has come to a link
+-- where the chain that has reached a link ends
 abbrev end_from : Entries → (links : ℕ) (last link target : List ℕ) → End
 end_from t links last link target = end_of ((chain links last link target).conclusion t)
 
@@ -25,11 +25,11 @@ end_by_path t links link o = end_of ((by_path (chain links link) link o).conclus
 abbrev end_by_entry : Entries → (links : ℕ) (link next : List ℕ) → Option Entry → End
 end_by_entry t links link next o = end_of ((by_entry (chain links link next) next link o).conclusion t)
 
--- the end of a chain at this path itself
+-- a chain that ends at this path itself
 ends-here : (t : Entries) (most : ℕ) (path : List ℕ) (end : End) → EndsAt t most path end → LeadsTo t most path end
 ends-here t most path end ends = (zero, most, path, omega arith, Here path, ends)
 
--- a link before a chain
+-- one more link in front of a chain
 ends-on : (t : Entries) (most : ℕ) (path next : List ℕ) (end : End) → LinksTo t path next → LeadsTo t most next end → LeadsTo t (suc most) path end
 ends-on t most path next end links led = (suc led.0, led.1, led.2, (let count = led.3 in omega (arith, count)), Onward path next led.2 led.0 links led.4, led.5)
 
@@ -79,7 +79,7 @@ same-link one other h = cc
 same-path : (one other : List ℕ) → Some one ≡ Some other → one ≡ other
 same-path one other h = cc
 
--- what a chain comes to, by what stands where it is
+-- the end of a chain, by what is at the path that it has reached
 nowhere-end : (t : Entries) (links : ℕ) (last link target : List ℕ) → canonical link target ≡ None → end_from t (suc links) last link target ≡ ends.Dangling link
 unfolding chain
 nowhere-end t links last link target leads = ap (end_by_path t links link) leads
@@ -94,7 +94,7 @@ unfolding chain
 next-end t links last link target next leads other =
     ap (end_by_path t links link) leads ∙ ap (λ b. end_of ((cond b (over Null) (look next >>= by_entry (chain links link next) next link)).conclusion t)) other
 
--- a link that is there leads to one path
+-- if the link leads to another path, the chain goes on there
 linked-end : (t : Entries) (links : ℕ) (last link target next : List ℕ) → map.get t link ≡ Some (entries.Link target) → LinksTo t link next → end_from t (suc links) last link target ≡ end_by_entry t links link next (map.get t next)
 linked-end t links last link target next is linked =
     let same : linked.0 ≡ target = same-link linked.0 target (sym linked.1 ∙ is) in
@@ -104,7 +104,7 @@ none-left : (t : Entries) (links : ℕ) (last link target : List ℕ) → links 
 unfolding chain
 none-left t links last link target none = ap (λ links. end_from t links last link target) none
 
--- a chain can't go on from where nothing stands
+-- a chain can't go on from a path at which nothing is
 nothing-end : (t : Entries) (path last : List ℕ) (links more : ℕ) (end : End) → map.get t path ≡ None → Leads t path links last → EndsAt t more last end → (ends.Missing ≡ end) × (more ≡ 8)
 nothing-end t path last links more end none (Here here) (AtNothing eight there) = (refl, eight)
 nothing-end t path last links more end none (Here here) (AtFile file) = let there = file.1 in absurd (cc)
@@ -122,7 +122,7 @@ kept-file (b ∷ bs) path link some = refl
 same-file : (one other : List ℕ) → Some (entries.File one) ≡ Some (entries.File other) → one ≡ other
 same-file one other h = cc
 
--- at a file it ends
+-- the chain ends at a file
 file-end : (t : Entries) (path last contents link : List ℕ) (links more : ℕ) (end : End) → map.get t path ≡ Some (entries.File contents) → Leads t path links last → EndsAt t more last end → end_of (at_file contents path link) ≡ end
 file-end t path last contents link links more end is (Here here) (AtNothing eight there) = absurd (cc)
 file-end t path last contents link links more end is (Here here) (AtFile file) =
@@ -137,7 +137,7 @@ file-end t path last contents link links more end is (Here here) (BeforeNothing 
 file-end t path last contents link links more end is (Here here) (BeforeNinthLink next one linked other) = let there = linked.1 in absurd (cc)
 file-end t path last contents link links more end is (Onward here next end_path rest linked leads) ends = let there = linked.1 in absurd (cc)
 
--- a link where none may be followed isn't the end
+-- a link isn't the end if no more links may be followed
 link-left : (t : Entries) (path last target : List ℕ) (links more : ℕ) (end : End) → map.get t path ≡ Some (entries.Link target) → Leads t path links last → EndsAt t more last end → links + more ≡ 0 → ⊥
 link-left t path last target links more end is (Here here) (AtNothing eight there) none = absurd (cc)
 link-left t path last target links more end is (Here here) (AtFile file) none = let there = file.1 in absurd (cc)

@@ -1,4 +1,4 @@
--- How many cells are looked at.
+-- The number of cells that are looked at.
 use Rattle.std.proofs.Common.{ℕ, zero, suc, ◌≤◌, true, false, cond, List, [], ◌∷◌, length, length-append, Option, Some, None, arith}
 use Rattle.std.specs.FinMap as map
 use Rattle.unit_name.specs.declared.kind.Kind.{Kind}

@@ -1,4 +1,4 @@
--- What dangles is a link: a file that stands where a name is looked up is that unit's.
+-- What dangles is a link: a file in a slot at which a name is looked for is that unit's.
 use Rattle.std.proofs.Common.{◌≡◌, ℕ, zero, suc, ◌+◌, true, false, cond, List, [], ◌∷◌, ◌++◌, length, length-append, get_or, drop, Option, Some, None, refl, sym, ap, subst, ◌∙◌, inl, inr, arith}
 use Rattle.std.specs.List.{list_any, list_all}
 use Rattle.std.specs.FinMap as map
@@ -47,7 +47,7 @@ at-seam : (dir name : List ℕ) → get_or (dir ++ 47 ∷ name) (length dir) 0 �
 at-seam [] name = refl
 at-seam (b ∷ dir) name = at-seam dir name
 
--- the name of a unit's slot is the unit's
+-- the name part of a unit's slot is the unit's name
 slot-name : (place : Place) (name : List ℕ) → IsUnitName name → name ≡ name_at (unit_slot place name)
 slot-name place name is =
     let dir = unit_directory place in
@@ -70,7 +70,7 @@ own-kinds (Some (b ∷ bs)) name is =
     let same : is_same_instance (instance_of name) (instance_of name) ≡ true = rw is ((bytes_eq-Decides (b ∷ bs) (b ∷ bs)).1 refl) in
     ap (λ b. cond b (Some name) None) same
 
--- a file with the name itself
+-- a file with the same name as the unit
 own-real : (name : List ℕ) → IsUnitName name → real_name name name ≡ Some name
 unfolding real_name
 own-real name is = rw (no_fault_in_name name is, own-type name is) (own-kinds (instance_of name) name refl)
@@ -91,7 +91,7 @@ instance-named name valid is = template_named name valid (λ plain. absurd (let 
     not_both : Plain ≡ Instance → ⊥
     not_both e = absurd (cc)
 
--- a file with the name of its template
+-- a file with the name of the unit's template
 template-real : (name : List ℕ) → IsUnitName name → kind_of (instance_of name) ≡ Instance → real_name name (template_of name) ≡ Some name
 unfolding real_name
 template-real name valid is =
@@ -101,7 +101,7 @@ template-real name valid is =
     let its_kind : kind_of (instance_of (template_of name)) ≡ Template = ap kind_of set.0 in
     rw (no_fault_in_name (template_of name) template, its_type, its_kind) (filled-kinds (kind_of (instance_of name)) (instance_of name) name valid is refl refl)
 
--- The last link of a chain is one.
+-- The last link of a chain is a link in the tree.
 abbrev LastIsLink : Entries → ChainEnd → Type 0
 LastIsLink t Null = Unit {0}
 LastIsLink t (File path link) = IsLinkAt t link
@@ -142,7 +142,7 @@ first_in-slot (place ∷ ps) name t = elim (map.get t (unit_slot place name)) as
   | Some entry ↦ refl
 ]
 
--- a file there is the unit's
+-- a file there belongs to the unit
 abbrev IsOwn : List ℕ → Option Standing → Type 0
 IsOwn name None = Unit {0}
 IsOwn name (Some first) = real_name name (name_at first.1) ≡ Some name

@@ -52,7 +52,7 @@ module _ (t : Entries) (file last : List ℕ) where
   chain_from-file : (path : List ℕ) (entry : Entry) → map.get t path ≡ Some entry → (chain_from path entry).conclusion t ≡ File file last → IsFileAt t file
   chain_from-file path entry is h = entry-file (chain 8 path path) path path (λ target. chain-file 8 path path target) (Some entry) is h
 
--- the entry stands at its path
+-- the entry is at its path in the tree
 abbrev pub Stands : Entries → Option Standing → Type 0
 Stands t None = Unit {0}
 Stands t (Some first) = map.get t first.1 ≡ Some first.2
@@ -78,7 +78,7 @@ pub first_entry-stands : (name : List ℕ) (t : Entries) → Stands t ((first_en
 unfolding first_entry
 first_entry-stands name t = or_template-stands name t ((first_in places name).conclusion t) (first_in-stands places name t)
 
--- what is known of a unit that was found
+-- facts about a unit that was found
 pub record Known (name file real : List ℕ) (end : ChainEnd) : Type 0 where
   pub link : List ℕ
   pub is_end : end ≡ File file link

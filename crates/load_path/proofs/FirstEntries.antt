@@ -1,4 +1,4 @@
--- What a name is found as, by its first entry.
+-- What a name is found to be, by its first entry.
 use Rattle.std.proofs.Common.{◌≡◌, ℕ, true, List, [], ◌∷◌, All, Option, Some, None, is_some, refl, sym, ap, subst, ◌∙◌, ◌⊎◌, inl, inr}
 use Rattle.std.specs.FinMap as map
 use Rattle.std.proofs.lemmas.Bool.{false≢true}
@@ -52,7 +52,7 @@ module _ (t : Entries) where
     unfolding follow
     followed-end path entry at = ap (λ o. (followed path o).conclusion t) at
 
-    -- what is found at a first entry
+    -- the result for a name whose first entry is at this slot
     abbrev FoundAt : Place → List ℕ → Type 0
     FoundAt place path = (end : ChainEnd) × ((find name).conclusion t ≡ found_at name place end) × ((follow path).conclusion t ≡ end_of end)
         × (entry : Entry) × (map.get t path ≡ Some entry) × ((chain_from path entry).conclusion t ≡ end)
@@ -69,7 +69,7 @@ module _ (t : Entries) where
     at_first : (slot : Slot) → IsFirstEntry t name slot → FoundAt slot.0 slot.1
     at_first slot first = at_entry slot first (map.get t slot.1) refl first.1
 
-    -- what is found is found at a first entry, or nothing is
+    -- either nothing is found, or the result is that of a first entry
     abbrev Cases : Type 0
     Cases = (((find name).conclusion t ≡ founds.Missing) × Empty (candidates name)) ⊎ ((slot : Slot) × IsFirstEntry t name slot × FoundAt slot.0 slot.1)
 
@@ -167,7 +167,7 @@ module _ (t : Entries) where
         let here = at_first (place, path) first in
         here.1 ∙ file_end place real file here.0 (sym here.2 ∙ (follow_is_chain path (ends.File file) t).1 led) is
 
-    -- where a link dangles, or a file isn't for this name
+    -- a link dangles, or a file isn't right for this name
     abbrev Nowhere : List ℕ → List ℕ → Type 0
     Nowhere path link = LeadsTo t 8 path (ends.Dangling link) ⊎ LeadsToForeign t name path link
 

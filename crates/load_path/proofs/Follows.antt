@@ -1,4 +1,4 @@
--- A unit is looked up by following what stands in its slot.
+-- A unit is looked up by following what is in its slot.
 use Rattle.std.proofs.Common.{◌≡◌, ℕ, List, Option, Some, None, refl, ap, subst, ◌∙◌, inl, inr}
 use Rattle.std.specs.FinMap as map
 use Rattle.unit_name.specs.declared.kind.Kind.{Kind}

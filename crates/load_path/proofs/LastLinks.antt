@@ -52,7 +52,7 @@ module _ (t : Entries) (last file : List ℕ) where
   chain_to zero before link target is h = cc
   chain_to (suc links) before link target is h = path_to links link target is (λ next other at here. chain_to links link next other at here) (canonical link target) refl h
 
-  -- the way back
+  -- the other direction
   next_is : (links : ℕ) (before link target next : List ℕ) → map.get t link ≡ Some (entries.Link target) → LinksTo t link next
       → (chain (suc links) before link target).conclusion t ≡ (by_entry (chain links link next) next link (map.get t next)).conclusion t
   unfolding chain
@@ -61,7 +61,7 @@ module _ (t : Entries) (last file : List ℕ) where
       ap (λ o. (by_path (chain links link) link o).conclusion t) (ap (canonical link) (sym same) ∙ linked.2)
       ∙ ap (λ b. (cond b (over Null) (look next >>= by_entry (chain links link next) next link)).conclusion t) linked.3
 
-  -- a link stands where a chain begins that goes on
+  -- there is a link where a chain begins that goes on
   link_there : (path : List ℕ) (k : ℕ) → Leads t path k last → LinksTo t last file → (target : List ℕ) × (map.get t path ≡ Some (entries.Link target))
   link_there path zero (Here here) linked = (linked.0, linked.1)
   link_there path (suc k) (Onward here next end rest first way) linked = (first.0, first.1)
@@ -75,7 +75,7 @@ module _ (t : Entries) (last file : List ℕ) where
       next_is links before link target next is first ∙ ap (λ o. (by_entry (chain links link next) next link o).conclusion t) there.1
       ∙ chain_back links link next there.0 there.1 k (omega (arith, less)) way linked stands
 
-  -- from a first entry
+  -- from the first entry
   pub last_to : (path : List ℕ) (entry : Entry) → map.get t path ≡ Some entry → (chain_from path entry).conclusion t ≡ File file last → IsFileAt t file × IsLastLink t path last file
   last_to path (entries.File contents) at h = let found = at_file-to contents path path at h in (subst (IsFileAt t) found.0 found.2, inl (sym found.1, sym found.0))
   last_to path (entries.Link target) at h = let way = chain_to 8 path path target at h in (way.4, inr (way.0, way.1, way.2, way.3))

@@ -25,7 +25,7 @@ real_by_kinds name file text e is same =
     let same_text : is_same_type (type_of name) (type_of text) ≡ true = ap (λ other. is_same_type (type_of name) (type_of other)) (sym e) ∙ same in
     rw e (rw (no_fault_in_name text is, same_text) refl)
 
--- what stands after a slash that is the last
+-- what comes after a slash, if that is the last one
 pub name-after : (text : List ℕ) (i : ℕ) → i < length text → get_or text i 0 ≡ 47 → list_any is_slash (drop (suc i) text) ≡ false → drop (i + 1) text ≡ name_at text
 name-after text i within here none =
     let same : i + 1 ≡ suc i = omega arith in

@@ -1,4 +1,4 @@
--- Each cell once.
+-- Each cell is listed once.
 use Rattle.std.proofs.Common.{◌≡◌, ℕ, ◌+◌, ◌≤◌, true, false, List, [], ◌∷◌, ◌++◌, length, length-append, All, Contains, refl, ap, subst, inl, inr, arith, ◌⊎◌}
 use Rattle.std.specs.List.{list_any, IsDistinct}
 use Rattle.std.specs.Str.{bytes_eq}
@@ -21,7 +21,7 @@ new : (cells : List (List ℕ)) (cell : List ℕ) → list_any (bytes_eq cell) c
 unfolding with_cell
 new cells cell is = rw is refl
 
--- what holds of the cells as they are and with one more holds
+-- a property of both the unchanged cells and the cells with one more holds after `with_cell`
 by_cell : (P : List (List ℕ) → Type 0) (cells : List (List ℕ)) (cell : List ℕ)
     → (list_any (bytes_eq cell) cells ≡ true → P cells) → (list_any (bytes_eq cell) cells ≡ false → P (cells ++ cell ∷ [])) → P (with_cell cells cell)
 by_cell P cells cell same more = elim (cases_Bool (list_any (bytes_eq cell) cells)) [

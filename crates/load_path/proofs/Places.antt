@@ -1,4 +1,4 @@
--- The directory that an answer names is that of the name's entry.
+-- The directory that a result names is that of the name's entry.
 use Rattle.std.proofs.Common.{◌≡◌, ℕ, Bool, cond, List, [], ◌∷◌, Option, Some, None, is_some, refl, sym, ap, ◌∙◌}
 use Rattle.std.specs.List.{find as first_of}
 use Rattle.std.specs.Option.{option_map, option_or}

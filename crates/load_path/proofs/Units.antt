@@ -1,4 +1,4 @@
--- The name of a unit beside the one that led to it.
+-- The name of a unit, compared with the name that led to it.
 use Rattle.std.proofs.Common.{◌≡◌, ℕ, ◌&&◌, Bool, true, false, cond, List, [], ◌∷◌, Option, Some, None, is_none, refl, sym, ap, subst, ◌∙◌}
 use Rattle.std.proofs.lemmas.Bool.{and_parts}
 use Rattle.unit_name.specs.declared.fault.NameFault.{NameFault}
@@ -45,7 +45,7 @@ same-instance None other h = absurd (cc)
 same-instance (Some one) None h = absurd (cc)
 same-instance (Some one) (Some other) h = ap (λ text. Some text) (same_bytes one other h)
 
--- what is known of a real name, the file's name and the instance of the name that was looked up
+-- facts about a real name, given the file's name and the instance of the name that was looked up
 record Like (file : List ℕ) (instance : Option (List ℕ)) (real : List ℕ) : Type 0 where
   valid : is_unit_name real ≡ true
   its_type : type_of real ≡ type_of file

@@ -10,7 +10,7 @@ use Rattle.load_path.specs.declared.following.ChainEnd.{ChainEnd}
 use Rattle.load_path.specs.declared.following.ChainEnd.TheVariants.{Null, File, Dangling}
 use Rattle.load_path.specs.Search.{Search, over, look, giving, ◌>>=◌}
 
--- /dev/null stands for nothing, as an empty file does, and is not looked at
+-- /dev/null counts as an empty file, and is not looked at
 abbrev pub is_null : List ℕ → Bool
 is_null path = bytes_eq path (codes "/dev/null")
 
@@ -19,13 +19,13 @@ abbrev pub at_file : (contents path link : List ℕ) → ChainEnd
 at_file [] path link = Null
 at_file (b ∷ bs) path link = File path link
 
--- it goes on at a link, and with no entry it ends at the link before
+-- the chain goes on at a link; if there is no entry, it ends at the link before
 abbrev pub by_entry : (on : List ℕ → Search ChainEnd) (path link : List ℕ) → Option Entry → Search ChainEnd
 by_entry on path link None = over (Dangling link)
 by_entry on path link (Some (entries.File contents)) = over (at_file contents path link)
 by_entry on path link (Some (entries.Link target)) = on target
 
--- it goes on at the path to which a link leads
+-- the chain goes on at the path to which a link leads
 abbrev pub by_path : (on : List ℕ → List ℕ → Search ChainEnd) (link : List ℕ) → Option (List ℕ) → Search ChainEnd
 by_path on link None = over (Dangling link)
 by_path on link (Some path) =
@@ -34,7 +34,8 @@ by_path on link (Some path) =
       entry ← look path
       by_entry (on path) path link entry)
 
--- The end of a chain that has come to this link by the last one, where so many links may be followed.
+-- The end of a chain that has reached `link` from `last`, if this number of further links may be
+-- followed.
 unfoldable pub chain : (links : ℕ) (last link target : List ℕ) → Search ChainEnd
 chain zero last link target = over (Dangling last)
 chain (suc links) last link target = by_path (chain links link) link (canonical link target)
@@ -43,13 +44,13 @@ chain (suc links) last link target = by_path (chain links link) link (canonical 
 abbrev pub chain_from : List ℕ → Entry → Search ChainEnd
 chain_from path entry = by_entry (chain 8 path path) path path (Some entry)
 
--- what the end is, whichever link came last
+-- what the end is, without the last link
 abbrev pub end_of : ChainEnd → End
 end_of Null = ends.Null
 end_of (File path link) = ends.File path
 end_of (Dangling link) = ends.Dangling link
 
--- by what stands at the path
+-- the result, by what is at the path
 abbrev pub followed : List ℕ → Option Entry → Search End
 followed path None = over ends.Missing
 followed path (Some entry) = giving (chain_from path entry) end_of

@@ -1,4 +1,4 @@
--- Laws of looking up, each the contract of a public function.
+-- Laws of looking up units, each the contract of a public function.
 use Rattle.std.specs.Prelude.{◌≡◌, ◌<◌, ◌≤◌, ◌↔◌, ◌⊎◌, ℕ, true, List, [], ◌∷◌, ◌++◌, length, All, Contains, map as list_map, Option, Some, None, is_some}
 use Rattle.std.specs.List.{find as first_of, IsDistinct}
 use Rattle.std.specs.Option.{option_or}
@@ -23,11 +23,12 @@ use Rattle.load_path.specs.Chains.{IsFileAt, IsLinkAt, LinksTo, Leads, LeadsTo}
 use Rattle.load_path.specs.RealNames.{real_name}
 use Rattle.load_path.specs.Find.{find}
 
--- Each cell of a list is there once, and no other.
+-- Each cell of a list is there once, and no other cell is.
 abbrev pub CellsOnce : Type 0
 CellsOnce = (cells : List (List ℕ)) → IsDistinct bytes_eq (each_once cells) × ((path : List ℕ) → Contains (each_once cells) path ↔ Contains cells path)
 
--- In trees that have the same entries at the cells of a search it comes to the same, by the same cells.
+-- In trees that have the same entries at the cells of a search, it has the same result and looks at
+-- the same cells.
 abbrev pub Agrees : {X : Type 0} → Search X → Type 0
 Agrees s = (t u : Entries) → SameAt (each_once (s.cells t)) t u → (s.conclusion t ≡ s.conclusion u) × (each_once (s.cells t) ≡ each_once (s.cells u))
 
@@ -37,7 +38,7 @@ FollowAgrees = (path : List ℕ) → Agrees (follow path)
 abbrev pub FindAgrees : Type 0
 FindAgrees = (name : List ℕ) → Agrees (find name)
 
--- So many cells are looked at or fewer, also where each counts as often as it is looked at.
+-- At most this number of cells are looked at, even if a cell counts each time that it is looked at.
 abbrev pub LooksAtMost : {X : Type 0} → ℕ → Search X → Type 0
 LooksAtMost most s = (t : Entries) → (length (s.cells t) ≤ most) × (length (each_once (s.cells t)) ≤ most)
 
@@ -47,15 +48,16 @@ FollowIsShort = (path : List ℕ) → LooksAtMost 9 (follow path)
 abbrev pub FindIsShort : Type 0
 FindIsShort = (name : List ℕ) → LooksAtMost 16 (find name)
 
--- A path is looked at exactly where a chain of at most eight links leads to it; `/dev/null` is on none.
+-- A path is looked at exactly if a chain of at most eight links leads to it; `/dev/null` is on
+-- none.
 abbrev pub FollowLooksAlongChain : Type 0
 FollowLooksAlongChain = (path cell : List ℕ) (t : Entries) → Contains ((follow path).cells t) cell ↔ ((links : ℕ) × (links ≤ 8) × Leads t path links cell)
 
--- Where a path leads is where its chain of at most eight links ends.
+-- Where a path leads is the end of its chain of at most eight links.
 abbrev pub FollowIsChain : Type 0
 FollowIsChain = (path : List ℕ) (end : End) (t : Entries) → ((follow path).conclusion t ≡ end) ↔ LeadsTo t 8 path end
 
--- It leads to a file exactly where at most eight links lead there.
+-- A path leads to a file exactly if at most eight links lead to the file.
 abbrev pub FileIsLed : Type 0
 FileIsLed = (path file : List ℕ) (t : Entries) → ((follow path).conclusion t ≡ ends.File file) ↔ ((links : ℕ) × (links ≤ 8) × Leads t path links file × IsFileAt t file)
 
@@ -72,18 +74,18 @@ template_place other t name = None
 abbrev pub entry_place : Entries → List ℕ → Option Place
 entry_place t name = option_or (first_place t name) (template_place (kind_of (instance_of name)) t name)
 
--- the directory that an answer names
+-- the directory that a result names
 abbrev pub place_in : Found → Option Place
 place_in Missing = None
 place_in (Masked place) = Some place
 place_in (Dangling link) = None
 place_in (Unit real file place) = Some place
 
--- The directory that is named is that of the entry, wherever the file lies.
+-- The directory that is named is that of the entry, wherever the file is.
 abbrev pub PlaceIsEntrys : Type 0
 PlaceIsEntrys = (name : List ℕ) (t : Entries) (place : Place) → place_in ((find name).conclusion t) ≡ Some place → entry_place t name ≡ Some place
 
--- A unit is missing exactly where no directory has an entry for it.
+-- A unit is missing exactly if no directory has an entry for it.
 abbrev pub MissingHasNoEntry : Type 0
 MissingHasNoEntry = (name : List ℕ) (t : Entries) → ((find name).conclusion t ≡ Missing) ↔ (entry_place t name ≡ None)
 
@@ -91,7 +93,8 @@ MissingHasNoEntry = (name : List ℕ) (t : Entries) → ((find name).conclusion 
 abbrev pub IsSlotOf : List ℕ → Place → List ℕ → Type 0
 IsSlotOf name place path = (path ≡ unit_slot place name) ⊎ (path ≡ unit_slot place (template_of name))
 
--- the slots at which a name is looked for, in order: its own in each directory, and behind those an instance's template's
+-- the slots at which a name is looked for, in order: its own in each directory, and after them, for
+-- an instance, those of its template
 abbrev pub slots_for : List ℕ → List (Place × List ℕ)
 slots_for name = list_map (λ place. (place, unit_slot place name)) places
 
@@ -102,30 +105,31 @@ template_slots other name = []
 abbrev pub candidates : List ℕ → List (Place × List ℕ)
 candidates name = slots_for name ++ template_slots (kind_of (instance_of name)) name
 
--- It is a candidate, and nothing stands at those before it.
+-- The slot is a candidate, and nothing is at the candidates before it.
 abbrev pub IsTried : Entries → (name : List ℕ) → Place × List ℕ → Type 0
 IsTried t name slot = (before after : List (Place × List ℕ)) × (candidates name ≡ before ++ slot ∷ after) × All (λ earlier. map.get t earlier.1 ≡ None) before
 
--- It is the first candidate at which something stands.
+-- The slot is the first candidate that has an entry.
 abbrev pub IsFirstEntry : Entries → (name : List ℕ) → Place × List ℕ → Type 0
 IsFirstEntry t name slot = IsTried t name slot × (is_some (map.get t slot.1) ≡ true)
 
--- A path is looked at exactly where it is a candidate before which nothing stands, or at most eight links lead to it from the first
--- at which something does.
+-- A path is looked at exactly if it is a candidate and nothing is at those before it, or if at most
+-- eight links lead to it from the first candidate that has an entry.
 abbrev pub FindLooksAlongChain : Type 0
 FindLooksAlongChain = (name cell : List ℕ) (t : Entries) → Contains ((find name).cells t) cell ↔
     (((slot : Place × List ℕ) × IsTried t name slot × (slot.1 ≡ cell)) ⊎ ((slot : Place × List ℕ) × IsFirstEntry t name slot × (links : ℕ) × (links ≤ 8) × Leads t slot.1 links cell))
 
--- The last link to a file: the one that leads to it, or, where no link does, the file itself.
+-- The last link to a file: the one that leads to it, or, if no link does, the file itself.
 abbrev pub IsLastLink : Entries → (path link file : List ℕ) → Type 0
 IsLastLink t path link file = ((link ≡ path) × (file ≡ path)) ⊎ ((links : ℕ) × (links < 8) × Leads t path links link × LinksTo t link file)
 
--- A path leads to a file whose name isn't for this one, by this last link.
+-- A path leads by this last link to a file whose name isn't right for the name that is looked up.
 abbrev pub LeadsToForeign : Entries → (name path link : List ℕ) → Type 0
 LeadsToForeign t name path link = (file : List ℕ) × IsFileAt t file × IsLastLink t path link file × (real_name name (name_at file) ≡ None)
 
--- What a name is found as, exactly: missing where nothing stands at any candidate; else by where the first entry leads, masked where
--- that is /dev/null or an empty file, a unit where that is a file whose name says so, and dangling elsewhere.
+-- What a name is found to be, exactly: missing if nothing is at any candidate; otherwise the first
+-- entry decides: masked if it leads to /dev/null or an empty file, a unit if it leads to a file
+-- whose name says so, and otherwise dangling.
 pub record FoundByFirstEntry (name : List ℕ) (t : Entries) : Type 0 where
   pub missing : ((find name).conclusion t ≡ Missing) ↔ All (λ slot. map.get t slot.1 ≡ None) (candidates name)
   pub masked : (place : Place) → ((find name).conclusion t ≡ Masked place) ↔ ((path : List ℕ) × IsFirstEntry t name (place, path) × LeadsTo t 8 path ends.Null)
@@ -142,24 +146,24 @@ abbrev pub UnitIsFollowed : Type 0
 UnitIsFollowed = (name : List ℕ) (t : Entries) (real file : List ℕ) (place : Place) → (find name).conclusion t ≡ Unit real file place
     → (path : List ℕ) × IsSlotOf name place path × ((follow path).conclusion t ≡ ends.File file)
 
--- The slot of a masked one leads to /dev/null or to an empty file.
+-- The slot of a masked unit leads to /dev/null or to an empty file.
 abbrev pub MaskedIsFollowed : Type 0
 MaskedIsFollowed = (name : List ℕ) (t : Entries) (place : Place) → (find name).conclusion t ≡ Masked place
     → (path : List ℕ) × IsSlotOf name place path × ((follow path).conclusion t ≡ ends.Null)
 
--- What dangles is a link, where a unit's name is looked up.
+-- What is reported as dangling is a link, if the name of a unit is looked up.
 abbrev pub DanglingIsLink : Type 0
 DanglingIsLink = (name : List ℕ) (t : Entries) (link : List ℕ) → is_unit_name name ≡ true → (find name).conclusion t ≡ Dangling link → IsLinkAt t link
 
--- A unit has a file, and that isn't empty.
+-- A unit has a file that isn't empty.
 abbrev pub UnitHasFile : Type 0
 UnitHasFile = (name : List ℕ) (t : Entries) (real file : List ℕ) (place : Place) → (find name).conclusion t ≡ Unit real file place → IsFileAt t file
 
--- A unit has a name, of the type and with the instance of the one that led to it.
+-- A unit has a name, with the type and the instance of the name that led to it.
 abbrev pub UnitIsLikeName : Type 0
 UnitIsLikeName = (name : List ℕ) (t : Entries) (real file : List ℕ) (place : Place) → (find name).conclusion t ≡ Unit real file place
     → (is_unit_name real ≡ true) × (type_of real ≡ type_of name) × (instance_of real ≡ instance_of name)
 
--- Where a plain name leads to a unit, that is named as its file.
+-- If a plain name leads to a unit, the unit has the name of its file.
 abbrev pub PlainIsItsFile : Type 0
 PlainIsItsFile = (name : List ℕ) (t : Entries) (real file : List ℕ) (place : Place) → kind_of (instance_of name) ≡ Plain → (find name).conclusion t ≡ Unit real file place → real ≡ name_at file

@@ -1,4 +1,4 @@
--- What is found in a tree by looking at cells, which are the paths at which something may stand.
+-- What a search finds in a tree by looking at cells, the paths at which an entry may be.
 use Rattle.std.specs.Prelude.{◌≡◌, ℕ, if◌then◌else◌, List, [], ◌∷◌, ◌++◌, All, Contains, Option, refl}
 use Rattle.std.proofs.Common.{ap, ◌∙◌}
 use Rattle.std.proofs.lemmas.List.Elements.{All-head, All-weaker, All-contains, All-contains_itself, Contains-append_left, Contains-append_right}
@@ -8,12 +8,13 @@ use Rattle.std.specs.FinMap as map
 use Rattle.link_tree.specs.Trees.{Entries}
 use Rattle.link_tree.specs.declared.entry.Entry.{Entry}
 
--- The same stands in each of these cells.
+-- Both trees have the same entry, or none, at each of these cells.
 abbrev pub SameAt : List (List ℕ) → Entries → Entries → Type 0
 SameAt cells t u = All (λ cell. map.get t cell ≡ map.get u cell) cells
 
--- What a search comes to in a tree, the cells that it looks at, in order, and that it comes to the same, by the same
--- cells, in a tree that is the same there. A cell that is looked at twice is there twice.
+-- The result of a search in a tree, and the cells that it looks at, in order. In a tree that is the
+-- same at these cells, it has the same result and looks at the same cells. A cell that is looked at
+-- twice is listed twice.
 pub record Search (X : Type 0) : Type 0 where
   pub conclusion : Entries → X
   pub cells : Entries → List (List ℕ)
@@ -23,7 +24,7 @@ pub record Search (X : Type 0) : Type 0 where
 abbrev pub over : {X : Type 0} → X → Search X
 over x = record { conclusion = λ t. x; cells = λ t. []; agreement = λ t u same. (refl, refl) }
 
--- what stands in the cell
+-- what is in the cell
 abbrev pub look : List ℕ → Search (Option Entry)
 look cell = record {
   conclusion = λ t. map.get t cell;
@@ -31,7 +32,7 @@ look cell = record {
   agreement = λ t u same. (All-head (λ cell. map.get t cell ≡ map.get u cell) cell [] same, refl);
 }
 
--- by what it comes to
+-- a function of the result
 abbrev pub giving : {X Y : Type 0} → Search X → (X → Y) → Search Y
 giving s f = record {
   conclusion = λ t. f (s.conclusion t);
@@ -56,7 +57,7 @@ both_agree s f t u same =
       ap (λ cells. cells ++ (f (s.conclusion t)).cells t) first.1 ∙ ap (λ cells. s.cells u ++ cells) second.1 ∙ ap (λ x. s.cells u ++ (f x).cells u) first.0,
     )
 
--- one after another
+-- one search after another, which may depend on the first one's result
 infixl 10 ◌>>=◌
 abbrev pub ◌>>=◌ : {X Y : Type 0} → Search X → (X → Search Y) → Search Y
 s >>= f = record {
@@ -65,19 +66,19 @@ s >>= f = record {
   agreement = both_agree s f;
 }
 
--- The search comes to x in the tree, and its cells have been added to those before.
+-- The search results in x in the tree, and its cells have been added to those before.
 abbrev pub Finds : {X : Type 0} → Entries → Search X → (before after : List (List ℕ)) → X → Type 0
 Finds t s before after x = (x ≡ s.conclusion t) × (after ≡ before ++ s.cells t)
 
--- a cell more, unless it is there
+-- one more cell, unless it is there
 unfoldable pub with_cell : List (List ℕ) → List ℕ → List (List ℕ)
 with_cell cells cell = if list_any (bytes_eq cell) cells then cells else cells ++ cell ∷ []
 
--- these too, one after another
+-- adds all of these cells, one after another
 abbrev pub with_cells : List (List ℕ) → List (List ℕ) → List (List ℕ)
 with_cells cells [] = cells
 with_cells cells (cell ∷ more) = with_cells (with_cell cells cell) more
 
--- each of the cells once, where it was first
+-- each of the cells once, at its first position
 abbrev pub each_once : List (List ℕ) → List (List ℕ)
 each_once cells = with_cells [] cells

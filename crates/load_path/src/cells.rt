@@ -6,9 +6,9 @@ use link_tree::TreePath;
 use std::alloc::{AllocError, Global};
 use std::marker::Model;
 
-/// Paths that were looked at, in the order in which they were looked at. `find` and `follow` answer each once; a list
-/// that is handed from one look-up to the next may hold a path twice, until `each_once` is called. Contracts see the
-/// list.
+/// Paths that were looked at, in the order in which they were looked at. `find` and `follow` return
+/// each once; a list that is passed from one lookup to the next may contain a path twice, until
+/// `each_once` is called. Contracts see the list.
 #[derive(Debug, Drop)]
 pub struct Cells {
     paths: Vec<TreePath>,
@@ -32,7 +32,7 @@ impl Cells {
         }
     }
 
-    /// One path more, also where it is there already.
+    /// Adds a path, even if it is there already.
     pub fn push(&mut self, path: TreePath) -> Result<(), AllocError>
         ensures ok { OnOk result (self.new ≡ self.old ++ path ∷ []) }
         ensures err { OnErr result (self.new ≡ self.old) }
@@ -40,8 +40,8 @@ impl Cells {
         Ok(self.paths.push(path)?)
     }
 
-    /// These paths, behind the others. Where memory runs out the list stays as it was.
-    pub(crate) fn append(&mut self, mut more: Cells) -> Result<(), AllocError>
+    /// Adds these paths after the others. If memory runs out, nothing has changed.
+    pub fn append(&mut self, mut more: Cells) -> Result<(), AllocError>
         ensures ok { OnOk result (self.new ≡ self.old ++ more) }
         ensures err { OnErr result (self.new ≡ self.old) }
     {
@@ -62,7 +62,7 @@ impl Cells {
         paths
     }
 
-    /// Each of the paths once, where it was looked at first.
+    /// Each of the paths once, at the position where it was looked at first.
     pub fn each_once(self) -> Result<Cells, AllocError>
         ensures { IfOk result (λ cells. cells ≡ each_once self) }
     {
@@ -73,7 +73,7 @@ impl Cells {
         Ok(cells)
     }
 
-    /// One path more, unless it is there.
+    /// Adds a path, unless it is there.
     #[tactic(auto, unfolding(crate::specs::Search::with_cell))]
     fn note(&mut self, path: TreePath) -> Result<(), AllocError>
         ensures { OnOk result (self.new ≡ with_cell self.old path) }

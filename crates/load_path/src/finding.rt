@@ -15,38 +15,40 @@ use unit_name::{Kind, UnitName};
 /// The directories of units, in the order in which they are searched.
 const PLACES: [Place; 4] = [Place::Etc, Place::Run, Place::Local, Place::Vendor];
 
-/// What a name is.
+/// What a name was found to be.
 #[derive(Debug, Drop)]
 pub enum Found {
-    /// No directory has an entry for the name, nor for its template where the name is an instance.
+    /// No directory has an entry for the name, or, if the name is an instance, for its template.
     Missing,
     /// The entry, in this directory, leads to `/dev/null` or to an empty file.
     Masked(Place),
-    /// The entry leads to no file, or to one that isn't the unit's by its name. This link was the last that was
-    /// followed.
+    /// The entry leads to no file, or to one whose name isn't that of the unit. This link was the
+    /// last that was followed.
     Dangling(TreePath),
     Unit {
-        /// The name that the unit has. Where it isn't the one that was looked up, that is an alias.
+        /// The name that the unit has. If it isn't the one that was looked up, that one is an
+        /// alias.
         real: UnitName,
-        /// Where the unit's file stands.
+        /// The path of the unit's file.
         file: TreePath,
         /// The directory of the entry, which may be a link.
         place: Place,
     },
 }
 
-/// What a name is, and the paths that were looked at, each once.
+/// What a name was found to be, and the paths that were looked at, each listed once.
 #[derive(Debug, Drop)]
 pub struct Look {
     pub found: Found,
     pub cells: Cells,
 }
 
-/// Looks a unit up: systemd.unit(5), "Unit File Load Path". The first directory that has an entry for the name counts,
-/// and for an instance without any the first that has one for its template. Links are followed as by `follow`. A plain
-/// name is that of its file; a template leads to a template, and an instance to an instance with the same text, or to
-/// a template into which its own is put. Each path that is looked at is listed, also one at which nothing stands. Only
-/// want of memory is an error.
+/// Looks up a unit: systemd.unit(5), "Unit File Load Path". The first directory that has an entry
+/// for the name counts; for an instance without any entry, the first that has one for its template.
+/// Links are followed as in `follow`. A plain unit has the name of its file; a template leads to
+/// a template, and an instance to an instance with the same text, or to a template into which its
+/// own is put. Each path that is looked at is listed, even if nothing is there. Fails only if
+/// memory runs out.
 pub fn find(alloc: Global, tree: &Tree, name: &UnitName) -> Result<Look, AllocError>
     ensures found { IfOk result (λ look. look.found ≡ (find name.now).conclusion tree.now) }
     ensures cells { IfOk result (λ look. look.cells ≡ each_once ((find name.now).cells tree.now)) }
@@ -59,8 +61,8 @@ pub fn find(alloc: Global, tree: &Tree, name: &UnitName) -> Result<Look, AllocEr
     })
 }
 
-/// Looks a unit up, as `find` says, with the paths that are looked at added to these. Where memory runs out, they stay as they
-/// were.
+/// Looks up a unit, as `find` does. The paths that are looked at are added to these. If memory runs
+/// out, they stay as they were.
 pub fn find_into(
     alloc: Global,
     tree: &Tree,

@@ -8,43 +8,44 @@ use crate::cells::Cells;
 use link_tree::{Contents, Entry, Target, Tree, TreePath, canonical};
 use std::alloc::{AllocError, Global};
 
-/// How many links are followed.
+/// The maximum number of links that are followed.
 const MAX_LINKS: u8 = 8;
 
 /// Where a path leads.
 #[derive(Debug, Drop)]
 pub enum End {
-    /// Nothing stands at the path.
+    /// Nothing is at the path.
     Missing,
     /// To `/dev/null` or to an empty file.
     Null,
-    /// To a file, which isn't empty.
+    /// To a file that isn't empty.
     File(TreePath),
-    /// Nowhere: this link, the last that was followed, leads to no entry or to no path, or is the eighth and leads to
-    /// another.
+    /// Nowhere: this link, the last one that was followed, leads to no entry or has a target that
+    /// is no path, or is the eighth and leads to another link.
     Dangling(TreePath),
 }
 
-/// Where a path leads, and the paths that were looked at, each once.
+/// Where a path leads, and the paths that were looked at, each listed once.
 #[derive(Debug, Drop)]
 pub struct Trail {
     pub end: End,
     pub cells: Cells,
 }
 
-/// Where the links end that begin at an entry.
+/// Where the links that begin at an entry end.
 #[derive(Debug, Drop)]
 pub(crate) enum ChainEnd {
     /// At `/dev/null` or at an empty file.
     Null,
-    /// At a file, with the last link, or the file's own path where there is none.
+    /// At a file, with the last link, or with the file's own path if there is no link.
     File(TreePath, TreePath),
     /// At this link.
     Dangling(TreePath),
 }
 
-/// Where a path leads by at most eight links: systemd.unit(5), "Unit File Load Path". Each path that is looked at is
-/// listed, also one at which nothing stands, but not `/dev/null`. Only want of memory is an error.
+/// Where a path leads by at most eight links: systemd.unit(5), "Unit File Load Path". Each path
+/// that is looked at is listed, even if nothing is there, but not `/dev/null`. Fails only if memory
+/// runs out.
 pub fn follow(alloc: Global, tree: &Tree, path: &TreePath) -> Result<Trail, AllocError>
     ensures end { IfOk result (λ trail. trail.end ≡ (follow path.now).conclusion tree.now) }
     ensures cells { IfOk result (λ trail. trail.cells ≡ each_once ((follow path.now).cells tree.now)) }
@@ -57,8 +58,8 @@ pub fn follow(alloc: Global, tree: &Tree, path: &TreePath) -> Result<Trail, Allo
     })
 }
 
-/// Where a path leads, as `follow` says, with the paths that are looked at added to these. Where memory runs out, they stay as
-/// they were.
+/// Where a path leads, as in `follow`. The paths that are looked at are added to these. If memory
+/// runs out, they stay as they were.
 pub fn follow_into(
     alloc: Global,
     tree: &Tree,
@@ -74,8 +75,8 @@ pub fn follow_into(
     Ok(end)
 }
 
-/// Where an entry leads that stands at a path, as `follow` says, with the paths to which links lead added to these. The path itself is
-/// not looked at. Where memory runs out, they stay as they were.
+/// Where the entry at a path leads, as in `follow`. The paths to which links lead are added to
+/// these; the path itself is not looked at. If memory runs out, they stay as they were.
 pub fn follow_entry_into(
     alloc: Global,
     tree: &Tree,
@@ -117,7 +118,7 @@ fn end_of(chain: ChainEnd) -> End
     }
 }
 
-/// What stands at the path.
+/// What is at the path.
 pub(crate) fn look<'a>(
     tree: &'a Tree,
     path: &TreePath,
@@ -129,7 +130,7 @@ pub(crate) fn look<'a>(
     Ok(tree.get(path))
 }
 
-/// Where the links end that begin at this entry.
+/// Where the links that begin at this entry end.
 pub(crate) fn chain_from(
     alloc: Global,
     tree: &Tree,
@@ -160,7 +161,7 @@ fn is_null(path: &TreePath) -> bool
     path.text() == b"/dev/null".as_slice()
 }
 
-/// Where the links end that have come to this one by the last, where so many may be followed.
+/// Where the links end that have reached `link` from `last`, if `links` more may be followed.
 #[tactic(auto, unfolding(crate::specs::Follow::chain))]
 fn chain(
     alloc: Global,

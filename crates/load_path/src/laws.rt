@@ -1,13 +1,13 @@
-//! What holds of all look-ups: each function does nothing, and its contract is the law.
+//! Laws of all lookups: each function does nothing, and its contract is the law.
 ghost use Rattle.load_path.specs.Laws.{CellsOnce, FollowAgrees, FindAgrees, FollowIsShort, FindIsShort, FollowIsChain, FileIsLed, FollowLooksAlongChain, PlaceIsEntrys, MissingHasNoEntry, FindLooksAlongChain, NamesAreFoundByFirstEntry, UnitIsFollowed, MaskedIsFollowed, DanglingIsLink, UnitHasFile, UnitIsLikeName, PlainIsItsFile};
 
-/// Each path that was looked at is listed once, and no other.
+/// Each path that was looked at is listed once, and no other path is listed.
 pub fn cells_are_listed_once()
     ensures { CellsOnce }
 {}
 
-/// A look-up depends on what it looks at alone: trees that are the same at its paths give the same answer, by the same
-/// paths.
+/// A lookup depends only on what it looks at: trees that have the same entries at its paths give
+/// the same result, and the same paths are looked at.
 pub fn look_ups_agree()
     ensures follow { FollowAgrees }
     ensures find { FindAgrees }
@@ -19,19 +19,22 @@ pub fn look_ups_are_short()
     ensures find { FindIsShort }
 {}
 
-/// Where a path leads is where a chain of at most eight links ends that begins at it: at a file, at an empty one or
-/// `/dev/null`, or at a link from which nothing is reached. A path is looked at exactly where at most eight links lead to it.
+/// Where a path leads is the end of a chain of at most eight links that begins at it: a file, an
+/// empty file or `/dev/null`, or a link from which nothing is reached. A path is looked at exactly
+/// if at most eight links lead to it.
 pub fn chains_are_followed()
     ensures chain { FollowIsChain }
     ensures file { FileIsLed }
     ensures cells { FollowLooksAlongChain }
 {}
 
-/// The first directory that has an entry for the name counts, or for its template where none has: the answer names it,
-/// wherever the file lies. The unit is missing exactly where there is no such entry, masked exactly where the first leads to
-/// `/dev/null` or an empty file, found exactly where it leads to a file whose name says so, and dangling at the last link
-/// exactly where it leads nowhere, or to a file of another name. A path is looked at exactly
-/// where nothing stands before it, or at most eight links lead to it from the first entry.
+/// The first directory that has an entry for the name counts, or the first that has one for its
+/// template if none has one for the name. The result names this directory, wherever the file is.
+/// The unit is missing exactly if there is no such entry, masked exactly if the first one leads to
+/// `/dev/null` or an empty file, found exactly if it leads to a file whose name is right for the
+/// unit, and dangling at the last link exactly if it leads nowhere, or to a file with another name.
+/// A path is looked at exactly if it is tried for the name and nothing is at the paths tried before
+/// it, or if at most eight links lead to it from the first entry.
 pub fn the_first_entry_counts()
     ensures place { PlaceIsEntrys }
     ensures missing { MissingHasNoEntry }
@@ -39,19 +42,19 @@ pub fn the_first_entry_counts()
     ensures cells { FindLooksAlongChain }
 {}
 
-/// A unit is looked up by following what stands in its slot, or in its template's.
+/// A unit is looked up by following what is in its slot, or in its template's slot.
 pub fn slots_are_followed()
     ensures unit { UnitIsFollowed }
     ensures masked { MaskedIsFollowed }
 {}
 
-/// What is said to dangle is a link.
+/// What is reported as dangling is a link.
 pub fn links_dangle()
     ensures { DanglingIsLink }
 {}
 
-/// A unit has a file, which isn't empty, and a name of the type and with the instance of the one that led to it. A
-/// plain unit is named as its file.
+/// A unit has a file that isn't empty, and a name with the type and the instance of the name that
+/// led to it. A plain unit has the name of its file.
 pub fn units_have_files_and_names()
     ensures file { UnitHasFile }
     ensures name { UnitIsLikeName }

@@ -1,4 +1,4 @@
-//! Looking units up: systemd.unit(5), "Unit File Load Path".
+//! Looking up units: systemd.unit(5), "Unit File Load Path".
 #![tactic(auto)]
 
 mod cells;

@@ -1,4 +1,4 @@
-//! The names of units by those of their files.
+//! The name of a unit, from the name of its file.
 ghost use Rattle.std.specs.Prelude.{◌≡◌, ◌≢◌, IfOk};
 ghost use Rattle.std.specs.Option.{option_copied};
 ghost use Rattle.unit_name.specs.Parts.{kind_of};
@@ -8,7 +8,8 @@ ghost use Rattle.load_path.specs.RealNames.{is_same_type, is_same_instance, by_k
 use std::alloc::{AllocError, Global};
 use unit_name::{InstanceError, Kind, NameError, UnitName};
 
-/// The name that a unit has when `name` leads to a file with this name, if that is a file of such a unit.
+/// The name that a unit has if `name` leads to a file with this name; `None` if the file isn't one
+/// of such a unit.
 #[tactic(auto, unfolding(crate::specs::RealNames::real_name))]
 pub(crate) fn real_name(
     alloc: Global,
@@ -45,7 +46,7 @@ fn is_same_instance(name: &UnitName, file: &UnitName) -> bool
     }
 }
 
-/// A unit's file is one by the kinds of the two names.
+/// Whether the file is the unit's depends on the kinds of the two names.
 #[tactic(auto, unfolding(crate::specs::RealNames::by_kinds))]
 fn by_kinds(alloc: Global, name: &UnitName, file: UnitName) -> Result<Option<UnitName>, AllocError>
     ensures { IfOk result (λ real. real ≡ by_kinds (kind_of (instance_of name.now)) (kind_of (instance_of file)) name.now file) }
@@ -58,9 +59,10 @@ fn by_kinds(alloc: Global, name: &UnitName, file: UnitName) -> Result<Option<Uni
     }
 }
 
-/// The name of an instance of a template: the template with the instance put in, systemd.unit(5), "Description". `None` where no
-/// instance is given, where it holds a byte that no name has, and where the name would be longer than 255 bytes; the empty one gives
-/// the template itself. The only error is that there is no memory for the name.
+/// The name of an instance of a template, which is the template with the instance put in:
+/// systemd.unit(5), "Description". `None` if there is no instance, if it has a byte that no name
+/// has, or if the name would be longer than 255 bytes; an empty instance gives the template itself.
+/// Fails only if memory runs out.
 pub fn put_in(
     alloc: Global,
     template: &UnitName,

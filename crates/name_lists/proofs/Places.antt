@@ -1,4 +1,4 @@
--- The list of a name in its place, when the list of one name was changed.
+-- The list of a name in its place, after the list of one name was changed.
 use Rattle.std.proofs.Common.{◌≡◌, ◌<◌, ℕ, Bool, true, false, cond, ◌&&◌, List, [], length, refl, sym, ap, ◌∙◌, inl, inr}
 use Rattle.std.specs.Prelude.{◌==◌, slice_index_or, slice_set}
 use Rattle.std.specs.Str.{bytes_eq}
@@ -33,7 +33,7 @@ no_more : (b : Bool) → (b && false) ≡ false
 no_more true = refl
 no_more false = refl
 
--- a name stands at its own place
+-- a name is stored at its own place
 at_home : (text name : List ℕ) → (shelf_of text == shelf_of name && (bucket_of text == bucket_of name && bytes_eq text name)) ≡ bytes_eq text name
 at_home text name = elim (cases_Bool (bytes_eq text name)) [
   | inl here ↦ ap (λ (t : List ℕ). shelf_of t == shelf_of name && (bucket_of t == bucket_of name && bytes_eq text name)) ((bytes_eq-Decides text name).0 here)

@@ -1,9 +1,10 @@
--- What is found in a list of names that has one name more, or another list under one.
-use Rattle.std.proofs.Common.{◌≡◌, ℕ, Bool, true, false, cond, List, [], ◌∷◌, Option, Some, None, refl, sym, ap, ◌∙◌, inl, inr}
+-- What is found in a list of names after a name is added, or after the list of one name is
+-- replaced.
+use Rattle.std.proofs.Common.{◌≡◌, ℕ, Bool, true, false, cond, List, [], ◌∷◌, Option, Some, None, refl, sym, ap, ◌∙◌, ◌⊎◌, inl, inr}
 use Rattle.std.specs.Prelude.{Vec}
 use Rattle.std.specs.Global.{Global}
 use Rattle.std.specs.Map.{lookup, set_value}
-use Rattle.std.specs.BTreeMap.{is_at, insert_entry}
+use Rattle.std.specs.BTreeMap.{BTreeMap, IsClone, is_at, insert_entry}
 use Rattle.std.specs.Cmp.{eq_by_cmp_equiv}
 use Rattle.std.specs.Cmp.Lexicographic.{nat_list_cmp_total}
 use Rattle.std.specs.List.{AllZip}
@@ -27,7 +28,7 @@ same_key q k h = exact_bytes q k (is_equal (text_cmp q k) h)
 same-found : (k : List ℕ) → is_at (text_cmp k) k ≡ true
 same-found k = (eq_by_cmp_equiv nat_list_cmp_total).refl k
 
--- texts are told apart by their bytes
+-- texts are distinguished by their bytes
 pub at_bytes : (q p : List ℕ) → is_at (text_cmp q) p ≡ bytes_eq q p
 at_bytes q p = elim (cases_Bool (is_at (text_cmp q) p)) [
   | inl here ↦ here ∙ sym ((bytes_eq-Decides q p).1 (same_key q p here))
@@ -68,7 +69,7 @@ twice : {X : Type 0} (b : Bool) (x y z : X) → cond b x z ≡ cond b x (cond b 
 twice true x y z = refl
 twice false x y z = refl
 
--- a key that is put
+-- a key that is inserted
 pub found-insert : {X : Type 0} (k : List ℕ) (x : X) (t : List ℕ) (ds : List (List ℕ × X)) → found_at (insert_entry text_cmp ds k x) t ≡ cond (is_at (text_cmp t) k) (Some x) (found_at ds t)
 found-insert k x t [] = refl
 found-insert k x t (d ∷ ds) = elim (text_cmp k d.0) as (λ r. text_cmp k d.0 ≡ r → found_at (match_ordering r ((k, x) ∷ d ∷ ds) ((d.0, x) ∷ ds) (d ∷ insert_entry text_cmp ds k x)) t ≡ cond (is_at (text_cmp t) k) (Some x) (found_at (d ∷ ds) t)) [
@@ -101,13 +102,13 @@ module _ {K X : Type 0} (text : K → List ℕ) (ds es : List (K × X)) where
   pub text-found-set : (k : List ℕ) (x was : X) → es ≡ set_value (is_at (λ i. text_cmp k (text i))) ds x → found_at (by_texts text ds) k ≡ Some was → (t : List ℕ) → found_at (by_texts text es) t ≡ cond (is_at (text_cmp t) k) (Some x) (found_at (by_texts text ds) t)
   text-found-set k x was is at t = ap (λ fs. found_at (by_texts text fs) t) is ∙ ap (λ fs. found_at fs t) (set-by_texts text k x ds) ∙ found-set k x was t (by_texts text ds) at
 
--- what a name has when its list was changed
+-- the list of a name after the list of one name was changed
 pub list_found : (ds es : List (List ℕ × List (List ℕ))) (k t : List ℕ) (x : List (List ℕ)) → found_at es t ≡ cond (is_at (text_cmp t) k) (Some x) (found_at ds t) → list_in es t ≡ cond (bytes_eq t k) x (list_in ds t)
 list_found ds es k t x is =
     ap or_none (is ∙ ap (λ b. cond b (Some x) (found_at ds t)) (at_bytes t k))
     ∙ elim (bytes_eq t k) as (λ b. or_none (cond b (Some x) (found_at ds t)) ≡ cond b x (list_in ds t)) [ true ↦ refl | false ↦ refl ]
 
--- where a name is written, only its own list was looked at
+-- if the list of a name is written, only its own list was read
 pub own_list : (f : List (List ℕ) → List (List ℕ)) (g : List ℕ → List (List ℕ)) (k t : List ℕ) → cond (bytes_eq t k) (f (g k)) (g t) ≡ cond (bytes_eq t k) (f (g t)) (g t)
 own_list f g k t = elim (cases_Bool (bytes_eq t k)) [
   | inl here ↦ ap (λ (q : List ℕ). cond (bytes_eq t k) (f (g q)) (g t)) (sym ((bytes_eq-Decides t k).0 here))
@@ -121,27 +122,38 @@ same_lists texts lists [] (e ∷ es) h = absurd h
 same_lists texts lists (d ∷ ds) [] h = absurd h
 same_lists texts lists (d ∷ ds) (e ∷ es) h = λ i. (texts d.0 e.0 h.0.0 i, lists d.1 e.1 h.0.1 i) ∷ same_lists texts lists ds es h.1 i
 
+-- a map, or a clone of it
+pub same_names : {C : Vec ℕ Global → Vec ℕ Global → Type 0} {X : Type 0} {D : X → X → Type 0} → ((x y : Vec ℕ Global) → C x y → y.items ≡ x.items) → ((v w : X) → D v w → w ≡ v) → (m n : BTreeMap (Vec ℕ Global) X) → (n ≡ m) ⊎ IsClone C D m n → by_texts (λ k. k.items) n.entries ≡ by_texts (λ k. k.items) m.entries
+same_names texts lists m n (inl same) = ap (λ m. by_texts (λ k. k.items) m.entries) same
+same_names texts lists m n (inr copied) = same_lists texts lists m.entries n.entries copied
+
 abbrev pub Names : Type 0
 Names = List (Vec ℕ Global × List (List ℕ))
 
 abbrev by_items : Names → List (List ℕ × List (List ℕ))
 by_items ds = by_texts (λ name. name.items) ds
 
--- the list that was found is that of the name
+-- the list that was found is the list of the name
 pub list_was : (ds : Names) (k : List ℕ) (o : Option (List (List ℕ))) → lookup (is_at (λ name. text_cmp k name.items)) ds ≡ o → or_none o ≡ list_in (by_items ds) k
 list_was ds k o is = ap or_none (sym is ∙ found-by_texts (λ name. name.items) k ds)
 
 module _ (ds es : Names) (k : List ℕ) (f : List (List ℕ) → List (List ℕ)) (x : List (List ℕ)) where
-  -- a list that stood there was changed
+  -- a list that existed was changed
   pub list_changed : (was : List (List ℕ)) → lookup (is_at (λ name. text_cmp k name.items)) ds ≡ Some was → es ≡ set_value (is_at (λ name. text_cmp k name.items)) ds x → x ≡ f was → (t : List ℕ) → list_in (by_items es) t ≡ cond (bytes_eq t k) (f (list_in (by_items ds) t)) (list_in (by_items ds) t)
   list_changed was found writes is t =
       list_found (by_items ds) (by_items es) k t x (text-found-set (λ name. name.items) ds es k x was writes (sym (found-by_texts (λ name. name.items) k ds) ∙ found) t)
       ∙ ap (λ l. cond (bytes_eq t k) l (list_in (by_items ds) t)) (is ∙ ap f (list_was ds k (Some was) found))
       ∙ own_list f (list_in (by_items ds)) k t
 
-  -- a name that wasn't there has come
+  -- a name that didn't exist was added
   pub list_come : (name : Vec ℕ Global) → name.items ≡ k → lookup (is_at (λ name. text_cmp k name.items)) ds ≡ None → es ≡ insert_entry (λ i j. text_cmp i.items j.items) ds name x → x ≡ f [] → (t : List ℕ) → list_in (by_items es) t ≡ cond (bytes_eq t k) (f (list_in (by_items ds) t)) (list_in (by_items ds) t)
   list_come name at none adds is t =
       list_found (by_items ds) (by_items es) k t x (text-found-insert (λ name. name.items) ds es name x adds t ∙ ap (λ (j : List ℕ). cond (is_at (text_cmp t) j) (Some x) (found_at (by_items ds) t)) at)
       ∙ ap (λ l. cond (bytes_eq t k) l (list_in (by_items ds) t)) (is ∙ ap f (list_was ds k None none))
       ∙ own_list f (list_in (by_items ds)) k t
+
+-- a list was written again unchanged
+pub list_kept : (ds es : Names) (k : List ℕ) (x was : List (List ℕ)) → lookup (is_at (λ name. text_cmp k name.items)) ds ≡ Some was → es ≡ set_value (is_at (λ name. text_cmp k name.items)) ds x → x ≡ was → (t : List ℕ) → list_in (by_items es) t ≡ list_in (by_items ds) t
+list_kept ds es k x was found writes is t =
+    list_changed ds es k (λ l. l) x was found writes is t
+    ∙ elim (bytes_eq t k) as (λ b. cond b (list_in (by_items ds) t) (list_in (by_items ds) t) ≡ list_in (by_items ds) t) [ true ↦ refl | false ↦ refl ]

@@ -1,5 +1,5 @@
 //! Names with their lists.
-ghost use Rattle.std.specs.Prelude.{◌≡◌, [], ℕ, List, cond, IfOk, OnOk};
+ghost use Rattle.std.specs.Prelude.{◌≡◌, [], ℕ, List, cond, IfOk, OnErr, OnOk};
 ghost use Rattle.std.specs.Str.{bytes_eq};
 ghost use Rattle.name_lists.specs.Lists.{by_texts, changed, list_in};
 
@@ -10,7 +10,8 @@ use std::marker::Model;
 use std::sync::Arc;
 use unit_paths::TreePath;
 
-/// The lists of some names, shared by copies until one of them is changed. Contracts see each name with its list.
+/// The lists of some names, shared by copies until one of them is changed. Contracts see each name
+/// with its list.
 #[derive(Debug, Drop)]
 pub(crate) struct Bucket {
     by_name: Arc<BTreeMap<Vec<u8>, PathList>>,
@@ -40,7 +41,7 @@ impl Clone for Bucket {
 }
 
 impl Bucket {
-    /// No name.
+    /// A bucket without names.
     pub(crate) fn none(alloc: Global) -> Result<Bucket, AllocError>
         ensures { IfOk result (λ bucket. bucket ≡ []) }
     {
@@ -59,14 +60,15 @@ impl Bucket {
         }
     }
 
-    /// Changes the list of a name. After an error another list may stand there.
+    /// Changes the list of a name. If memory runs out, every name keeps the paths that it had.
     pub(crate) fn change(
         &mut self,
         alloc: Global,
         name: &[u8],
         listing: Listing,
     ) -> Result<(), AllocError>
-        ensures { OnOk result ((text : List ℕ) → list_in self.new text ≡ cond (bytes_eq text name.now) (changed listing (list_in self.old text)) (list_in self.old text)) }
+        ensures ok { OnOk result ((text : List ℕ) → list_in self.new text ≡ cond (bytes_eq text name.now) (changed listing (list_in self.old text)) (list_in self.old text)) }
+        ensures err { OnErr result ((text : List ℕ) → list_in self.new text ≡ list_in self.old text) }
     {
         let by_name = Arc::make_mut(&mut self.by_name)?;
         change_in(by_name, alloc, name, listing)?;
@@ -80,7 +82,8 @@ fn change_in(
     name: &[u8],
     listing: Listing,
 ) -> Result<(), AllocError>
-    ensures { OnOk result ((text : List ℕ) → list_in (by_texts (λ name. name.items) by_name.new.entries) text ≡ cond (bytes_eq text name.now) (changed listing (list_in (by_texts (λ name. name.items) by_name.old.entries) text)) (list_in (by_texts (λ name. name.items) by_name.old.entries) text)) }
+    ensures ok { OnOk result ((text : List ℕ) → list_in (by_texts (λ name. name.items) by_name.new.entries) text ≡ cond (bytes_eq text name.now) (changed listing (list_in (by_texts (λ name. name.items) by_name.old.entries) text)) (list_in (by_texts (λ name. name.items) by_name.old.entries) text)) }
+    ensures err { OnErr result ((text : List ℕ) → list_in (by_texts (λ name. name.items) by_name.new.entries) text ≡ list_in (by_texts (λ name. name.items) by_name.old.entries) text) }
 {
     match by_name.get_mut(name) {
         Some(list) => match list.change(alloc, listing) {

@@ -1,5 +1,5 @@
 //! Lists of paths by names.
-ghost use Rattle.std.specs.Prelude.{◌≡◌, ◌<◌, ◌==◌, ◌&&◌, [], ℕ, List, cond, length, slice_index_or, IfOk, OnOk};
+ghost use Rattle.std.specs.Prelude.{◌≡◌, ◌<◌, ◌==◌, ◌&&◌, [], ℕ, List, cond, length, slice_index_or, IfOk, OnErr, OnOk};
 ghost use Rattle.std.specs.Str.{bytes_eq};
 ghost use Rattle.name_lists.specs.Lists.{changed, list_at, listed};
 
@@ -11,9 +11,10 @@ use std::marker::Model;
 use std::sync::Arc;
 use unit_paths::TreePath;
 
-/// For each name a list of paths; a name that wasn't listed has the empty list. The lists stand in buckets, and the buckets on shelves, by a
-/// hash of the name. Copies share all of it: a change copies the counts of one row of shelves and of one row of buckets, one bucket, and the
-/// list. Contracts see the shelves, and `listed` says what a name has.
+/// A list of paths for each name; a name that wasn't listed has the empty list. The lists are in
+/// buckets, and the buckets on shelves, chosen by a hash of the name. Copies share all of it: a
+/// change copies the counts of one row of shelves and of one row of buckets, one bucket, and the
+/// list. Contracts see the shelves, and `listed` gives the paths of a name.
 #[derive(Debug, Drop)]
 pub struct NameLists {
     shelves: Arc<Vec<Shelf>>,
@@ -42,7 +43,7 @@ impl Clone for NameLists {
 }
 
 impl NameLists {
-    /// No name has a path.
+    /// Lists in which no name has a path.
     pub fn none(alloc: Global) -> Result<NameLists, AllocError>
         ensures { IfOk result (λ lists. lists ≡ []) }
     {
@@ -62,15 +63,17 @@ impl NameLists {
         }
     }
 
-    /// Changes the list of a name, and no other. After an error the list of the name may be another.
+    /// Changes the list of a name, and no other. If memory runs out, every name keeps the paths
+    /// that it had.
     pub fn change(&mut self, alloc: Global, name: &[u8], listing: Listing) -> Result<(), AllocError>
-        ensures { OnOk result ((text : List ℕ) → listed self.new text ≡ cond (bytes_eq text name.now) (changed listing (listed self.old text)) (listed self.old text)) }
+        ensures ok { OnOk result ((text : List ℕ) → listed self.new text ≡ cond (bytes_eq text name.now) (changed listing (listed self.old text)) (listed self.old text)) }
+        ensures err { OnErr result ((text : List ℕ) → listed self.new text ≡ listed self.old text) }
     {
         self.change_at(alloc, shelf_of(name), bucket_of(name), name, listing)?;
         Ok(())
     }
 
-    /// The same, where the place is known.
+    /// The same, if the place is known.
     fn change_at(
         &mut self,
         alloc: Global,
@@ -81,7 +84,8 @@ impl NameLists {
     ) -> Result<(), AllocError>
         requires shelf { shelf < 32 }
         requires bucket { bucket < 32 }
-        ensures { OnOk result ((j k : ℕ) → (text : List ℕ) → list_at self.new j k text ≡ cond (j == shelf && (k == bucket && bytes_eq text name.now)) (changed listing (list_at self.old j k text)) (list_at self.old j k text)) }
+        ensures ok { OnOk result ((j k : ℕ) → (text : List ℕ) → list_at self.new j k text ≡ cond (j == shelf && (k == bucket && bytes_eq text name.now)) (changed listing (list_at self.old j k text)) (list_at self.old j k text)) }
+        ensures err { OnErr result ((j k : ℕ) → (text : List ℕ) → list_at self.new j k text ≡ list_at self.old j k text) }
     {
         let shelves = Arc::make_mut(&mut self.shelves)?;
         reach(shelves, alloc, shelf)?;
@@ -90,11 +94,11 @@ impl NameLists {
     }
 }
 
-/// Adds empty shelves until there is this one.
+/// Adds empty shelves until this one exists. If memory runs out, none is added.
 fn reach(shelves: &mut Vec<Shelf>, alloc: Global, shelf: usize) -> Result<(), AllocError>
     requires { shelf < 32 }
     ensures there { OnOk result (shelf < length shelves.new.items) }
-    ensures same { OnOk result ((j : ℕ) → slice_index_or shelves.new.items j [] ≡ slice_index_or shelves.old.items j []) }
+    ensures same { (j : ℕ) → slice_index_or shelves.new.items j [] ≡ slice_index_or shelves.old.items j [] }
 {
     if shelves.len() <= shelf {
         shelves.resize(shelf + 1, Shelf::none(alloc)?)?;

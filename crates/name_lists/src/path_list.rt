@@ -1,5 +1,5 @@
 //! The paths that are listed under one name.
-ghost use Rattle.std.specs.Prelude.{◌≡◌, ◌++◌, ◌∷◌, [], IfOk, OnOk};
+ghost use Rattle.std.specs.Prelude.{◌≡◌, ◌++◌, ◌∷◌, [], IfOk, OnErr, OnOk};
 ghost use Rattle.name_lists.specs.Lists.{changed};
 
 use std::alloc::{AllocError, Global};
@@ -7,12 +7,12 @@ use std::marker::Model;
 use std::sync::Arc;
 use unit_paths::TreePath;
 
-/// What becomes of the list of a name.
+/// How the list of a name changes.
 #[derive(Debug, Drop)]
 pub enum Listing {
-    /// These paths, in place of those before.
+    /// These paths, instead of those before.
     Whole(Vec<TreePath>),
-    /// A path more, behind the others.
+    /// One more path, after the others.
     OneMore(TreePath),
 }
 
@@ -74,9 +74,10 @@ impl PathList {
         &self.paths
     }
 
-    /// Changes the list.
+    /// Changes the list. If memory runs out, it is unchanged.
     pub(crate) fn change(&mut self, alloc: Global, listing: Listing) -> Result<(), AllocError>
-        ensures { OnOk result (self.new ≡ changed listing self.old) }
+        ensures ok { OnOk result (self.new ≡ changed listing self.old) }
+        ensures err { OnErr result (self.new ≡ self.old) }
     {
         match listing {
             Listing::Whole(paths) => {
@@ -88,7 +89,8 @@ impl PathList {
     }
 
     fn push(&mut self, path: TreePath) -> Result<(), AllocError>
-        ensures { OnOk result (self.new ≡ self.old ++ path ∷ []) }
+        ensures ok { OnOk result (self.new ≡ self.old ++ path ∷ []) }
+        ensures err { OnErr result (self.new ≡ self.old) }
     {
         Arc::make_mut(&mut self.paths)?.push(path)?;
         Ok(())

@@ -1,18 +1,18 @@
-//! Where the list of a name stands.
+//! Where the list of a name is stored.
 ghost use Rattle.std.specs.Prelude.{◌≡◌, ◌<◌, ◌/◌, ◌^◌};
 ghost use Rattle.name_lists.specs.Lists.{hash_from, mixed, shelf_of, bucket_of};
 ghost use Rattle.name_lists.specs.declared.place.TheConstants.{BUCKETS, SHELVES};
 
-/// How many shelves there are, at most.
+/// The maximum number of shelves.
 pub(crate) const SHELVES: u64 = 32;
 
-/// How many buckets a shelf has, at most.
+/// The maximum number of buckets on a shelf.
 pub(crate) const BUCKETS: u64 = 32;
 
-/// What the hash of the empty text is: so begins the hash FNV.
+/// The hash of the empty text: the initial value of the FNV hash.
 const FNV_START: u64 = 14_695_981_039_346_656_037;
 
-/// What FNV multiplies by.
+/// The multiplier of FNV.
 const FNV_PRIME: u64 = 1_099_511_628_211;
 
 /// The shelf of a name.
@@ -38,7 +38,7 @@ fn high_bits(name: &[u8]) -> u64
     hash_from(FNV_START, name) >> 32
 }
 
-/// The hash of a text whose first bytes gave this one.
+/// The hash of a text, continued from this hash of its first bytes.
 fn hash_from(mut hash: u64, bytes: &[u8]) -> u64
     ensures { result ≡ hash_from hash bytes.now }
 {
@@ -48,7 +48,7 @@ fn hash_from(mut hash: u64, bytes: &[u8]) -> u64
     hash
 }
 
-/// The hash with a byte more.
+/// The hash with one more byte.
 #[inline]
 fn mixed(hash: u64, byte: u8) -> u64
     ensures { result ≡ mixed hash byte }

@@ -1,4 +1,4 @@
-//! Lists in which a path comes or goes.
+//! Lists to which a path is added, or from which one is removed.
 ghost use Rattle.std.specs.Prelude.{◌≡◌, ◌++◌, ◌∷◌, List, ℕ, cond, IfOk};
 ghost use Rattle.name_lists.specs.Lists.{relisted, with_path, without_path, still_with};
 
@@ -6,7 +6,7 @@ use std::alloc::{AllocError, Global};
 use std::cmp::Ordering;
 use unit_paths::TreePath;
 
-/// The paths, and this one among them in its place, or not among them.
+/// The paths, with this one in its place, or without it.
 pub fn relisted(
     alloc: Global,
     listed: bool,
@@ -22,7 +22,7 @@ pub fn relisted(
     }
 }
 
-/// The paths with one more before the first that comes after it, unless it is there.
+/// The paths with one more before the first that comes after it, unless it is already there.
 fn with_path(
     alloc: Global,
     path: &TreePath,
@@ -42,7 +42,8 @@ fn with_path(
     Ok(list)
 }
 
-/// Adds the next of the paths, after the path that is to come before it, and answers whether that one is there now.
+/// Adds the next of the paths, after the path that must come before it, and returns whether that
+/// one is there now.
 fn push_with(
     list: &mut Vec<TreePath>,
     placed: bool,
@@ -72,7 +73,7 @@ fn push_with(
     }
 }
 
-/// The paths but this one.
+/// The paths without this one.
 fn without_path(
     alloc: Global,
     path: &TreePath,

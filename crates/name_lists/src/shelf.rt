@@ -1,5 +1,5 @@
 //! Buckets in a row.
-ghost use Rattle.std.specs.Prelude.{◌≡◌, ◌<◌, ◌==◌, ◌&&◌, [], ℕ, List, cond, length, slice_index_or, IfOk, OnOk};
+ghost use Rattle.std.specs.Prelude.{◌≡◌, ◌<◌, ◌==◌, ◌&&◌, [], ℕ, List, cond, length, slice_index_or, IfOk, OnErr, OnOk};
 ghost use Rattle.std.specs.Str.{bytes_eq};
 ghost use Rattle.name_lists.specs.Lists.{Bucketful, changed, list_in, list_on};
 
@@ -40,7 +40,7 @@ impl Clone for Shelf {
 }
 
 impl Shelf {
-    /// No bucket.
+    /// A shelf without buckets.
     pub(crate) fn none(alloc: Global) -> Result<Shelf, AllocError>
         ensures { IfOk result (λ shelf. shelf ≡ []) }
     {
@@ -49,7 +49,8 @@ impl Shelf {
         })
     }
 
-    /// The paths that are listed under a name in a bucket. A bucket that isn't there has no names.
+    /// The paths that are listed under a name in a bucket. A bucket that doesn't exist has no
+    /// names.
     pub(crate) fn get(&self, bucket: usize, name: &[u8]) -> &[TreePath]
         ensures { result.now ≡ list_on self.now bucket name.now }
     {
@@ -59,7 +60,8 @@ impl Shelf {
         }
     }
 
-    /// Changes the list of a name in a bucket. After an error another list may stand there.
+    /// Changes the list of a name in a bucket. If memory runs out, every name keeps the paths that
+    /// it had.
     pub(crate) fn change(
         &mut self,
         alloc: Global,
@@ -68,7 +70,8 @@ impl Shelf {
         listing: Listing,
     ) -> Result<(), AllocError>
         requires { bucket < 32 }
-        ensures { OnOk result ((k : ℕ) → (text : List ℕ) → list_on self.new k text ≡ cond (k == bucket && bytes_eq text name.now) (changed listing (list_on self.old k text)) (list_on self.old k text)) }
+        ensures ok { OnOk result ((k : ℕ) → (text : List ℕ) → list_on self.new k text ≡ cond (k == bucket && bytes_eq text name.now) (changed listing (list_on self.old k text)) (list_on self.old k text)) }
+        ensures err { OnErr result ((k : ℕ) → (text : List ℕ) → list_on self.new k text ≡ list_on self.old k text) }
     {
         let buckets = Arc::make_mut(&mut self.buckets)?;
         reach(buckets, alloc, bucket)?;
@@ -77,11 +80,11 @@ impl Shelf {
     }
 }
 
-/// Adds empty buckets until there is this one.
+/// Adds empty buckets until this one exists. If memory runs out, none is added.
 fn reach(buckets: &mut Vec<Bucket>, alloc: Global, bucket: usize) -> Result<(), AllocError>
     requires { bucket < 32 }
     ensures there { OnOk result (bucket < length buckets.new.items) }
-    ensures same { OnOk result ((k : ℕ) → slice_index_or buckets.new.items k [] ≡ slice_index_or buckets.old.items k []) }
+    ensures same { (k : ℕ) → slice_index_or buckets.new.items k [] ≡ slice_index_or buckets.old.items k [] }
 {
     if buckets.len() <= bucket {
         buckets.resize(bucket + 1, Bucket::none(alloc)?)?;

@@ -13,7 +13,8 @@ Named = List (List ℕ × List ℕ)
 abbrev pub paths_in : Named → List (List ℕ)
 paths_in left = list_map (λ e. e.1) left
 
--- what has been gathered and what is left come to what there was at first and all
+-- what has been collected, together with what is left, is what there was at first together with
+-- everything
 abbrev pub GathersAlike : (t presets : Entries) (rules first_rules : List Rule) (cells first_cells : List (List ℕ)) (left all : Named) → Type 0
 GathersAlike t presets rules first_rules cells first_cells left all =
     (rules ++ (rules_from presets (paths_in left)).conclusion t ≡ first_rules ++ (rules_from presets (paths_in all)).conclusion t)

@@ -28,7 +28,7 @@ unfolding along
 along_stops pattern [] is = refl
 along_stops pattern (b ∷ text) is = stops_from pattern b text (after_byte pattern b) is
 
--- what is left is no longer
+-- what is left is no longer than what there was
 pub record IsShort (pattern text left rest : List ℕ) : Type 0 where
   pub of_pattern : length left ≤ length pattern
   pub of_text : length rest ≤ length text
@@ -76,7 +76,7 @@ module _ (pattern text left rest : List ℕ) (first : left ≡ (along text patte
   pub fails : None ≡ after_star left → are_ended left rest ≡ false → Matches pattern text → ⊥
   fails none is = stuck_matches_none text pattern (none_is none) (ends_is false is)
 
--- where it fails behind a star, the star takes a byte more
+-- if it fails after a star, the star takes one more byte
 skips_from : (pattern text later : List ℕ) → Some later ≡ without_first text → after_star (along text pattern).0 ≡ None → are_ended (along text pattern).0 (along text pattern).1 ≡ false
     → (Starred pattern later → Starred pattern text) × (Starred pattern text → Starred pattern later)
 skips_from pattern [] later is star ended = absurd (cc)
@@ -99,7 +99,7 @@ pub gives_up : (pattern text left rest : List ℕ) → left ≡ (along text patt
 gives_up pattern text left rest first second none ended is =
     ends_from pattern text is (none_is pattern text left rest first second none) (ends_is pattern text left rest first second false ended)
 
--- two tests of one fact
+-- two tests of the same fact
 pub same_tests : (a b : Bool) → (a ≡ true → b ≡ true) → (b ≡ true → a ≡ true) → a ≡ b
 same_tests true b there back = sym (there refl)
 same_tests false true there back = back refl

@@ -5,7 +5,7 @@ use Rattle.preset_rules.specs.Patterns.{Set, Matches, set_behind, is_in, is_plai
 use Rattle.preset_rules.specs.Patterns.Matches.{AtEnd, AnyBytes, AnyByte, OneOfSet, OpenBracket, Itself}
 use Rattle.preset_rules.specs.Walk.{further, along, after_star, are_ended}
 
--- a star takes some bytes, and the rest matches what follows
+-- a star takes some bytes, and the rest of the pattern matches what follows
 pub record StarTakes (first : ℕ) (rest text : List ℕ) : Type 0 where
   pub star : first ≡ 42
   pub bytes : List ℕ
@@ -13,7 +13,7 @@ pub record StarTakes (first : ℕ) (rest text : List ℕ) : Type 0 where
   pub cut : text ≡ bytes ++ left
   pub matches : Matches rest left
 
--- one byte is taken
+-- the first element of the pattern takes one byte
 pub record ByteTaken (pattern text : List ℕ) : Type 0 where
   pub first : ℕ
   pub left : List ℕ
@@ -44,7 +44,7 @@ in_parts f r t (Itself b pattern text plain more) =
     let parts = plain_parts b plain in
     inr (record { first = b; left = text; cut = refl; rest = pattern; after = rw (parts.0, parts.1, parts.2, eq-eqb b b refl) refl; matches = more })
 
--- a value that a test chose
+-- the value that a test selected
 pub by_test : (c : Bool) (x y : Option (List ℕ)) (p : List ℕ) → cond c x y ≡ Some p → ((c ≡ true) × (x ≡ Some p)) ⊎ ((c ≡ false) × (y ≡ Some p))
 by_test true x y p is = inl (refl, is)
 by_test false x y p is = inr (refl, is)
@@ -66,7 +66,7 @@ by_set_parts f r (Some set) b t p bracket here is more =
       | inr h ↦ absurd (cc)
     ]
 
--- What is left of a pattern behind what takes one byte, whichever that is.
+-- The rest of a pattern after its first element, which takes one byte, whatever kind it is.
 by_set_left : Option Set → List ℕ → Option (List ℕ)
 by_set_left None r = Some r
 by_set_left (Some set) r = Some set.after
@@ -80,7 +80,7 @@ unfolding by_set_left
 by_set_is None r b p is = elim (by_test (b == 91) (Some r) None p is) [ inl h ↦ h.1 | inr h ↦ absurd (cc) ]
 by_set_is (Some set) r b p is = elim (by_test (is_in set b) (Some set.after) None p is) [ inl h ↦ h.1 | inr h ↦ absurd (cc) ]
 
--- a byte that is taken, by what takes it
+-- a byte that is taken, by the kind of element that takes it
 pub byte_first : (pattern : List ℕ) (b : ℕ) (t p : List ℕ) → after_byte pattern b ≡ Some p → Matches p t → Matches pattern (b ∷ t)
 unfolding after_byte
 byte_first [] b t p is more = absurd (cc)
@@ -132,7 +132,7 @@ star_takes_none : (f : ℕ) (r : List ℕ) (b : ℕ) → f ≡ 42 → after_byte
 unfolding after_byte
 star_takes_none f r b star = rw star refl
 
--- what begins with something that takes a byte
+-- a pattern whose first element takes a byte
 pub byte_after : (pattern t : List ℕ) (b : ℕ) (p : List ℕ) → after_byte pattern b ≡ Some p → Matches pattern t → ByteTaken pattern t
 unfolding after_byte
 byte_after [] t b p is matches = absurd (cc)
@@ -149,7 +149,7 @@ next_matches pattern b t p is matches =
     let same : taken.rest ≡ p = same_left pattern taken.first b taken.rest p taken.after is in
     subst (λ (x : List ℕ). Matches p x) left (subst (λ (q : List ℕ). Matches q taken.left) same taken.matches)
 
--- Walking along keeps whether the pattern matches.
+-- After walking along, the pattern matches as before.
 further_matches : (t pattern : List ℕ) (b : ℕ) (p : Option (List ℕ)) → after_byte pattern b ≡ p
     → ((q : List ℕ) → Matches q t → Matches (along t q).0 (along t q).1)
     → Matches pattern (b ∷ t) → Matches (further (along t) (pattern, b ∷ t) p).0 (further (along t) (pattern, b ∷ t) p).1
@@ -172,7 +172,7 @@ unfolding along
 along_matched [] pattern matches = matches
 along_matched (b ∷ t) pattern matches = further_matched t pattern b (after_byte pattern b) refl (along_matched t) matches
 
--- It ends where no byte more is taken.
+-- It ends where no more byte is taken.
 abbrev pub AreStuck : List ℕ × List ℕ → Type 0
 AreStuck (pattern, []) = Unit {0}
 AreStuck (pattern, b ∷ t) = after_byte pattern b ≡ None
@@ -205,7 +205,7 @@ no_match_here (f ∷ r) (b ∷ t) stuck star ended matches =
           some_not_none (after_byte (f ∷ r) b) taken.rest stuck (subst (λ (x : ℕ). after_byte (f ∷ r) x ≡ Some taken.rest) first taken.after)
     ]
 
--- where walking along ends with no star, and not at both ends, nothing matches
+-- if walking along ends neither at a star nor at the ends of both, the pattern doesn't match
 pub stuck_matches_none : (t pattern : List ℕ) → after_star (along t pattern).0 ≡ None → are_ended (along t pattern).0 (along t pattern).1 ≡ false → Matches pattern t → ⊥
 stuck_matches_none t pattern star ended matches =
     no_match_here (along t pattern).0 (along t pattern).1 (along_stuck t pattern) star ended (along_matches t pattern matches)

@@ -22,7 +22,7 @@ unfolding is_member
 no_members [] b none = refl
 no_members (x ∷ xs) b none = absurd (omega arith)
 
--- a list by its first element
+-- a list with its first element split off
 pub cons_parts : (xs : List ℕ) → 1 ≤ length xs → xs ≡ get_or xs 0 0 ∷ take (length xs - 1) (drop 1 xs)
 cons_parts [] some = absurd (omega arith)
 cons_parts (x ∷ xs) some = grind (arith, common_steps)

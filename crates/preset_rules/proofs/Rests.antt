@@ -1,4 +1,4 @@
--- Rules that stand behind others, and trees without preset files.
+-- Rules after others, and trees without preset files.
 use Rattle.std.proofs.Common.{◌≡◌, ℕ, Bool, true, false, cond, List, [], ◌∷◌, ◌++◌, Option, Some, None, refl, sym, ap, ◌∙◌, inl, inr, map as list_map}
 use Rattle.std.specs.List.{find}
 use Rattle.std.specs.Option.{option_map_or}
@@ -25,7 +25,7 @@ use Rattle.preset_rules.specs.Laws.{NoneApplies, EarlierRulesDecide, disable_all
 use Rattle.preset_rules.proofs.Tried.{matched_then}
 use Rattle.preset_rules.proofs.WinnersFound.{get-presets}
 
--- what is found among rules, and where nothing is, among others behind them
+-- the rule that is found among these rules, or, if none is, among others after them
 later_found : (rules more : List Rule) (name : List ℕ) → NoneApplies name rules → find (applies name) (rules ++ more) ≡ find (applies name) more
 later_found [] more name none = refl
 later_found (rule ∷ rules) more name none =
@@ -54,7 +54,7 @@ earlier_rules_decide rules more name = (
   λ some. ap (said name) (earlier_found rules more name some),
 )
 
--- a star alone matches each text
+-- a single star matches each text
 star_matches : (text : List ℕ) → Matches (42 ∷ []) text
 star_matches text = AnyBytes 42 [] text [] text refl (sym (append-nil text)) AtEnd
 

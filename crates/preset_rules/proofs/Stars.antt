@@ -1,4 +1,5 @@
--- Stars: only the last that was met counts, since what is taken first leaves the most.
+-- Stars: only the last one reached is tried again, since taking as little as possible leaves the
+-- most.
 use Rattle.std.proofs.Common.{◌≡◌, refl, ℕ, true, false, List, [], ◌∷◌, ◌++◌, Option, Some, None, inl, inr, sym, ap, ◌∙◌, subst, append_assoc}
 use Rattle.std.proofs.lemmas.Bool.{eqb-true}
 use Rattle.preset_rules.specs.Patterns.{Matches, is_star, after_byte}
@@ -6,7 +7,7 @@ use Rattle.preset_rules.specs.Patterns.Matches.{AnyBytes}
 use Rattle.preset_rules.specs.Walk.{further, along, after_star, are_ended}
 use Rattle.preset_rules.proofs.Matching.{StarTakes, in_parts, by_test, byte_after, same_left, along_matches, along_matched, stuck_matches_none, ended_matches}
 
--- a star and a pattern
+-- a star and then a pattern
 abbrev pub Starred : (pattern text : List ℕ) → Type 0
 Starred pattern text = Matches (42 ∷ pattern) text
 
@@ -18,7 +19,8 @@ star_takes pattern text matches =
       | inr taken ↦ let after = taken.after in absurd (cc)
     ]
 
--- a star takes what stands before a text that the rest matches, and before one that itself matches
+-- a star can take what comes before a text that the rest of the pattern matches, or before a text
+-- that the star and the rest match
 pub star_before : (pattern before left text : List ℕ) → text ≡ before ++ left → Matches pattern left → Starred pattern text
 star_before pattern before left text is matches = AnyBytes 42 pattern before left text refl is matches
 
@@ -35,7 +37,7 @@ star_is_first (f ∷ r) rest is =
       | inr other ↦ absurd (cc)
     ]
 
--- what stands before the rest of a list, where the list begins with one byte and the rest with another
+-- `left` is the end of `text`, and this comes before it
 pub record Behind (text left : List ℕ) : Type 0 where
   pub before : List ℕ
   pub is : text ≡ before ++ left
@@ -60,7 +62,8 @@ greedy_on t pattern rest left before b (Some p) is on cut matches star =
     let behind = behind_one b taken.first t before taken.left (cut ∙ ap (λ x. before ++ x) taken.cut) in
     on p taken.left behind.before behind.is (subst (λ (q : List ℕ). Matches q taken.left) same taken.matches) star
 
--- Where a pattern matches the end of a text and leads to a star along all of it, the star takes the rest.
+-- If a pattern matches the end of a text, and walking along the whole text leads to a star, this
+-- star can take the rest.
 greedy : (t pattern left before rest : List ℕ) → t ≡ before ++ left → Matches pattern left → after_star (along t pattern).0 ≡ Some rest → Starred rest (along t pattern).1
 unfolding along
 greedy [] pattern left before rest cut matches star =
@@ -69,7 +72,7 @@ greedy [] pattern left before rest cut matches star =
 greedy (b ∷ t) pattern left before rest cut matches star =
     greedy_on t pattern rest left before b (after_byte pattern b) refl (λ q more front is m s. greedy t q more front rest is m s) cut matches star
 
--- one step of the matcher: it leads to a star,
+-- One step of the matcher leads to a star,
 pub star_after_star : (pattern text rest : List ℕ) → after_star (along text pattern).0 ≡ Some rest → Starred pattern text → Starred rest (along text pattern).1
 star_after_star pattern text rest star matches =
     let takes = star_takes pattern text matches in
@@ -86,11 +89,11 @@ pub star_led_to : (pattern text rest : List ℕ) → after_star (along text patt
 star_led_to pattern text rest star matches =
     subst (λ (q : List ℕ). Matches q (along text pattern).1) (star_is_first (along text pattern).0 rest star) (along_matches text pattern matches)
 
--- or to both ends,
+-- or to the ends of both pattern and text,
 pub both_ended : (pattern text : List ℕ) → are_ended (along text pattern).0 (along text pattern).1 ≡ true → Matches pattern text
 both_ended pattern text ended = along_matched text pattern (ended_matches (along text pattern).0 (along text pattern).1 ended)
 
--- or it fails, and begins again one byte later.
+-- or it fails, and the next step begins one byte later.
 pub star_skips : (pattern : List ℕ) (b : ℕ) (text : List ℕ) → after_star (along (b ∷ text) pattern).0 ≡ None → are_ended (along (b ∷ text) pattern).0 (along (b ∷ text) pattern).1 ≡ false → Starred pattern (b ∷ text) → Starred pattern text
 star_skips pattern b text star ended matches =
     let takes = star_takes pattern (b ∷ text) matches in

@@ -1,4 +1,4 @@
--- Trying in many enough steps decides whether a pattern matches.
+-- Enough steps of trying decide whether a pattern matches.
 use Rattle.std.proofs.Common.{◌≡◌, refl, ℕ, zero, suc, ◌+◌, ◌<◌, ◌≤◌, Bool, true, false, ◌==◌, ◌&&◌, ◌||◌, cond, List, [], ◌∷◌, ◌++◌, length, drop, take, length-drop, Option, Some, None, ◌⊎◌, inl, inr, sym, ap, subst, arith}
 use Rattle.std.specs.Option.{option_map}
 use Rattle.std.specs.List.{position}
@@ -7,7 +7,7 @@ use Rattle.preset_rules.specs.Patterns.{Set, Matches, is_star, is_in, by_set, se
 use Rattle.preset_rules.specs.Patterns.Matches.{AtEnd, AnyBytes}
 use Rattle.preset_rules.proofs.Matching.{StarTakes, ByteTaken, in_parts, by_test, byte_first}
 
--- a set is shorter than what it is cut from
+-- what follows a set is no longer than the text from which the set is cut
 set_from_short : (turned : Bool) (rest : List ℕ) (set : Set) → set_from turned rest ≡ Some set → length set.after ≤ length rest
 set_from_short turned [] set is = absurd (cc)
 set_from_short turned (m ∷ rest) set is =
@@ -32,7 +32,7 @@ by_set_short : (set : Option Set) (r : List ℕ) (b : ℕ) (p : List ℕ) → se
 by_set_short None r b p here is = elim (by_test (b == 91) (Some r) None p is) [ inl h ↦ (let same : p ≡ r = cc in omega (arith, ap length same)) | inr h ↦ absurd (cc) ]
 by_set_short (Some set) r b p here is = elim (by_test (is_in set b) (Some set.after) None p is) [ inl h ↦ (let same : p ≡ set.after = cc in omega (arith, ap length same, set_behind_short r set here)) | inr h ↦ absurd (cc) ]
 
--- what takes a byte is shorter behind it
+-- a pattern is shorter after it has taken a byte
 pub after_short : (pattern : List ℕ) (b : ℕ) (p : List ℕ) → after_byte pattern b ≡ Some p → length p + 1 ≤ length pattern
 unfolding after_byte
 after_short [] b p is = absurd (cc)
@@ -144,7 +144,7 @@ tried_complete (suc steps) (f ∷ r) (b ∷ text) enough matches =
           ] refl
     ]
 
--- A pattern matches exactly where it is said to.
+-- A pattern matches exactly if `is_matched` says so.
 pub matched_if : (pattern text : List ℕ) → is_matched pattern text ≡ true → Matches pattern text
 unfolding is_matched
 matched_if pattern text is = tried_sound (length pattern + length text + 1) pattern text is

@@ -37,7 +37,7 @@ added place found (x ∷ xs) = added place (if is_in place x.0 then with_path fo
 abbrev paths_of : List Standing → List (List ℕ)
 paths_of xs = list_map (λ x. x.0) xs
 
--- a path of a directory is this with its name
+-- a path in a directory is the directory with its name
 some_directory : (place : Place) → preset_directory place ≡ [] → ⊥
 unfolding unit_directory
 some_directory Etc h = cc
@@ -68,7 +68,7 @@ module _ (place : Place) (name : List ℕ) where
       ap (λ b. map.find path_cmp name (list_map (λ path. (name_at path, path)) (cond b (x ∷ filter (is_in place) xs) (filter (is_in place) xs)))) here
       ∙ ap (λ b. cond b (Some x) (found xs)) (at_bytes name (name_at x))
 
-  -- what is found is there,
+  -- A slot that is found is in the list,
   pub found_is : (xs : List (List ℕ)) (p : List ℕ) → found xs ≡ Some p → Contains xs p × (is_in place p ≡ true) × (name_at p ≡ name)
   found_is [] p is = cc
   found_is (x ∷ xs) p is = elim (cases_Bool (is_in place x)) [
@@ -95,7 +95,7 @@ module _ (place : Place) (name : List ℕ) where
         | inr away ↦ sym (found_skips x xs away) ∙ is
       ]))
 
-  -- and what is there is found.
+  -- and a slot that is in the list is found.
   pub found_if : (xs : List (List ℕ)) (p : List ℕ) → Contains xs p → is_in place p ≡ true → name_at p ≡ name → found xs ≡ Some p
   found_if xs p among here at = by_found (found xs) refl
     where
@@ -123,7 +123,7 @@ or_later None true x rest = refl
 or_later None false x rest = refl
 or_later (Some y) b x rest = refl
 
--- one slot after another, each where no other has its name
+-- adding one slot after another, each only if no other has its name yet
 get-with_path : (m : Winners) (path name : List ℕ) → map.get (with_path m path) name ≡ option_or (map.get m name) (cond (bytes_eq name (name_at path)) (Some path) None)
 get-with_path m path name = by_there (map.get m (name_at path)) refl
   where
@@ -163,7 +163,7 @@ get-added place m (x ∷ xs) name = elim (cases_Bool (is_in place x.0)) [
       ∙ sym (ap (option_or (map.get m name)) (found_skips place name x.0 (paths_of xs) away))
 ]
 
--- what stands at preset slots
+-- the entries at preset slots
 pub get-presets : (t : Entries) (path : List ℕ) → map.get (presets_of t) path ≡ cond (is_preset (slot_of path)) (map.get t path) None
 unfolding presets_of
 get-presets t path = map.get-retain_keys t (λ p. is_preset (slot_of p)) path (λ x same. ap (λ p. is_preset (slot_of p)) (sym (exact_bytes path x same)))
@@ -181,7 +181,7 @@ pub only_some : (b : Bool) (o : Option Entry) (e : Entry) → cond b o None ≡ 
 only_some true o e is = is
 only_some false o e is = cc
 
--- of a tree, in whatever order
+-- for the slots of a tree, in any order
 pub get-added_all : (place : Place) (m : Winners) (t : Entries) (xs : List Standing) → IsPermutation xs (map.entries t) → (name : List ℕ) → map.get (added place m xs) name ≡ option_or (map.get m name) (map.find path_cmp name (named_in place (map.keys (presets_of t))))
 get-added_all place m t xs same name =
     get-added place m xs name ∙ ap (option_or (map.get m name)) (same_found place name (paths_of xs) (map.keys (presets_of t)) there back)
@@ -222,7 +222,7 @@ find-append (e ∷ es) fs q = elim (eq_by_cmp path_cmp q e.0) as (λ b. cond b (
   | false ↦ find-append es fs q
 ]
 
--- what wins a name, by the directories
+-- the slot that wins a name, by the directories
 pub get-winners : (presets : Entries) (name : List ℕ) → map.get (winners presets) name
     ≡ option_or (option_or (map.find path_cmp name (named_in Etc (map.keys presets))) (map.find path_cmp name (named_in Run (map.keys presets)))) (map.find path_cmp name (named_in Vendor (map.keys presets)))
 unfolding winners

@@ -7,14 +7,14 @@ use Rattle.unit_paths.specs.Paths.{name_at}
 use Rattle.link_tree.specs.Trees.{Entries}
 use Rattle.preset_rules.specs.Files.{is_in, presets_of, winners}
 
--- something stands at a preset slot of a directory that has this file name
+-- there is an entry at a preset slot of the directory that has this file name
 abbrev pub Stands : Place → Entries → (name path : List ℕ) → Type 0
 Stands place t name path = (is_in place path ≡ true) × (name_at path ≡ name) × (is_some (map.get t path) ≡ true)
 
 abbrev pub NoneStands : Place → Entries → (name : List ℕ) → Type 0
 NoneStands place t name = (path : List ℕ) → ¬ Stands place t name path
 
--- The first of the directories that has a file name wins it, whatever stands in those after it.
+-- The first of the directories that has a file name wins it, whatever is in those after it.
 abbrev pub IsWinner : Entries → (name path : List ℕ) → Type 0
 IsWinner t name path =
     Stands Etc t name path

@@ -13,20 +13,21 @@ use Rattle.unit_paths.specs.Kinds.{is_preset}
 use Rattle.preset_rules.specs.Lines.{rules_of}
 use Rattle.preset_rules.specs.Verdicts.{applies, given, verdict}
 
--- What a policy comes to depends on what stands at the preset slots and in its cells alone.
+-- A policy depends only on the entries at the preset slots and in its cells.
 abbrev pub PoliciesAgree : Type 0
 PoliciesAgree = (t u : Entries) → presets_of t ≡ presets_of u → SameAt (each_once ((policy_of t).cells t)) t u
     → ((policy_of t).conclusion t ≡ (policy_of u).conclusion u) × (each_once ((policy_of t).cells t) ≡ each_once ((policy_of u).cells u))
 
--- The part of a tree that its preset slots are has the same policy.
+-- The part of a tree at its preset slots has the same policy as the tree.
 abbrev pub PresetsDecide : Type 0
 PresetsDecide = (t : Entries) → policy_of (presets_of t) ≡ policy_of t
 
--- none of these applies
+-- none of these rules applies
 abbrev pub NoneApplies : List ℕ → List Rule → Type 0
 NoneApplies name rules = All (λ rule. applies name rule ≡ false) rules
 
--- a verdict is that of a rule before which none applies, or where none does, to enable
+-- a verdict is that of a rule that applies and before which none does, or, if none applies, that
+-- the unit is enabled
 abbrev pub IsSaid : List Rule → List ℕ → Verdict → Type 0
 IsSaid rules name said =
     ((before : List Rule) × (rule : Rule) × (after : List Rule) × (rules ≡ before ++ rule ∷ after) × NoneApplies name before × (applies name rule ≡ true) × (said ≡ given name rule))
@@ -35,15 +36,16 @@ IsSaid rules name said =
 abbrev pub FirstRuleDecides : Type 0
 FirstRuleDecides = (rules : List Rule) (name : List ℕ) → IsSaid rules name (verdict rules name)
 
--- With no rules each unit is enabled,
+-- With no rules each unit is enabled.
 abbrev pub NoRulesEnable : Type 0
 NoRulesEnable = (name : List ℕ) → verdict [] name ≡ verdicts.Enable []
 
--- and a last rule that applies to it disables a unit exactly where no earlier one does.
+-- If the last rule applies to a unit and is to disable it, it does so exactly if no earlier rule
+-- applies.
 abbrev pub LastRuleDecides : Type 0
 LastRuleDecides = (rules : List Rule) (pattern name : List ℕ) → NoneApplies name rules → applies name (Disable pattern) ≡ true → verdict (rules ++ Disable pattern ∷ []) name ≡ verdicts.Disable
 
--- What earlier rules say counts, and where none of them applies, what the later ones say.
+-- The earlier rules decide, and if none of them applies, the later ones do.
 abbrev pub EarlierRulesDecide : Type 0
 EarlierRulesDecide = (rules more : List Rule) (name : List ℕ) →
     (NoneApplies name rules → verdict (rules ++ more) name ≡ verdict more name) × (¬ NoneApplies name rules → verdict (rules ++ more) name ≡ verdict rules name)
@@ -51,20 +53,22 @@ EarlierRulesDecide = (rules more : List Rule) (name : List ℕ) →
 abbrev pub disable_all : Rule
 disable_all = Disable (codes "*")
 
--- A file with the one line "disable *" has this rule alone.
+-- A file with the single line "disable *" has only this rule.
 abbrev pub LineDisablesAll : Type 0
 LineDisablesAll = rules_of (codes "disable *") ≡ disable_all ∷ []
 
--- A last line "disable *" disables exactly the units to which no earlier rule applies: what is said of all others stays.
+-- A last line "disable *" disables exactly the units to which no earlier rule applies: for all
+-- others the verdict stays the same.
 abbrev pub RestIsDisabled : Type 0
 RestIsDisabled = (rules : List Rule) (name : List ℕ) →
     (NoneApplies name rules → verdict (rules ++ disable_all ∷ []) name ≡ verdicts.Disable) × (¬ NoneApplies name rules → verdict (rules ++ disable_all ∷ []) name ≡ verdict rules name)
 
--- A tree has no preset files where nothing stands at any of their slots.
+-- A tree has no preset files if there is no entry at any of their slots.
 abbrev pub HasNoPresets : Entries → Type 0
 HasNoPresets t = (path : List ℕ) → is_preset (slot_of path) ≡ true → map.get t path ≡ None
 
--- Such a tree has no rules, no link is followed for them, and each unit is to be enabled, as itself.
+-- Such a tree has no rules, no link is followed for them, and each unit is enabled, without
+-- instances.
 abbrev pub NoPresetsEnable : Type 0
 NoPresetsEnable = (t : Entries) → HasNoPresets t →
     ((policy_of t).conclusion t ≡ []) × ((policy_of t).cells t ≡ []) × ((name : List ℕ) → verdict ((policy_of t).conclusion t) name ≡ verdicts.Enable [])

@@ -10,7 +10,7 @@ use Rattle.unit_file.specs.Listed.{is_template_name}
 use Rattle.preset_rules.specs.declared.rule.Rule.{Rule}
 use Rattle.preset_rules.specs.declared.rule.Rule.TheVariants.{Enable, Disable, Ignore}
 
--- a first word, and what follows it without the blanks around that
+-- the first word, and what follows it without the blanks around that
 abbrev pub cut_at : List ℕ → Option ℕ → List ℕ × List ℕ
 cut_at text None = (text, [])
 cut_at text (Some at) = (take at text, stripped (drop at text))
@@ -22,7 +22,8 @@ first_word text = cut_at text (position is_blank text)
 unfoldable pub names_template : List ℕ → Bool
 names_template text = is_unit_name text && is_template_name text
 
--- "enable", a pattern, which is one word, and the names of instances, which only a template can have
+-- "enable", a pattern, which is one word, and the names of instances, which only a template can
+-- have
 abbrev pub with_instances : (pattern : List ℕ) → List (List ℕ) → Option Rule
 with_instances pattern [] = Some (Enable pattern [])
 with_instances pattern (instance ∷ instances) = if names_template pattern then Some (Enable pattern (instance ∷ instances)) else None
@@ -34,7 +35,7 @@ enable_rule rest = let cut = first_word rest in if is_empty cut.0 then None else
 abbrev pub disable_rule : List ℕ → Option Rule
 disable_rule rest = if is_empty rest then None else Some (Disable rest)
 
--- "ignore", and a pattern in the same way
+-- "ignore" and a pattern, in the same way
 abbrev pub ignore_rule : List ℕ → Option Rule
 ignore_rule rest = if is_empty rest then None else Some (Ignore rest)
 
@@ -45,8 +46,8 @@ rule_from word rest =
     else if bytes_eq word (codes "ignore") then ignore_rule rest
     else None
 
--- The rule of a line, without the blanks at its ends. Any other line says nothing: an empty one, and one that begins with # or ;,
--- since neither begins with one of the three words.
+-- The rule of a line, without the blanks at its ends. Any other line has no rule, also an empty
+-- one, and one that begins with # or ;, since neither begins with one of the three words.
 unfoldable pub rule_of : List ℕ → Option Rule
 rule_of line = let cut = first_word (stripped line) in rule_from cut.0 cut.1
 
@@ -55,6 +56,7 @@ abbrev pub with_rule : List Rule → Option Rule → List Rule
 with_rule rules None = rules
 with_rule rules (Some rule) = rules ++ rule ∷ []
 
--- The rules of a file, in the order of its lines. A line ends at LF, and a CR before that is a blank.
+-- The rules of a file, in the order of its lines. A line ends at LF, and a CR before that is a
+-- blank.
 unfoldable pub rules_of : List ℕ → List Rule
 rules_of bytes = filter_map rule_of (lines bytes)

@@ -1,10 +1,11 @@
--- Patterns, and which texts they match: systemd.preset(5), "Preset File Format", and glob(7), "Wildcard matching".
+-- Patterns, and which texts they match: systemd.preset(5), "Preset File Format", and glob(7),
+-- "Wildcard matching".
 use Rattle.std.specs.Prelude.{◌≡◌, ◌+◌, ℕ, zero, suc, Bool, true, false, not, ◌||◌, ◌&&◌, ◌==◌, nat_lt, if◌then◌else◌, List, [], ◌∷◌, ◌++◌, length, take, drop, Option, Some, None}
 use Rattle.std.specs.List.{position}
 use Rattle.std.specs.Option.{option_map}
 use Prim.Native.Char.{code}
 
--- A set: whether it is turned round, the bytes of its members, and what follows it.
+-- A set: whether it is negated, the bytes of its members, and what follows it.
 pub record Set : Type 0 where
   pub turned : Bool
   pub members : List ℕ
@@ -18,13 +19,13 @@ abbrev pub set_from : Bool → List ℕ → Option Set
 set_from turned [] = None
 set_from turned (member ∷ rest) = option_map (λ at. record { turned = turned; members = take (at + 1) (member ∷ rest); after = drop (at + 1) rest }) (position ends_set rest)
 
--- the set that a [ opens before this; none where it has no end
+-- the set that a [ before this text opens; none if the set has no end
 unfoldable pub set_behind : List ℕ → Option Set
 set_behind [] = None
 set_behind (first ∷ rest) = if first == code "!" then set_from true rest else set_from false (first ∷ rest)
 
--- Whether a byte is among the members: x-y stands for the bytes from x to y, any other for itself. They are read from
--- the left, so that a - which is first or last is itself.
+-- Whether a byte is among the members: x-y means the bytes from x to y, any other byte means
+-- itself. They are read from the left, so a - that is first or last means itself.
 abbrev pub is_between : (from to b : ℕ) → Bool
 is_between from to b = not (nat_lt b from) && not (nat_lt to b)
 
@@ -39,12 +40,12 @@ is_member (x ∷ (dash ∷ (y ∷ rest))) b =
 abbrev pub is_in : Set → ℕ → Bool
 is_in set b = if set.turned then not (is_member set.members b) else is_member set.members b
 
--- a byte that stands for itself, wherever it stands
+-- a byte that matches only itself, anywhere in a pattern outside a set
 abbrev pub is_plain : ℕ → Bool
 is_plain b = not (b == code "*" || b == code "?" || b == code "[")
 
--- A pattern matches a whole text: * any bytes or none, ? one byte, a set one byte that is in it, a [ without an end and
--- any other byte themselves.
+-- A pattern matches a whole text: * matches any bytes or none, ? one byte, a set one byte that is
+-- in it, and a [ without an end and any other byte match themselves.
 pub data Matches : (pattern text : List ℕ) → Type 0 where
   AtEnd : Matches [] []
   AnyBytes : (star : ℕ) (pattern bytes rest text : List ℕ) → star ≡ code "*" → text ≡ bytes ++ rest → Matches pattern rest → Matches (star ∷ pattern) text
@@ -53,7 +54,8 @@ pub data Matches : (pattern text : List ℕ) → Type 0 where
   OpenBracket : (bracket : ℕ) (rest text : List ℕ) → bracket ≡ code "[" → set_behind rest ≡ None → Matches rest text → Matches (bracket ∷ rest) (bracket ∷ text)
   Itself : (b : ℕ) (pattern text : List ℕ) → is_plain b ≡ true → Matches pattern text → Matches (b ∷ pattern) (b ∷ text)
 
--- What one byte of a text does to a pattern: what is left of it, where it begins with something that takes just this byte.
+-- What remains of a pattern after one byte of a text, if the pattern begins with something that
+-- takes exactly one byte, and takes this one.
 abbrev pub by_set : Option Set → (rest : List ℕ) (b : ℕ) → Option (List ℕ)
 by_set None rest b = if b == code "[" then Some rest else None
 by_set (Some set) rest b = if is_in set b then Some set.after else None
@@ -67,7 +69,8 @@ after_byte (first ∷ rest) b =
     else if first == b then Some rest
     else None
 
--- Whether a pattern matches, as it is tried in so many steps. That this is the relation above is a law.
+-- Whether a pattern matches, if it is tried with this number of steps. That this agrees with the
+-- relation above is a law.
 abbrev pub goes_on : (List ℕ → Bool) → Option (List ℕ) → Bool
 goes_on on None = false
 goes_on on (Some pattern) = on pattern

@@ -1,4 +1,4 @@
--- What rules say of a unit: systemd.preset(5), "Preset File Format".
+-- What rules say about a unit: systemd.preset(5), "Preset File Format".
 use Rattle.std.specs.Prelude.{ℕ, Bool, false, ◌||◌, ◌&&◌, if◌then◌else◌, List, [], ◌∷◌, Option, Some, None}
 use Rattle.std.specs.List.{find, list_any}
 use Rattle.std.specs.Option.{option_map_or}
@@ -23,8 +23,9 @@ abbrev pub is_listed : (name pattern : List ℕ) (instances : List (List ℕ)) �
 is_listed name pattern instances None = false
 is_listed name pattern instances (Some template) = bytes_eq pattern template && option_map_or (λ instance. list_any (bytes_eq instance) instances) (instance_of name) false
 
--- Whether a rule applies to a name. Without instances the pattern matches it; with some it names the template that
--- this is, or that of an instance which is among them, and nothing else.
+-- Whether a rule applies to a name. Without instances, it applies if the pattern matches the name.
+-- With instances, it applies if the pattern is the name itself, or if the name is a listed instance
+-- of the template that the pattern names.
 abbrev pub applies_with : (name pattern : List ℕ) → List (List ℕ) → Bool
 applies_with name pattern [] = is_matched pattern name
 applies_with name pattern (instance ∷ instances) = bytes_eq pattern name || is_listed name pattern (instance ∷ instances) (own_template (kind_of (instance_of name)) name)
@@ -34,7 +35,8 @@ applies name (Disable pattern) = is_matched pattern name
 applies name (Ignore pattern) = is_matched pattern name
 applies name (Enable pattern instances) = applies_with name pattern instances
 
--- What a rule says of a name to which it applies. Instances are those that a template is to be enabled with.
+-- What a rule says about a name to which it applies. Instances are those with which a template is
+-- enabled.
 unfoldable pub given : (name : List ℕ) → Rule → Verdict
 given name (Disable pattern) = verdicts.Disable
 given name (Ignore pattern) = verdicts.Ignore

@@ -1,4 +1,4 @@
-//! What rules say of a unit: systemd.preset(5), "Preset File Format".
+//! What rules say about a unit: systemd.preset(5), "Preset File Format".
 ghost use Rattle.std.specs.Prelude.{◌≡◌, false, IfOk};
 ghost use Rattle.std.specs.List.{find, list_any};
 ghost use Rattle.std.specs.Option.{option_copied, option_map_or};
@@ -12,7 +12,8 @@ use crate::rule::{Instances, Rule, Verdict};
 use std::alloc::{AllocError, Global};
 use unit_name::{Kind, UnitName};
 
-/// What rules say of a unit: the first that applies decides, and if none does, the unit is enabled.
+/// What rules say about a unit: the first one that applies decides, and if none does, the unit is
+/// enabled.
 #[tactic(auto, unfolding(crate::specs::Verdicts::verdict))]
 pub(crate) fn verdict(alloc: Global, rules: &[Rule], name: &UnitName) -> Result<Verdict, AllocError>
     ensures { IfOk result (λ said. said ≡ verdict rules.now name.now) }
@@ -46,7 +47,7 @@ fn own_template(alloc: Global, name: &UnitName) -> Result<Option<UnitName>, Allo
 }
 
 impl Rule {
-    /// Whether it applies to a unit with this template, if it has one.
+    /// Whether the rule applies to a unit, given also its template, if it has one.
     #[tactic(auto, unfolding(crate::specs::Verdicts::applies))]
     fn applies(&self, name: &UnitName, template: &Option<UnitName>) -> bool
         requires { template.now ≡ own_template (kind_of (instance_of name.now)) name.now }
@@ -66,7 +67,7 @@ impl Rule {
         }
     }
 
-    /// What it says of a unit to which it applies.
+    /// What the rule says about a unit to which it applies.
     #[tactic(auto, unfolding(crate::specs::Verdicts::given))]
     fn given(&self, alloc: Global, name: &UnitName) -> Result<Verdict, AllocError>
         ensures { IfOk result (λ said. said ≡ given name.now self.now) }

@@ -58,7 +58,7 @@ fn read_entry(
     }
 }
 
-/// The same for the end of a link. What isn't a file counts as an empty one.
+/// The same for the end of a link. Anything but a file counts as an empty file.
 fn read_end(
     alloc: Global,
     tree: &Tree,

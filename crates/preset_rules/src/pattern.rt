@@ -5,13 +5,15 @@ ghost use Rattle.std.specs.Option.{option_map, option_copied};
 ghost use Rattle.preset_rules.specs.Patterns.{Set, ends_set, set_from, set_behind, is_between, is_member, is_in, by_set, after_byte, Matches, is_matched};
 ghost use Rattle.preset_rules.specs.Walk.{along, after_star, are_ended, first_taken, first_and_rest, range_end, first_member, without_first};
 
-/// Whether a pattern matches a whole text. `*` stands for any bytes or none, `?` for one byte, and a set as `[a-z_]` for one
-/// byte that is in it, or as `[!a-z_]` for one that isn't. A set ends at the first `]` behind at least one member; `x-y` in it
-/// are the bytes from `x` to `y`, none where `x` is greater, and a `-` that is first or last is itself. A `[` without an end and
-/// any other byte stand for themselves, and there is no escape. Both may be any bytes, of any length.
+/// Whether a pattern matches a whole text. `*` matches any bytes or none, `?` one byte, and a set
+/// as `[a-z_]` one byte that is in it, or as `[!a-z_]` one that isn't. A set ends at the first `]`
+/// after at least one member; `x-y` in it means the bytes from `x` to `y`, and none if `x` is
+/// greater; a `-` that is first or last means itself. A `[` without an end and any other byte match
+/// themselves, and there is no escape. Pattern and text may have any bytes and any length.
 ///
-/// It takes no memory. The time is at most about the length of the pattern times that of the text: only the last star is
-/// ever tried again. Only where the text has bytes `[` may each of these cost another look along the pattern for a `]`.
+/// It takes no memory. The time is at most about the length of the pattern times that of the text,
+/// since only the last star is ever tried again. Only the bytes `[` in the text may each cost
+/// another search of the pattern for a `]`.
 ///
 /// systemd.preset(5), "Preset File Format"; glob(7), "Wildcard matching".
 pub fn pattern_matches(pattern: &[u8], text: &[u8]) -> bool
@@ -32,8 +34,9 @@ fn matches_whole(pattern: &[u8], text: &[u8]) -> bool
     }
 }
 
-/// Whether a star and then this pattern match the text. Where the pattern leads to another star, what the first one took counts no
-/// more: to have taken as little as possible leaves the most.
+/// Whether a star and then this pattern match the text. If the pattern leads to another star, the
+/// first one need not be tried with more bytes: having taken as few as possible, it leaves the
+/// most.
 fn matches_behind_star<'a>(mut pattern: &'a [u8], mut text: &'a [u8]) -> bool
     ensures yes { result ≡ true → Matches (42 ∷ pattern.entry.now) text.entry.now }
     ensures no { Matches (42 ∷ pattern.entry.now) text.entry.now → result ≡ true }
@@ -56,8 +59,10 @@ fn matches_behind_star<'a>(mut pattern: &'a [u8], mut text: &'a [u8]) -> bool
     }
 }
 
-/// Takes one byte after another, as far as the pattern does: what is left of the pattern, and of the text.
-// (behind a star it begins at each byte of the text, and mostly ends there: half of the time was the call)
+/// Takes one byte after another, as long as the pattern does, and returns the rest of the pattern
+/// and of the text.
+// (after a star this begins at each byte of the text, and mostly ends there: half of the time was
+// spent on the call)
 #[inline(always)]
 fn along<'a>(mut pattern: &'a [u8], mut text: &'a [u8]) -> (&'a [u8], &'a [u8])
     ensures pattern { result.0.now ≡ (along text.entry.now pattern.entry.now).0 }
@@ -70,7 +75,7 @@ fn along<'a>(mut pattern: &'a [u8], mut text: &'a [u8]) -> (&'a [u8], &'a [u8])
     (pattern, text)
 }
 
-/// The same for the first byte alone, if it is taken.
+/// The same for the first byte only, if it is taken.
 fn first_taken<'a>(pattern: &'a [u8], text: &'a [u8]) -> Option<(&'a [u8], &'a [u8])>
     ensures taken { option_map (λ left. (left.0.now, left.1.now)) result ≡ first_taken pattern.now text.now }
     ensures shorter { IfSome result (λ left. length left.1.now < length text.now) }
@@ -113,7 +118,8 @@ fn are_ended(pattern: &[u8], text: &[u8]) -> bool
     }
 }
 
-/// What is left of a pattern that begins with something, other than a star, that takes this byte.
+/// The rest of a pattern after its first element has taken this byte, if that isn't a star and
+/// takes the byte.
 #[tactic(auto, unfolding(crate::specs::Patterns::after_byte))]
 fn after_byte(pattern: &[u8], b: u8) -> Option<&[u8]>
     ensures { option_copied result ≡ after_byte pattern.now b }
@@ -136,8 +142,8 @@ fn after_byte(pattern: &[u8], b: u8) -> Option<&[u8]>
     }
 }
 
-/// The same behind a `[`, which opens a set or stands for itself.
-// (apart, so that what walks along a pattern without sets is short)
+/// The same after a `[`, which opens a set or means itself.
+// (separate, to keep the code short that walks along a pattern without sets)
 #[inline(never)]
 fn by_set(rest: &[u8], b: u8) -> Option<&[u8]>
     ensures { option_copied result ≡ by_set (set_behind rest.now) rest.now b }
@@ -154,7 +160,8 @@ fn by_set(rest: &[u8], b: u8) -> Option<&[u8]>
     }
 }
 
-/// The set that a `[` opens before this: whether it is turned round, its members, and what follows it.
+/// The set that a `[` before this text opens: whether it is negated, its members, and what follows
+/// it.
 #[tactic(auto, unfolding(crate::specs::Patterns::set_behind))]
 fn set_behind(rest: &[u8]) -> Option<(bool, &[u8], &[u8])>
     ensures { option_map (λ set. record { turned = set.0; members = set.1.now; after = set.2.now }) result ≡ set_behind rest.now }
@@ -200,7 +207,7 @@ fn is_in(turned: bool, members: &[u8], b: u8) -> bool
     }
 }
 
-/// Whether the byte is one of the members: they are read from the left.
+/// Whether the byte is one of the members, which are read from the left.
 #[tactic(auto, unfolding(crate::specs::Patterns::is_member))]
 fn is_member<'a>(mut members: &'a [u8], b: u8) -> bool
     ensures { result ≡ is_member members.entry.now b }
@@ -214,7 +221,7 @@ fn is_member<'a>(mut members: &'a [u8], b: u8) -> bool
     false
 }
 
-/// Whether it is the first of them, and the members behind that.
+/// Whether the byte is the first member, and the members after that.
 fn is_first_member(members: &[u8], b: u8) -> Option<(bool, &[u8])>
     ensures { MatchOption result (is_member members.now b ≡ false) (λ first. (is_member members.now b ≡ first.0 || is_member first.1.now b) × (length first.1.now < length members.now)) }
 {
@@ -224,7 +231,7 @@ fn is_first_member(members: &[u8], b: u8) -> Option<(bool, &[u8])>
     }
 }
 
-/// The same, where this member comes first and these behind it.
+/// The same for this member, followed by these.
 fn first_member(one: u8, more: &[u8], b: u8) -> (bool, &[u8])
     ensures found { result.0 ≡ (first_member one b more.now (range_end more.now)).0 }
     ensures behind { result.1.now ≡ (first_member one b more.now (range_end more.now)).1 }
@@ -236,7 +243,7 @@ fn first_member(one: u8, more: &[u8], b: u8) -> (bool, &[u8])
     }
 }
 
-/// What ends a range, and the members behind it, where these follow what could begin one.
+/// The end of a range and the members after it, if these bytes continue a range.
 fn range_end(more: &[u8]) -> Option<(u8, &[u8])>
     ensures range { option_map (λ end. (end.0, end.1.now)) result ≡ range_end more.now }
     ensures short { IfSome result (λ end. length end.1.now ≤ length more.now) }

@@ -1,5 +1,5 @@
 //! The rules of a tree, and what they say: systemd.preset(5).
-ghost use Rattle.std.specs.Prelude.{◌≡◌, ◌++◌, IfOk};
+ghost use Rattle.std.specs.Prelude.{◌≡◌, ◌++◌, IfOk, OnErr};
 ghost use Rattle.load_path.specs.Search.{Finds, each_once};
 ghost use Rattle.preset_rules.specs.Files.{policy_of};
 ghost use Rattle.preset_rules.specs.Verdicts.{verdict};
@@ -29,11 +29,28 @@ impl Model for Rules {
 }
 
 impl Rules {
-    /// The rules that what stands at the preset slots of `presets` has in a tree, in which links are followed. `presets` is that
-    /// tree, or the part of it that its preset slots are. The paths to which links lead are added to the cells; a slot itself
-    /// isn't. Fails only where memory runs out; the cells then may have more paths.
-    #[tactic(auto, unfolding(crate::specs::Files::policy_of))]
+    /// The rules of the files at the preset slots of `presets`, with links followed in a tree.
+    /// `presets` is that tree, or the part of it at its preset slots. The paths to which links lead
+    /// are added to the cells, but not a slot itself. Fails only if memory runs out; the cells are
+    /// then as they were.
     pub fn of_into(
+        alloc: Global,
+        presets: &TreePart,
+        tree: &Tree,
+        cells: &mut Cells,
+    ) -> Result<Rules, AllocError>
+        ensures ok { IfOk result (λ rules. (rules ≡ (policy_of presets.now).conclusion tree.now) × (cells.new ≡ cells.old ++ (policy_of presets.now).cells tree.now)) }
+        ensures err { OnErr result (cells.new ≡ cells.old) }
+    {
+        let mut more = Cells::new(alloc);
+        let rules = Rules::read(alloc, presets, tree, &mut more)?;
+        cells.append(more)?;
+        Ok(rules)
+    }
+
+    /// The same, but if memory runs out, some of the paths may have been added.
+    #[tactic(auto, unfolding(crate::specs::Files::policy_of))]
+    fn read(
         alloc: Global,
         presets: &TreePart,
         tree: &Tree,
@@ -47,15 +64,15 @@ impl Rules {
         Ok(Rules { items })
     }
 
-    /// The rules, the first that counts first.
+    /// The rules; an earlier rule has priority over a later one.
     pub fn as_slice(&self) -> &[Rule]
         ensures { result.now ≡ self.now }
     {
         &self.items
     }
 
-    /// What is to be done with a unit: the first rule that applies to it says so, and where none does, it is to be enabled. Fails
-    /// only where memory runs out.
+    /// What to do with a unit, by the first rule that applies to it; if none applies, the unit is
+    /// enabled. Fails only if memory runs out.
     pub fn verdict(&self, alloc: Global, name: &UnitName) -> Result<Verdict, AllocError>
         ensures { IfOk result (λ said. said ≡ verdict self.now name.now) }
     {
@@ -63,8 +80,8 @@ impl Rules {
     }
 }
 
-/// Which units are to be enabled, as a tree's preset files say: their rules, and the paths to which the links among them lead. The
-/// files are read once, when it is made, and no line is read again for a verdict.
+/// Which units a tree's preset files enable: their rules, and the paths to which the links among
+/// them lead. The files are read once, when the value is made; a verdict reads no line again.
 #[derive(Debug, Drop)]
 pub struct Policy {
     rules: Rules,
@@ -72,10 +89,12 @@ pub struct Policy {
 }
 
 impl Policy {
-    /// Reads the preset files of a tree. Of those with one file name the one in `/etc/systemd/system-preset` counts, or else that in
-    /// `/run/systemd/system-preset`, or else that in `/usr/lib/systemd/system-preset`. A link is followed as `load_path::follow`
-    /// does; one that leads to `/dev/null`, or to no file, counts as an empty file, and so hides those of its name. The files are read
-    /// in byte order of their names as one list of lines. Fails only where memory runs out.
+    /// Reads the preset files of a tree. Among files with the same name, the one in
+    /// `/etc/systemd/system-preset` counts, or else the one in `/run/systemd/system-preset`, or
+    /// else the one in `/usr/lib/systemd/system-preset`. A link is followed as in
+    /// `load_path::follow`; one that leads to `/dev/null`, or to no file, counts as an empty file,
+    /// and so hides the others with its name. The files are read in byte order of their names, as
+    /// one list of lines. Fails only if memory runs out.
     ///
     /// systemd.preset(5), "Description" and "Preset File Format".
     pub fn of(alloc: Global, tree: &Tree) -> Result<Policy, AllocError>
@@ -83,7 +102,7 @@ impl Policy {
         ensures cells { IfOk result (λ policy. policy.cells ≡ each_once ((policy_of tree.now).cells tree.now)) }
     {
         let mut cells = Cells::new(alloc);
-        let rules = Rules::of_into(alloc, tree.entries(), tree, &mut cells)?;
+        let rules = Rules::read(alloc, tree.entries(), tree, &mut cells)?;
         let cells = cells.each_once()?;
         Ok(Policy { rules, cells })
     }
@@ -95,14 +114,15 @@ impl Policy {
         &self.rules
     }
 
-    /// The paths to which the links lead that count, each once. With what stands at the preset slots they decide each verdict.
+    /// The paths to which the links that count lead, each listed once. These paths and the preset
+    /// slots decide each verdict.
     pub fn cells(&self) -> &Cells
         ensures { result.now ≡ self.now.cells }
     {
         &self.cells
     }
 
-    /// What is to be done with a unit, by the rules: `Rules::verdict`.
+    /// What to do with a unit, by the rules: `Rules::verdict`.
     pub fn verdict(&self, alloc: Global, name: &UnitName) -> Result<Verdict, AllocError>
         ensures { IfOk result (λ said. said ≡ verdict self.now.rules name.now) }
     {

@@ -55,7 +55,7 @@ impl Instances {
         self.names.is_empty()
     }
 
-    /// An equal list. The only error is that memory runs out.
+    /// An equal list. Fails only if memory runs out.
     pub fn copy(&self) -> Result<Instances, AllocError>
         ensures { IfOk result (λ copy. copy ≡ self.now) }
     {
@@ -74,8 +74,8 @@ impl Instances {
 /// What a line says.
 #[derive(Debug, Drop)]
 pub enum Rule {
-    /// The units that the pattern matches are enabled. With instances, the pattern names a template,
-    /// which is enabled with these.
+    /// The units that the pattern matches are enabled. With instances, the pattern names a
+    /// template, which is enabled with these.
     Enable { pattern: Word, instances: Instances },
     /// The units that the pattern matches are disabled.
     Disable { pattern: Word },

@@ -20,7 +20,7 @@ use std::alloc::{AllocError, Global};
 use std::collections::BTreeMap;
 use std::marker::Model;
 
-/// For each file name the slot that counts. Contracts see the finite map.
+/// The slot that counts for each file name. Contracts see the finite map.
 #[derive(Debug, Drop)]
 pub(crate) struct Winners {
     by_name: BTreeMap<FileName, TreePath>,
@@ -48,7 +48,7 @@ impl Winners {
         }
     }
 
-    /// Of each file name the slot in `/etc`, or else in `/run`, or else in `/usr/lib`.
+    /// For each file name, the slot in `/etc`, or else in `/run`, or else in `/usr/lib`.
     pub(crate) fn of(alloc: Global, presets: &TreePart) -> Result<Winners, AllocError>
         ensures { IfOk result (λ found. found ≡ winners (presets_of presets.now)) }
     {
@@ -59,7 +59,7 @@ impl Winners {
         Ok(winners)
     }
 
-    /// Adds the slots of a directory whose file names are not there.
+    /// Adds the slots of a directory whose file names are not in the map yet.
     fn add_all(&mut self, alloc: Global, place: Place, presets: &TreePart) -> Result<(), AllocError>
         ensures { OnOk result ((name : List ℕ) → map.get self.new name ≡ option_or (map.get self.old name) (map.find path_cmp name (named_in place (map.keys (presets_of presets.now))))) }
     {
@@ -71,7 +71,7 @@ impl Winners {
         Ok(())
     }
 
-    /// Adds a slot, unless its file name is there.
+    /// Adds a slot, unless its file name is in the map.
     fn add(&mut self, alloc: Global, path: &TreePath) -> Result<(), AllocError>
         ensures { OnOk result (self.new ≡ with_path self.old path.now) }
     {
@@ -97,7 +97,8 @@ impl Winners {
         self.by_name.get(name)
     }
 
-    /// Adds the rules of the files at the slots, in byte order of their names, and the cells to which links lead.
+    /// Adds the rules of the files at the slots, in byte order of their names, and the cells to
+    /// which links lead.
     pub(crate) fn read(
         self,
         alloc: Global,
@@ -122,7 +123,7 @@ impl Winners {
     }
 }
 
-/// Whether a path is a slot of the directory of presets beside this one.
+/// Whether a path is a slot of the directory of presets next to this one.
 fn is_in(place: Place, path: &TreePath) -> bool
     ensures { result ≡ is_in place path.now }
 {

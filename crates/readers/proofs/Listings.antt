@@ -1,4 +1,4 @@
--- Numbers under texts: what stands under each after one more, and after one less.
+-- Numbers under texts: what is listed under each after one was added, and after one was removed.
 use Rattle.std.specs.List.{list_any}
 use Rattle.std.proofs.Common.{◌≡◌, ◌<◌, ◌≤◌, ◌+◌, zero, suc, take, get_or, length, arith, ℕ, Bool, true, false, cond, ◌&&◌, ◌||◌, List, [], ◌∷◌, map as list_map, Option, Some, None, refl, sym, ap, subst, ◌∙◌, inl, inr}
 use Rattle.std.specs.Prelude.{not, Result, Ok, Err, OnErr}
@@ -15,7 +15,7 @@ use Rattle.std.proofs.lemmas.Map.Lookups.{exact_bytes}
 use Rattle.link_tree.specs.Trees.{path_cmp}
 use Rattle.readers.specs.Numbers.{Lists, has, numbers_at, lists, IsNext}
 
--- what holds anyway holds where a call failed
+-- what holds in any case also holds if a call failed
 pub on_err : {X E P : Type 0} (r : Result X E) → P → OnErr r P
 on_err (Ok x) p = tt
 on_err (Err e) p = p
@@ -94,7 +94,7 @@ module _ {K : Type 0} (text_of : K → List ℕ) where
         | Greater ↦ λ is. ap (λ r. numbers_at (view (step r)) t) is ∙ ap (cond (is_at (by t) e.0) e.1) (after_insert es k t w) ∙ away_step (text_of k) t w e.1 (numbers_at (view es) t) e.0 (ap is_eq is)
       ]) refl
 
--- one number more under a text
+-- one number is added under a text
 pub one_more : (l new : Lists) (text w : List ℕ) (n : ℕ) → ((t : List ℕ) → numbers_at new t ≡ cond (is_at (path_cmp t) text) w (numbers_at l t))
     → ((i : ℕ) → has w i ≡ (is_at (nat_cmp n) i || has (numbers_at l text) i))
     → (t : List ℕ) (i : ℕ) → lists new t i ≡ ((is_at (path_cmp t) text && is_at (nat_cmp n) i) || lists l t i)
@@ -105,7 +105,7 @@ one_more l new text w n at_texts with t i = ap (λ ns. has ns i) (at_texts t) �
   | inr away ↦ ap (λ b. has (cond b w (numbers_at l t)) i) away ∙ ap (λ b. (b && is_at (nat_cmp n) i) || lists l t i) (sym away)
 ])
 
--- one number less
+-- one number is removed
 pub one_less : (l new : Lists) (text w : List ℕ) (n : ℕ) → ((t : List ℕ) → numbers_at new t ≡ cond (is_at (path_cmp t) text) w (numbers_at l t))
     → ((i : ℕ) → has w i ≡ (not (is_at (nat_cmp n) i) && has (numbers_at l text) i))
     → (t : List ℕ) (i : ℕ) → lists new t i ≡ (not (is_at (path_cmp t) text && is_at (nat_cmp n) i) && lists l t i)
@@ -116,7 +116,7 @@ one_less l new text w n at_texts with t i = ap (λ ns. has ns i) (at_texts t) �
   | inr away ↦ ap (λ b. has (cond b w (numbers_at l t)) i) away ∙ ap (λ b. not (b && is_at (nat_cmp n) i) && lists l t i) (sym away)
 ])
 
--- a text that isn't there has no number to lose
+-- if a text isn't there, removing its number changes nothing
 pub none_less : (l : Lists) (text : List ℕ) (n : ℕ) → numbers_at l text ≡ [] → (t : List ℕ) (i : ℕ) → lists l t i ≡ (not (is_at (path_cmp t) text && is_at (nat_cmp n) i) && lists l t i)
 none_less l text n none t i = elim (cases_Bool (is_at (path_cmp t) text)) [
   | inl here ↦
@@ -129,7 +129,7 @@ none_less l text n none t i = elim (cases_Bool (is_at (path_cmp t) text)) [
     no_more true = refl
     no_more false = refl
 
--- ---- a walk over items
+-- ---- a loop over items
 or_again : (a b c : Bool) → ((a || b) || c) ≡ (a || (b || c))
 or_again true b c = refl
 or_again false b c = refl
@@ -154,7 +154,7 @@ all_taken [] (suc k) le = refl
 all_taken (x ∷ xs) zero le = absurd (omega (arith, le))
 all_taken (x ∷ xs) (suc k) le = ap (λ ys. x ∷ ys) (all_taken xs k (omega (arith, le)))
 
--- the least that passes one of the tests of items, after one item more, and after all
+-- the least number that passes one of the tests of items, after one more item, and after all items
 pub next_more : {X : Type 0} (test : X → ℕ → Bool) (xs : List X) (k n : ℕ) (x : X) (found : Option ℕ) → k < length xs → x ≡ get_or xs k x
     → IsNext (λ i. list_any (λ y. test y i) (take k xs) || test x i) n found → IsNext (λ i. list_any (λ y. test y i) (take (k + 1) xs)) n found
 next_more test xs k n x found within read h = subst (λ (t : ℕ → Bool). IsNext t n found) (λ j i. any_more (λ y. test y i) xs k (k + 1) x refl within read j) h

@@ -30,7 +30,7 @@ use Rattle.readers.specs.Readers.{reads, is_key, is_read, is_marked_of, is_marke
 use Rattle.unit_paths.specs.Kinds.{scope_of}
 use Rattle.readers.proofs.Listings.{same_text, text_itself}
 
--- a test of keys, for the names of a link
+-- a test of keys, applied to the names of a link
 abbrev named : (Key → Bool) → Scope → (name last : List ℕ) → Bool
 named f s name last = f (Marked s name) || (not (is_instance (kind_of (instance_of last))) && f (Marked s last))
 
@@ -59,7 +59,7 @@ same_marked r path None i = refl
 same_marked r path (Some (File contents)) i = refl
 same_marked r path (Some (Link target)) i = ap (λ b. not (is_null_target path target) && b) (same_of r (scope_of (slot_of path)) (name_at path) (after_last is_slash target) i)
 
--- what the lists say is said of keys
+-- a test of what is listed is a test of keys
 pub same_touched : (r : Readers) (change : Change) (i : ℕ) → is_touched_in r change i ≡ touched (λ k. reads r k i) change
 same_touched r change i =
     ap (λ b. lists_cell || (b || (is_marked_in r change.path change.after i || rest))) (same_marked r change.path change.before i)
@@ -71,7 +71,7 @@ same_touched r change i =
     rest : Bool
     rest = (is_preset (slot_of change.path) && reads r Presets i) || (is_dependency (slot_of change.path) && reads r Links i)
 
--- ---- a test that never passes, and one that passes where one of two does
+-- ---- a test that never passes, and one that passes if one of two does
 and_false : (b : Bool) → (b && false) ≡ false
 and_false true = refl
 and_false false = refl
@@ -141,7 +141,7 @@ touched_or f g change =
     ∙ ap (λ x. (f (Cell path) || g (Cell path)) || x) (mixed b b' (a || e) (a' || e'))
     ∙ mixed (f (Cell path)) (g (Cell path)) (b || (a || e)) (b' || (a' || e'))
 
--- what never survives is never found
+-- a test that never passes finds nothing
 pub touched_and : (x : Bool) (f : Key → Bool) (change : Change) → touched (λ k. x && f k) change ≡ (x && touched f change)
 touched_and true f change = refl
 touched_and false f change = touched_none change
@@ -241,7 +241,7 @@ and_true : (b : Bool) → (b && true) ≡ b
 and_true true = refl
 and_true false = refl
 
--- a key is touched where the test for it passes
+-- a key is touched exactly if the test for it passes
 pub touched_one : (key : Key) (change : Change) → touched (λ k. is_key k key) change ≡ touches change key
 touched_one (Cell cell) change =
     ap (λ b. b || (marked is change.path change.before || (marked is change.path change.after || ((p && false) || (d && false))))) (same_cell change.path cell)
@@ -284,7 +284,7 @@ touched_one Links change =
     none Etc t = refl
     none Run t = refl
 
--- A change touches a key of a reading where the test for these passes.
+-- A change touches a key of a reading exactly if the test for these keys passes.
 pub touched_read : (reading : List Observation) (change : Change) → touched (is_read reading) change ≡ list_any (λ o. touches change o.key) reading
 touched_read [] change = touched_none change
 touched_read (o ∷ os) change =

@@ -1,4 +1,4 @@
--- The numbers of rows, in ascending order, and such numbers under texts.
+-- The numbers of rows, in ascending order, and lists of such numbers under texts.
 use Rattle.std.specs.Prelude.{◌≡◌, ◌<◌, ◌≤◌, ℕ, Bool, true, false, if◌then◌else◌, List, [], ◌∷◌, Option, Some, None}
 use Rattle.std.specs.List.{list_any}
 use Rattle.std.specs.Ordering.{nat_cmp}
@@ -27,7 +27,8 @@ abbrev pub IsNext : (ℕ → Bool) → ℕ → Option ℕ → Type 0
 IsNext test n None = (i : ℕ) → n < i → test i ≡ false
 IsNext test n (Some m) = (n < m) × (test m ≡ true) × ((i : ℕ) → n < i → test i ≡ true → m ≤ i)
 
--- all numbers after n that pass a test, in ascending order: each is the least after the one before it
+-- all numbers after n that pass a test, in ascending order: each is the least one after the one
+-- before it
 abbrev pub AreAllAfter : (ℕ → Bool) → ℕ → List ℕ → Type 0
 AreAllAfter test n [] = IsNext test n None
 AreAllAfter test n (m ∷ numbers) = IsNext test n (Some m) × AreAllAfter test m numbers

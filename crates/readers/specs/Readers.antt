@@ -39,11 +39,11 @@ is_key key other = is_at (key_cmp key) other
 abbrev pub is_read : List Observation → Key → Bool
 is_read reading key = list_any (λ observation. is_key key observation.key) reading
 
--- Row n is listed under the keys of a reading; all else is as before.
+-- Row n is listed under the keys of a reading; otherwise nothing changes.
 abbrev pub IsListed : List Observation → ℕ → Readers → Readers → Type 0
 IsListed reading n old new = (key : Key) (i : ℕ) → reads new key i ≡ ((is_read reading key && is_at (nat_cmp n) i) || reads old key i)
 
--- Row n is listed under none of the keys of a reading; all else is as before.
+-- Row n is listed under none of the keys of a reading; otherwise nothing changes.
 abbrev pub IsUnlisted : List Observation → ℕ → Readers → Readers → Type 0
 IsUnlisted reading n old new = (key : Key) (i : ℕ) → reads new key i ≡ (not (is_read reading key && is_at (nat_cmp n) i) && reads old key i)
 
@@ -51,7 +51,8 @@ IsUnlisted reading n old new = (key : Key) (i : ℕ) → reads new key i ≡ (no
 abbrev pub AreAlike : Readers → Readers → Type 0
 AreAlike old new = (key : Key) (i : ℕ) → reads new key i ≡ reads old key i
 
--- whether a row is listed under a link's file name, or under the last part of its target, unless that is the name of an instance
+-- whether a row is listed under a link's file name, or under the last part of its target, unless
+-- that is the name of an instance
 abbrev pub is_named_in : Lists → (name last : List ℕ) → ℕ → Bool
 is_named_in l name last i = lists l name i || (not (is_instance (kind_of (instance_of last))) && lists l last i)
 
@@ -61,7 +62,8 @@ is_marked_of r None name last i = false
 is_marked_of r (Some scopes.Etc) name last i = is_named_in r.etc name last i
 is_marked_of r (Some scopes.Run) name last i = is_named_in r.run name last i
 
--- whether a row is listed under a name to which what stands at a path belongs; a file belongs to none, nor does a link to /dev/null
+-- whether a row is listed under a name to which the entry at a path belongs; a file belongs to
+-- none, nor does a link to /dev/null
 abbrev pub is_marked_in : Readers → (path : List ℕ) → Option Entry → ℕ → Bool
 is_marked_in r path None i = false
 is_marked_in r path (Some (File contents)) i = false

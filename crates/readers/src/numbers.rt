@@ -1,4 +1,4 @@
-//! The numbers of rows, and such numbers under texts.
+//! The numbers of rows, and lists of such numbers under texts.
 ghost use Rattle.std.specs.Prelude.{◌≡◌, ℕ, List, ◌||◌, ◌&&◌, not, [], OnOk, OnErr};
 ghost use Rattle.std.specs.Ordering.{nat_cmp};
 ghost use Rattle.std.specs.BTreeMap.{is_at};
@@ -34,7 +34,7 @@ impl Numbers {
         }
     }
 
-    /// Adds a number. Fails only where memory runs out, and then nothing changes.
+    /// Adds a number. Fails only if memory runs out, and then nothing changes.
     pub(crate) fn add(&mut self, n: u32) -> Result<(), AllocError>
         ensures ok { OnOk result ((i : ℕ) → has self.new i ≡ (is_at (nat_cmp n) i || has self.old i)) }
         ensures err { OnErr result (self.new ≡ self.old) }
@@ -86,7 +86,7 @@ impl Listed {
         }
     }
 
-    /// Lists a number under a text. Fails only where memory runs out, and then nothing changes.
+    /// Lists a number under a text. Fails only if memory runs out, and then nothing changes.
     pub(crate) fn add(&mut self, alloc: Global, text: &[u8], n: u32) -> Result<(), AllocError>
         ensures ok { OnOk result ((t : List ℕ) (i : ℕ) → lists self.new t i ≡ ((is_at (path_cmp t) text.now && is_at (nat_cmp n) i) || lists self.old t i)) }
         ensures err { OnErr result (self.new ≡ self.old) }
@@ -110,7 +110,8 @@ impl Listed {
         Ok(())
     }
 
-    /// Lists a number under a text no longer. Takes no memory; a text whose last number goes stays.
+    /// Removes a number from those under a text. Takes no memory; a text whose last number is
+    /// removed stays.
     pub(crate) fn remove(&mut self, text: &[u8], n: u32)
         ensures { (t : List ℕ) (i : ℕ) → lists self.new t i ≡ (not (is_at (path_cmp t) text.now && is_at (nat_cmp n) i) && lists self.old t i) }
     {

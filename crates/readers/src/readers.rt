@@ -17,9 +17,11 @@ use std::alloc::{AllocError, Global};
 use unit_name::{Kind, kind_in};
 use unit_paths::{Scope, Slot, TreePath, is_null_target};
 
-/// An index of the rows of a history by the keys that they looked at. Each row is listed under each key of its reading: a cell under its path, the
-/// links that belong to a name under the name, apart for each scope; the presets and the links of dependencies are one key each. So the rows that
-/// looked at what a change touches are looked up by the texts in the change, with no memory and whatever the number of rows.
+/// An index of the rows of a history by the keys that they looked at. Each row is listed under each
+/// key of its reading: a cell under its path, the links that belong to a name under the name,
+/// separately for each scope; the presets and the links of dependencies are one key each. So the
+/// rows that looked at what a change touches are looked up by the texts in the change, without
+/// allocating, however many rows there are.
 #[derive(Debug, Drop)]
 pub struct Readers {
     cells: Listed,
@@ -29,7 +31,7 @@ pub struct Readers {
     links: Numbers,
 }
 
-/// The lesser of two numbers, or the one that there is.
+/// The smaller of two numbers, or the only one.
 fn sooner(one: Option<u32>, other: Option<u32>) -> Option<u32>
     ensures { (p q : ℕ → Bool) (n : ℕ) → IsNext p n one → IsNext q n other → IsNext (λ i. p i || q i) n result }
 {
@@ -41,7 +43,8 @@ fn sooner(one: Option<u32>, other: Option<u32>) -> Option<u32>
 }
 
 impl Listed {
-    /// The least number after n under a link's file name, or under the last part of its target, unless that is the name of an instance.
+    /// The least number after n under a link's file name, or under the last part of its target,
+    /// unless that is the name of an instance.
     fn named_after(&self, name: &[u8], last: &[u8], n: u32) -> Option<u32>
         ensures { IsNext (is_named_in self.now name.now last.now) n result }
     {
@@ -68,7 +71,7 @@ impl Readers {
         }
     }
 
-    /// Lists row n under a key. Fails only where memory runs out, and then nothing changes.
+    /// Lists row n under a key. Fails only if memory runs out, and then nothing changes.
     fn add_key(&mut self, alloc: Global, key: &Key, n: u32) -> Result<(), AllocError>
         ensures ok { OnOk result ((k : Key) (i : ℕ) → reads self.new k i ≡ ((is_key k key.now && is_at (nat_cmp n) i) || reads self.old k i)) }
         ensures err { OnErr result (self.new ≡ self.old) }
@@ -82,7 +85,7 @@ impl Readers {
         }
     }
 
-    /// Lists row n under a key no longer.
+    /// Removes row n from the list of a key.
     fn remove_key(&mut self, key: &Key, n: u32)
         ensures { (k : Key) (i : ℕ) → reads self.new k i ≡ (not (is_key k key.now && is_at (nat_cmp n) i) && reads self.old k i) }
     {
@@ -95,7 +98,8 @@ impl Readers {
         }
     }
 
-    /// Lists row n under each key of its reading. Fails only where memory runs out, and then the row is listed under none of these keys.
+    /// Lists row n under each key of its reading. Fails only if memory runs out, and then the row
+    /// is listed under none of these keys.
     pub fn add(&mut self, alloc: Global, reading: &Reading, n: u32) -> Result<(), AllocError>
         ensures ok { OnOk result (IsListed reading.now n self.old self.new) }
         ensures err { OnErr result (IsUnlisted reading.now n self.old self.new) }
@@ -109,7 +113,7 @@ impl Readers {
         }
     }
 
-    /// Lists row n under each key; where memory runs out, under the first ones alone.
+    /// Lists row n under each key; if memory runs out, only under the first ones.
     fn add_keys(&mut self, alloc: Global, reading: &[Observation], n: u32) -> Result<(), AllocError>
         ensures ok { OnOk result (IsListed reading.now n self.old self.new) }
         ensures err { OnErr result ((k : Key) (i : ℕ) → (not (is_read reading.now k && is_at (nat_cmp n) i) && reads self.new k i) ≡ (not (is_read reading.now k && is_at (nat_cmp n) i) && reads self.old k i)) }
@@ -120,7 +124,7 @@ impl Readers {
         Ok(())
     }
 
-    /// Lists row n under the keys of a reading no longer. Takes no memory.
+    /// Removes row n from the lists of the keys of a reading. Takes no memory.
     pub fn remove(&mut self, reading: &Reading, n: u32)
         ensures { IsUnlisted reading.now n self.old self.new }
     {
@@ -129,7 +133,8 @@ impl Readers {
         }
     }
 
-    /// The first row after n that is listed, in a scope, under the file name of a link or under the last part of its target.
+    /// The first row after n that is listed, in a scope, under the file name of a link or under the
+    /// last part of its target.
     fn marked_of(&self, scope: Option<Scope>, name: &[u8], last: &[u8], n: u32) -> Option<u32>
         ensures { IsNext (is_marked_of self.now scope name.now last.now) n result }
     {
@@ -140,7 +145,7 @@ impl Readers {
         }
     }
 
-    /// The first row after n that is listed under a name to which what stands at a path belongs.
+    /// The first row after n that is listed under a name to which the entry at a path belongs.
     fn marked_after(&self, path: &TreePath, entry: &Option<Entry>, n: u32) -> Option<u32>
         ensures { IsNext (is_marked_in self.now path.now entry.now) n result }
     {
@@ -161,7 +166,7 @@ impl Readers {
         }
     }
 
-    /// The first row after n that is listed under the presets, where a path is one of theirs.
+    /// The first row after n that is listed under the presets, if a path is a preset slot.
     fn presets_after(&self, path: &TreePath, n: u32) -> Option<u32>
         ensures { IsNext (λ i. is_preset (slot_of path.now) && has self.now.presets i) n result }
     {
@@ -172,7 +177,8 @@ impl Readers {
         }
     }
 
-    /// The first row after n that is listed under the links of dependencies, where a path is that of one.
+    /// The first row after n that is listed under the links of dependencies, if a path is the slot
+    /// of one.
     fn links_after(&self, path: &TreePath, n: u32) -> Option<u32>
         ensures { IsNext (λ i. is_dependency (slot_of path.now) && has self.now.links i) n result }
     {
@@ -196,7 +202,8 @@ impl Readers {
         sooner(cell, sooner(before, sooner(after, sooner(presets, links))))
     }
 
-    /// The first row after n that is listed under a key that one of these changes touches. Takes no memory.
+    /// The first row after n that is listed under a key that one of these changes touches. Takes no
+    /// memory.
     pub fn first_after(&self, changes: &[Change], n: u32) -> Option<u32>
         ensures { IsNext (λ i. list_any (λ change. is_touched_in self.now change i) changes.now) n result }
     {
@@ -207,7 +214,8 @@ impl Readers {
         first
     }
 
-    /// All rows that are listed under a key that a change touches, in ascending order. Fails only where memory runs out.
+    /// All rows that are listed under a key that a change touches, in ascending order. Fails only
+    /// if memory runs out.
     pub fn all(&self, alloc: Global, change: &Change) -> Result<Vec<u32>, AllocError>
         ensures { IfOk result (λ numbers. AreAllAfter (is_touched_in self.now change.now) 0 numbers.items) }
     {

@@ -1,7 +1,7 @@
 //! The fields of a row.
 use std::alloc::{AllocError, Global};
 
-/// A row, with its fields as the bytes that they stand for.
+/// A row, with its fields as the bytes that they represent.
 #[derive(Drop)]
 pub struct Row {
     pub kind: Vec<u8>,
@@ -48,7 +48,7 @@ fn first_of(field: &[u8]) -> Option<(u8, &[u8])> {
     }
 }
 
-/// The bytes that a field stands for.
+/// The bytes that a field represents.
 fn bytes_of(alloc: Global, field: &[u8]) -> Result<Vec<u8>, AllocError> {
     let mut bytes = Vec::new(alloc);
     let mut rest = field;

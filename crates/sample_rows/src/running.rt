@@ -10,7 +10,7 @@ fn push_line(out: &mut Vec<u8>, line: &[u8]) -> Result<(), AllocError> {
     out.extend_from_slice(b"\n")
 }
 
-/// Adds a row that answers otherwise, and what it answers.
+/// Adds a row whose result isn't its ANSWER, and the result.
 fn push_unlike<F>(
     alloc: Global,
     line: &[u8],
@@ -30,8 +30,8 @@ where
     Ok(())
 }
 
-/// The rows of a text that answer otherwise than they say, each on a line, and on the next what it answers. A row is asked
-/// again where a growth was refused.
+/// The rows of a text whose result isn't their ANSWER, each on a line, and the result on the next
+/// line. A row is run again if a growth was refused.
 pub fn unlike<F>(alloc: Global, rows: &[u8], answer: F) -> Result<Vec<u8>, AllocError>
 where
     F: Fn(Global, &Row) -> Result<Vec<u8>, AllocError>,

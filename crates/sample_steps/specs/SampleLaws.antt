@@ -1,4 +1,5 @@
--- The laws of the step, by which it is an operation: src/ may name no proofs of its own crate, so they stand here.
+-- The laws that make the step an operation: src/ may not name proofs of its own crate, so they are
+-- here.
 use Rattle.std.specs.Prelude.{◌≡◌, ◌≢◌, ℕ, Bool, true, false, List, [], All, Contains, Option, refl}
 use Rattle.std.specs.List.Sorted.{IsStrictlySortedBy}
 use Rattle.std.proofs.Common.{sym}
@@ -14,7 +15,7 @@ use Rattle.sample_steps.specs.Samples.{left, commanded, step_meaning}
 commanded_laws : OperationLaws {O = Option Bool × List ℕ} (λ c. false) (λ c. commanded c.0 c.1)
 commanded_laws = laws_of_steps (λ c. ruled (left c.0) c.1)
 
--- no changes are changes of any tree
+-- an empty list of changes is valid for any tree
 no_changes : (t : Entries) → AreChanges t []
 unfolding IsStrictlySortedBy
 no_changes t = record { from = tt; real = All-nil (λ change. change.before ≢ change.after); in_order = tt }

@@ -1,4 +1,5 @@
--- What the operations mean that the tests run: a step, and one that looks by a key of any kind, tells of a word, and links a file.
+-- The meaning of the operations that the tests run: a step, and an operation that looks by a key of
+-- any kind, reports a word, and links a file.
 use Rattle.std.specs.Prelude.{ℕ, Bool, true, false, if◌then◌else◌, List, [], ◌∷◌, Option, Some, None, Ok, Err}
 use Rattle.std.specs.FinMap as map
 use Rattle.unit_file.specs.declared.notice.NoticeKey.TheVariants.{Also}
@@ -17,7 +18,7 @@ use Rattle.footprint.specs.Rules.{Rule, link_at}
 use Rattle.footprint.specs.Commands.{Command, silent, telling, carried_out}
 use Rattle.footprint.specs.Steps.{Step as OneStep, refuse, ruled}
 
--- an empty file is put where nothing stands, or what stands there is taken away, or it is only looked at
+-- an empty file is put at an empty slot, or the entry there is removed, or it is only looked at
 abbrev pub left : Option Bool → Rule
 left None slot there = Ok there
 left (Some true) slot None = Ok (Some (File []))
@@ -28,12 +29,12 @@ left (Some false) slot (Some entry) = Ok None
 abbrev pub commanded : Option Bool → List ℕ → Inquiry Effect
 commanded how slot = carried_out (silent (ruled (left how) slot))
 
--- a step that asks changes nothing
+-- a step that is a question changes nothing
 abbrev pub step_meaning : Bool → Option Bool → List ℕ → Inquiry Effect
 step_meaning true how slot = giving (look (Cell slot)) (λ seen. record { answer = State Static; changes = [] })
 step_meaning false how slot = commanded how slot
 
--- what is told of a word of a unit, if it is told
+-- what is reported about a word of a unit, if it is reported
 abbrev pub told_of : Option (List ℕ) → NoticeMap
 told_of None = map.empty
 told_of (Some unit) = with_notice map.empty (record { unit = unit; key = Also; word = unit; reason = NotFound })
@@ -42,7 +43,7 @@ told_of (Some unit) = with_notice map.empty (record { unit = unit; key = Also; w
 abbrev pub linked_at : (file path : List ℕ) → OneStep
 linked_at file path = if is_slot path then ruled (link_at file) path else refuse (NotASlot path)
 
--- it is looked by the key, and a file is linked
+-- the operation looks by the key, and links a file
 abbrev pub watch_command : (key : Key) (told : Option (List ℕ)) → (file path : List ℕ) → Command
 watch_command key told file path = do
   looked ← beside (key ∷ [])

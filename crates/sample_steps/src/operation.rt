@@ -17,7 +17,8 @@ use footprint::{
 use link_tree::{Entry, Slot, Tree, TreePath};
 use std::alloc::{AllocError, Global};
 
-/// Puts an empty file at a slot where nothing stands, or takes away what stands there, or only looks there; or it only asks.
+/// Puts an empty file at an empty slot, or removes the entry there, or only looks there; or is only
+/// a question.
 #[derive(Debug, Drop)]
 pub struct Step {
     pub slot: TreePath,
@@ -35,7 +36,7 @@ impl Step {
         Ok(keys)
     }
 
-    /// What is to stand at the slot, or the refusal.
+    /// What must be at the slot then, or the refusal.
     fn left(&self, alloc: Global, tree: &Tree) -> Result<Result<Option<Entry>, Refusal>, AllocError>
         ensures { IfOk result (λ left_there. left_there ≡ left self.now.puts self.now.slot (map.get tree.now self.now.slot)) }
     {
@@ -52,7 +53,7 @@ impl Step {
         }
     }
 
-    /// The tree with the slot as it is left, or the refusal.
+    /// The tree after the change of the slot, or the refusal.
     fn edited<'a>(
         &self,
         alloc: Global,

@@ -8,12 +8,12 @@
 //! | `static` | a question was answered |
 //! | `undid:1` | row 1 was undone |
 //! | `no-such-row` | an undo was refused, since there is no such row |
-//! | `not-a-command` | an undo was refused, since the row is no accepted command |
+//! | `not-a-command` | an undo was refused, since the row isn't an accepted command |
 //! | `already-undone:2` | an undo was refused, since row 2 undid the row before |
 //! | `blocked:2` | an undo was refused, since row 2 looked at what the row changed |
 //! | `redid:1` | row 1 was redone |
 //! | `no-row-to-redo` | a redo was refused, since there is no such row |
-//! | `no-command-to-redo` | a redo was refused, since the row is no accepted command |
+//! | `no-command-to-redo` | a redo was refused, since the row isn't an accepted command |
 //! | `not-undone` | a redo was refused, since the row is not undone |
 //! | `hindered:2` | a redo was refused, since row 2 hinders it |
 //!
@@ -170,7 +170,7 @@ fn answer(alloc: Global, word: &[u8]) -> Result<Option<Answer>, AllocError> {
     Ok(None)
 }
 
-/// The reply of a word. Fails if the word is no reply, or if memory runs out.
+/// The reply of a word. Fails if the word isn't a reply, or if memory runs out.
 pub fn reply(alloc: Global, word: &[u8]) -> Result<RowReply, AllocError> {
     let (first, n) = parts(word);
     if is(first, b"undid") {

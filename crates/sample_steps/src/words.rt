@@ -24,7 +24,7 @@ pub fn parts(word: &[u8]) -> (&[u8], &[u8]) {
     (first, parts.next().unwrap_or(b""))
 }
 
-/// Whether a word is this one. (A `match` on words is dear: it looks at them byte by byte.)
+/// Whether a word is this one. (A `match` on words is expensive: it compares them byte by byte.)
 pub fn is(word: &[u8], wanted: &[u8]) -> bool {
     word == wanted
 }
@@ -58,7 +58,7 @@ pub(crate) fn slot_path(alloc: Global, unit: &[u8]) -> Result<TreePath, AllocErr
     }
 }
 
-/// What a verb puts at the slot, and whether it only asks.
+/// What a verb puts at the slot, and whether it is only a question.
 fn meaning_of(verb: &[u8]) -> Option<(Option<bool>, bool)> {
     if is(verb, b"put") {
         return Some((Some(true), false));
@@ -72,7 +72,7 @@ fn meaning_of(verb: &[u8]) -> Option<(Option<bool>, bool)> {
     is(verb, b"ask").then_some((None, true))
 }
 
-/// The step of a word. Fails if the word is no step, or if memory runs out.
+/// The step of a word. Fails if the word isn't a step, or if memory runs out.
 pub fn step(alloc: Global, word: &[u8]) -> Result<Step, AllocError> {
     let (verb, unit) = parts(word);
     let Some((puts, asks)) = meaning_of(verb) else {
@@ -98,7 +98,7 @@ pub fn request(alloc: Global, word: &[u8]) -> Result<Request<Step>, AllocError> 
     Ok(Request::Do(step(alloc, word)?))
 }
 
-/// The operator of this name. Fails if it is no operator's name.
+/// The operator of this name. Fails if the name is invalid.
 pub fn operator(name: &[u8]) -> Result<Operator, AllocError> {
     match Operator::parse(name) {
         Ok(operator) => Ok(operator),

@@ -1,6 +1,8 @@
-//! Values from their texts, for tests with ample memory: each is asked for again where a growth was refused.
+//! Values from their texts, for tests with enough memory: each is made again if a growth was
+//! refused.
 //!
-//! Where a text isn't one of a value, and where memory runs out twice, the answer is `AllocError`: a test fails by either.
+//! If a text isn't that of a value, or if memory runs out twice, the result is `AllocError`, and
+//! the test fails.
 #![tactic(auto)]
 
 mod trees;

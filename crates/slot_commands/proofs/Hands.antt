@@ -14,7 +14,7 @@ use Rattle.slot_commands.specs.ByHand.{place_at, remove_at, ruled_slot, with_one
 use Rattle.footprint.proofs.Turns.{left_by}
 use Rattle.slot_commands.proofs.Outcomes.{refuses, leaves_tree}
 
--- what a path that is a slot, or none, is left as
+-- what a rule leaves at a path that is a slot, or isn't one
 at_slot : (rule : Rule) (path : List ℕ) (t : Entries) (there : Option Entry) → is_slot path ≡ true → map.get t path ≡ there → (ruled_slot rule path).conclusion t ≡ ruled_at path (rule path there)
 at_slot rule path t there is at = rw is (ap (λ there. ruled_at path (rule path there)) at)
 

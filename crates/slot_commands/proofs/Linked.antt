@@ -73,7 +73,7 @@ module _ (u : Entries) (slot : List ℕ) (entry : Entry) where
     | inr away ↦ some_none other (sym none ∙ sym (set_away path away) ∙ there)
   ]
 
--- What a link to a target at a slot leaves.
+-- What the tree is like after a link to a target was made at a slot.
 pub record Makes (slot target : List ℕ) (u v : Entries) : Type 0 where
   pub kept : Keeps u v
   pub only : AddsOnly (λ path entry. (path ≡ slot) × (entry ≡ Link target)) u v
@@ -107,7 +107,7 @@ module _ (slot target : List ℕ) (u : Entries) where
   linked : (v : Entries) → left_by ((ruled (link_at target) slot).conclusion u) u ≡ Ok v → Makes slot target u v
   linked v is = linked_at (map.get u slot) v refl is
 
--- what steps do in turn, from a first tree on, if each keeps what is there
+-- what steps do one after another, starting from a first tree, if each keeps what is there
 module _ {A : Type 0} (first : Entries) (step : A → Step) (IsNew : Entries → A → List ℕ → Entry → Type 0) (IsDone : Entries → A → Type 0)
     (stays_new : (a : A) (u v : Entries) (path : List ℕ) (entry : Entry) → Keeps u v → IsNew u a path entry → IsNew v a path entry)
     (stays_done : (a : A) (u v : Entries) → Keeps u v → IsDone u a → IsDone v a) where
@@ -150,7 +150,7 @@ module _ {A : Type 0} (first : Entries) (step : A → Step) (IsNew : Entries →
     every : (args : List A) (v : Entries) → in_turn step args first ≡ Ok v → Every args first v
     every args v is = every_since args first v (λ path entry there. there) is
 
--- an accepted command leaves the tree in which something was placed
+-- an accepted command leaves the tree with everything placed
 left_tree : (t : Entries) (ruling : Ruling) → (effect t map.empty ruling).answer ≡ Done map.empty → left_by ruling t ≡ Ok (after_changes (effect t map.empty ruling).changes t)
 left_tree t (Ok placed) is = ap (λ m. Ok m) (sym (placed_leads t placed))
 left_tree t (Err refusal) is = cc
@@ -240,7 +240,7 @@ module _ (first : Entries) (place : Place) (dependency : Dependency) (by : List 
   unfolding add_unit
   one_listed unit u v since is = found_listed unit u v since ((find unit).conclusion u) refl is
 
--- what is found
+-- the unit that is found
 module _ (name : List ℕ) (t : Entries) (on : (real file : List ℕ) → Step) where
   abbrev ruling_of : Found → Ruling
   ruling_of found = (unless_refused (λ (unit : List ℕ × List ℕ). on unit.0 unit.1) (found_unit name found)).conclusion t

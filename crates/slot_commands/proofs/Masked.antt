@@ -22,7 +22,8 @@ use Rattle.slot_commands.specs.Masks.{mask_link, is_mask, mask_at, unmask_at, ru
 use Rattle.footprint.proofs.Turns.{left_by, goes_on, in_turn, all_turns}
 use Rattle.slot_commands.proofs.Outcomes.{refuses, leaves_tree}
 
--- the tree with a rule followed at one path after another, each on the tree that the earlier ones left
+-- the tree with a rule followed at one path after another, each on the tree that the earlier ones
+-- left
 abbrev followed : Rule → List (List ℕ) → Entries → Result Entries Refusal
 followed rule [] t = Ok t
 followed rule (path ∷ paths) t = goes_on (followed rule paths) (left_by (ruled_at path (rule path (map.get t path))) t)
@@ -34,8 +35,9 @@ turns_followed rule scope (unit ∷ units) t = ap (λ on. goes_on on (left_by ((
 is_followed : (rule : Rule) (scope : Scope) (units : List (List ℕ)) (t : Entries) → left_by ((each_ruled rule scope units).conclusion t) t ≡ followed rule (slots_of scope units) t
 is_followed rule scope units t = all_turns (ruled_unit rule scope) units t ∙ turns_followed rule scope units t
 
--- The rule of mask, followed at some paths, fails at the first one that has anything but a link to /dev/null. If none
--- has, such links fill the empty ones, and all else stays.
+-- The rule of mask, followed at some paths, fails at the first one that has anything but a link to
+-- /dev/null. If there is no such path, links to /dev/null fill the empty ones, and nothing else
+-- changes.
 abbrev FillsEmptyPaths : Entries → List (List ℕ) → Option (List ℕ) → Type 0
 FillsEmptyPaths t paths (Some path) = followed mask_at paths t ≡ Err (Exists path)
 FillsEmptyPaths t paths None = (u : Entries) × (followed mask_at paths t ≡ Ok u) × ((path : List ℕ) → map.get u path ≡ masked t paths path)
@@ -81,7 +83,7 @@ null_link : (path : List ℕ) → is_null_target path (codes "/dev/null") ≡ tr
 unfolding is_null_target is_path merged walked with_part is_part start_of begins_with_slash is_text_byte is_absolute
 null_link path = refl
 
--- what mask puts if nothing is in the way
+-- what mask leaves at a path if nothing is in the way
 abbrev filled : Option Entry → Option Entry
 filled None = Some mask_link
 filled (Some entry) = Some entry
@@ -111,7 +113,7 @@ module _ (t : Entries) (p : List ℕ) (ps : List (List ℕ)) (free : obstructs p
   abbrev next : Entries
   next = set_entry t p (filled (map.get t p))
 
-  -- the same is in the way at the rest of the paths
+  -- at the rest of the paths, the same entries are in the way as before
   alike : (q : List ℕ) → is_in_the_way next q ≡ is_in_the_way t q
   alike q = ap (obstructs q) (get-set t p (filled (map.get t p)) q) ∙ elim (cases_Bool (bytes_eq q p)) [
     | inl here ↦ rw here (subst (λ k. obstructs k (filled (map.get t p)) ≡ obstructs k (map.get t k)) (sym (same_bytes q p here)) (filled_free p (map.get t p) free ∙ sym free))

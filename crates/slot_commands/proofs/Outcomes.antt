@@ -1,4 +1,4 @@
--- What an effect says of the tree that is left.
+-- What an effect says about the tree that is left.
 use Rattle.std.proofs.Common.{◌≡◌, ℕ, List, Option, Ok, Err, refl, ap, ◌∙◌}
 use Rattle.std.specs.FinMap as map
 use Rattle.link_tree.specs.declared.entry.Entry.{Entry}
@@ -14,7 +14,7 @@ pub refuses : (t : Entries) (ruling : Ruling) (refusal : Refusal) → left_by ru
 refuses t (Ok placed) refusal is = cc
 refuses t (Err other) refusal is = let same : other ≡ refusal = cc in (ap Refused same, refl)
 
--- the changes of what was placed lead there
+-- the changes of an effect lead to the tree with everything placed
 pub placed_leads : (t : Entries) (placed : List Placed) → after_changes (effect t map.empty (Ok placed)).changes t ≡ placed_in placed t
 placed_leads t placed = (leads t (placed_in placed t)).to
 

@@ -30,7 +30,8 @@ abbrev pub as_dependency : AddedDependency → Dependency
 as_dependency Wants = dependencies.Wants
 as_dependency Requires = dependencies.Requires
 
--- the DefaultInstance= of a unit, by what is at its file's path: systemd.unit(5), "[Install] Section Options"
+-- the DefaultInstance= of a unit, by what is at its file's path: systemd.unit(5), "[Install]
+-- Section Options"
 abbrev pub default_of : Option Entry → Option (List ℕ)
 default_of (Some (File contents)) = (text_of contents).default_instance
 default_of other = None
@@ -62,15 +63,15 @@ add_units place dependency units by = each_in_turn (add_unit place dependency by
 abbrev pub add_steps : AddTo → Step
 add_steps add = with_unit add.target (λ real file. add_units (scope_place add.scope) (as_dependency add.dependency) add.units real)
 
--- What the command asks of a tree, and what effect that has.
+-- What the command looks up in a tree, and what effect it has.
 abbrev pub add_meaning : AddTo → Inquiry Effect
 add_meaning add = carried_out (silent (add_steps add))
 
--- In a tree a unit is found with this file, and this is the name of the link to it.
+-- In a tree, a unit is found with this file, and this is the name of the link to it.
 abbrev pub IsListed : Entries → (by unit name file : List ℕ) → Type 0
 IsListed t by unit name file = (real : List ℕ) × IsFound t unit real file × (name_listed by real (default_of (map.get t file)) ≡ Some name)
 
--- The same in a tree between two others: the one that the units before it left.
+-- The same in a tree between two others: the tree that the earlier units left.
 abbrev pub IsListedBetween : (t u : Entries) → (by unit name file : List ℕ) → Type 0
 IsListedBetween t u by unit name file = (m : Entries) × Keeps t m × Keeps m u × IsListed m by unit name file
 
@@ -85,8 +86,8 @@ abbrev pub IsAdded : AddTo → (by : List ℕ) → (t u : Entries) → (unit : L
 IsAdded add by t u unit =
     (name file : List ℕ) × IsListedBetween t u by unit name file × LeadsAs u (dependency_slot (scope_place add.scope) (as_dependency add.dependency) by name) file
 
--- The target is found, all that was there stays, links to the units fill empty slots in its one directory, and each unit has such a
--- link then.
+-- The target is found, everything that was there stays, links to the units fill empty slots in the
+-- target's directory, and afterwards each unit has such a link.
 pub record AddsDependencies (add : AddTo) (t u : Entries) : Type 0 where
   pub by : List ℕ
   pub file : List ℕ

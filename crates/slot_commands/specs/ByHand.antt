@@ -35,7 +35,7 @@ place_steps place = ruled_slot (place_at place.entry) place.path
 abbrev pub remove_steps : RemoveEntry → Step
 remove_steps remove = ruled_slot remove_at remove.path
 
--- What the commands ask of a tree, and what effect that has.
+-- What the commands look up in a tree, and what effect they have.
 abbrev pub place_meaning : PlaceEntry → Inquiry Effect
 place_meaning place = carried_out (silent (place_steps place))
 

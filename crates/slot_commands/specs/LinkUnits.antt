@@ -30,7 +30,7 @@ link_file place path =
     if is_unit_name (name_at path) then (if is_unit_slot (slot_of path) then nothing else ruled (link_at path) (unit_slot place (name_at path)))
     else refuse (BadType (Path path))
 
--- by where the links from the path end
+-- the result, by where the links from the path end
 abbrev pub link_end : Place → (path : List ℕ) → End → Step
 link_end place path ends.Missing = refuse (NotFound (Path path))
 link_end place path ends.Null = refuse (Masked (Path path))
@@ -47,11 +47,11 @@ link_unit place path = do
 abbrev pub link_steps : LinkUnits → Step
 link_steps link = each_in_turn (link_unit (scope_place link.scope)) link.paths
 
--- What the command asks of a tree, and what effect that has.
+-- What the command looks up in a tree, and what effect it has.
 abbrev pub link_meaning : LinkUnits → Inquiry Effect
 link_meaning link = carried_out (silent (link_steps link))
 
--- One of the files is linked under its name.
+-- A link to one of the files, under the file's name.
 abbrev pub IsLinkToOne : Place → (files : List (List ℕ)) → List ℕ → Entry → Type 0
 IsLinkToOne place files path entry = (file : List ℕ) × Contains files file × ((path ≡ unit_slot place (name_at file)) × (entry ≡ Link file))
 
@@ -59,7 +59,7 @@ IsLinkToOne place files path entry = (file : List ℕ) × Contains files file ×
 abbrev pub IsLinked : Place → Entries → (file : List ℕ) → Type 0
 IsLinked place t file = (is_unit_slot (slot_of file) ≡ true) ⊎ LeadsAs t (unit_slot place (name_at file)) file
 
--- Links to the files fill empty slots, all else stays, and each file is linked then.
+-- Links to the files fill empty slots, nothing else changes, and afterwards each file is linked.
 pub record LinksFiles (place : Place) (files : List (List ℕ)) (t u : Entries) : Type 0 where
   pub kept : Keeps t u
   pub only : AddsOnly (IsLinkToOne place files) t u

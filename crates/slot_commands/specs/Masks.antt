@@ -35,7 +35,8 @@ is_empty_file (Link target) = false
 abbrev pub is_mask : List ℕ → Entry → Bool
 is_mask path entry = is_null_link path entry || is_empty_file entry
 
--- mask at one slot: an empty slot gets the link, and a link to /dev/null stays; anything else is in the way, even an empty file
+-- mask at one slot: an empty slot gets the link, and a link to /dev/null stays; anything else is in
+-- the way, even an empty file
 abbrev pub mask_at : Rule
 mask_at path None = Ok (Some mask_link)
 mask_at path (Some entry) = if is_null_link path entry then Ok (Some entry) else Err (Exists path)
@@ -50,7 +51,7 @@ abbrev pub rule_of : RuleSeen → Rule
 rule_of rules.Mask = mask_at
 rule_of rules.Unmask = unmask_at
 
--- one unit: a rule is followed at its slot in the scope
+-- one unit: the rule is followed at its slot in the scope
 abbrev pub ruled_unit : Rule → Scope → (unit : List ℕ) → Step
 ruled_unit rule scope unit = ruled rule (unit_slot (scope_place scope) unit)
 
@@ -64,7 +65,7 @@ mask_steps mask = each_ruled mask_at mask.scope mask.units
 abbrev pub unmask_steps : Unmask → Step
 unmask_steps unmask = each_ruled unmask_at unmask.scope unmask.units
 
--- What the commands ask of a tree, and what effect that has.
+-- What the commands look up in a tree, and what effect they have.
 abbrev pub mask_meaning : Mask → Inquiry Effect
 mask_meaning mask = carried_out (silent (mask_steps mask))
 
@@ -83,8 +84,8 @@ is_in_the_way t path = option_map_or (λ entry. not (is_null_link path entry)) (
 abbrev pub masked : Entries → List (List ℕ) → List ℕ → Option Entry
 masked t paths path = if list_any (bytes_eq path) paths && is_none (map.get t path) then Some mask_link else map.get t path
 
--- The law of mask: it is refused for the first slot that has anything but a link to /dev/null. If none has, such links fill the
--- empty ones, and all else stays.
+-- The law of mask: it is refused for the first slot that has anything but a link to /dev/null. If
+-- there is no such slot, links to /dev/null fill the empty ones, and nothing else changes.
 abbrev pub FillsEmptySlots : Mask → Entries → Option (List ℕ) → Type 0
 FillsEmptySlots mask t (Some slot) = Refuses ((mask_meaning mask).conclusion t) (Exists slot)
 FillsEmptySlots mask t None = Leaves ((mask_meaning mask).conclusion t) t (masked t (slots_of mask.scope mask.units))
@@ -100,6 +101,7 @@ has_mask path there = option_map_or (is_mask path) there false
 abbrev pub unmasked : Entries → List (List ℕ) → List ℕ → Option Entry
 unmasked t paths path = if list_any (bytes_eq path) paths && has_mask path (map.get t path) then None else map.get t path
 
--- The law of unmask: it is never refused, the links to /dev/null and the empty files at its slots are removed, and all else stays.
+-- The law of unmask: it is never refused, the links to /dev/null and the empty files at its slots
+-- are removed, and nothing else changes.
 abbrev pub UnmaskEmpties : Type 0
 UnmaskEmpties = (unmask : Unmask) (t : Entries) → Leaves ((unmask_meaning unmask).conclusion t) t (unmasked t (slots_of unmask.scope unmask.units))

@@ -1,4 +1,5 @@
--- set-default: systemctl(1), "Unit File Commands"; the link is default.target of systemd.special(7).
+-- set-default: systemctl(1), "Unit File Commands"; the link is default.target of
+-- systemd.special(7).
 use Rattle.std.specs.Prelude.{◌≡◌, ℕ, Bool, true, false, if◌then◌else◌, List, Option, Some, codes}
 use Rattle.std.specs.Str.{bytes_eq}
 use Rattle.std.specs.FinMap as map
@@ -26,7 +27,8 @@ abbrev pub is_target_type : Option UnitType → Bool
 is_target_type (Some Target) = true
 is_target_type other = false
 
--- by the name as it was given, and the own name and the file of the unit that was found
+-- the result by the name as it was given, and by the own name and the file of the unit that was
+-- found
 unfoldable pub default_file : (name real file : List ℕ) → Step
 default_file name real file =
     if is_target_type (type_of name) then (if is_template_name real then refuse (NeedsInstance real) else ruled (relink_at file) default_slot)
@@ -35,11 +37,11 @@ default_file name real file =
 abbrev pub default_steps : SetDefault → Step
 default_steps set_default = with_unit set_default.unit (default_file set_default.unit)
 
--- What the command asks of a tree, and what effect that has.
+-- What the command looks up in a tree, and what effect it has.
 abbrev pub default_meaning : SetDefault → Inquiry Effect
 default_meaning set_default = carried_out (silent (default_steps set_default))
 
--- The link of default.target leads to the file of the unit that is found, and all else stays.
+-- The link of default.target leads to the file of the unit that is found, and nothing else changes.
 abbrev pub SetsDefault : SetDefault → (t u : Entries) → Type 0
 SetsDefault set_default t u =
     (real : List ℕ) × (file : List ℕ) × IsFound t set_default.unit real file × LeadsAs u default_slot file

@@ -15,8 +15,8 @@ use unit_file::{
 };
 use unit_name::UnitName;
 
-/// The dependencies that a command adds by hand: systemctl(1), `add-wants` and `add-requires`. There is
-/// no such command for `Upholds=`, which only `enable` makes, by `UpheldBy=`.
+/// The dependencies that a command adds by hand: systemctl(1), `add-wants` and `add-requires`.
+/// There is no such command for `Upholds=`, whose links only `enable` makes, by `UpheldBy=`.
 #[derive(Clone, Copy, Debug, PartialEq, Eq)]
 pub enum AddedDependency {
     Wants,

@@ -10,8 +10,8 @@ use transaction::{Stop, Transaction};
 use unit_name::UnitName;
 
 /// systemctl(1), `mask`: links each unit to `/dev/null` in the scope if its slot is empty. A link
-/// that is there and leads to `/dev/null` is kept. Anything else there, even an empty file, refuses
-/// the whole command (`Exists`, for the first such slot). No unit is looked up.
+/// that is there and leads to `/dev/null` is kept. If anything else is there, even an empty file,
+/// the whole command is refused by `Exists`, for the first such slot. No unit is looked up.
 #[derive(Debug, Drop)]
 pub struct Mask {
     pub scope: Scope,
@@ -90,7 +90,7 @@ fn unmask_at(slot: &TreePath, there: Option<Entry>) -> Option<Entry>
 }
 
 impl Rule {
-    /// What the rule leaves at a slot.
+    /// What is at a slot after the rule was followed.
     fn at(self, alloc: Global, slot: &TreePath, there: Option<Entry>) -> Result<Option<Entry>, Stop>
         ensures { Gives (rule_of self slot.now there) result }
     {

@@ -43,7 +43,7 @@ fn is_target(name: &UnitName) -> bool
 }
 
 impl SetDefault {
-    /// The unit was found, with this name of its own and this file.
+    /// The unit was found, with this own name and this file.
     #[tactic(auto, unfolding(crate::specs::SetDefault::default_file))]
     fn default_file(
         &self,

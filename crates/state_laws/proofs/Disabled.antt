@@ -1,4 +1,4 @@
--- Names that were disabled aren't told to be enabled.
+-- Names that were disabled aren't reported as enabled.
 use Rattle.std.proofs.Common.{ℕ, List}
 use Rattle.unit_paths.specs.declared.place.Scope.{Scope}
 use Rattle.unit_paths.specs.declared.place.Scope.TheVariants.{Etc, Run}
@@ -9,7 +9,7 @@ use Rattle.states.specs.Laws.Tells.{LinkedInEtc, LinkedInRun}
 use Rattle.states.proofs.Words.{words_are_told}
 use Rattle.state_laws.specs.Laws.{enabled_word, DisabledIsNotEnabled}
 
--- what is told to be enabled has a link of the scope
+-- a unit that is reported as enabled has a link of the scope
 linked : (scope : Scope) (t : Entries) (name : List ℕ) → Tells t name (enabled_word scope) → IsLinkedIn scope t name
 linked Etc t name (LinkedInEtc unit link) = link
 linked Run t name (LinkedInRun unit none link) = link

@@ -1,4 +1,4 @@
--- The file of a unit that is found as itself, and what its section says.
+-- The file of a unit that is found under its own name, and what its section says.
 use Rattle.std.proofs.Common.{◌≡◌, ◌≢◌, ℕ, Bool, true, false, List, All, Option, Some, None, refl, subst}
 use Rattle.std.specs.Prelude.{if◌then◌else◌, ◌&&◌, not}
 use Rattle.std.proofs.lemmas.Bool.{and_parts}
@@ -23,12 +23,12 @@ use Rattle.install_section.specs.Sections.{section_by, section_of}
 use Rattle.install_section.proofs.Least.{some_is}
 use Rattle.state_laws.proofs.NotNull.{file_path}
 
--- units that are reached from such as are found as themselves are so too
+-- units that are reached from units found under their own names are also found under theirs
 pub reached_is_unit : (t : Entries) (units : List (List ℕ)) → All (IsUnit t) units → (unit : List ℕ) → Reached t units unit → IsUnit t unit
 reached_is_unit t units all unit (Given name here) = All-contains (IsUnit t) units unit all here
 reached_is_unit t units all unit (Named from name by names) = names.4
 
--- the name with which words are expanded is one
+-- the name with which words are expanded is valid
 pub identity_named : (unit : List ℕ) (default : Option (List ℕ)) → is_unit_name unit ≡ true → is_unit_name (identity_of unit default) ≡ true
 identity_named unit None valid = valid
 identity_named unit (Some default) valid = by_parts _ refl
@@ -38,7 +38,7 @@ identity_named unit (Some default) valid = by_parts _ refl
     by_parts true is = (and_parts _ (is_unit_name (with_instance unit default)) is).1
     by_parts false is = valid
 
--- the file of a unit has a unit's name
+-- the file of a unit has the name of a unit
 pub real_named : (name file real : List ℕ) → real_name name file ≡ Some real → is_unit_name file ≡ true
 unfolding real_name
 real_named name file real is = by_parts _ refl is
@@ -48,7 +48,7 @@ real_named name file real is = by_parts _ refl is
     by_parts true both same = (and_parts (is_unit_name file) _ both).0
     by_parts false other same = cc
 
--- and where that is no instance, it is the unit's own
+-- and if that is no instance, it is the unit's own name
 by_kinds_is : (one other : Kind) (name file real : List ℕ) → one ≢ Instance → by_kinds one other name file ≡ Some real → file ≡ real
 unfolding by_kinds
 by_kinds_is Plain Plain name file real off is = some_is file real is
@@ -67,7 +67,7 @@ real_is_file name file real off is = by_parts (is_unit_name file && is_same_type
     by_parts true same = by_kinds_is (kind_of (instance_of name)) (kind_of (instance_of file)) name file real off same
     by_parts false same = cc
 
--- what is known of a unit's file, by its section
+-- what is known about a unit's file, by its section
 pub record IsFileOf (unit file : List ℕ) : Type 0 where
   pub path : is_path file ≡ true
   pub named : is_unit_name (name_at file) ≡ true

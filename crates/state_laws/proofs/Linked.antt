@@ -1,4 +1,4 @@
--- Links that an enable makes belong to its units, and so these are told to be enabled.
+-- Links that an enable makes belong to its units, and so the units are reported as enabled.
 use Rattle.std.proofs.Common.{◌≡◌, ◌≢◌, ℕ, Bool, true, false, List, ◌++◌, Option, Some, None, Ok, Err, refl, sym, ap, subst, ◌∙◌, inl, inr}
 use Rattle.std.specs.Prelude.{not, if◌then◌else◌}
 use Rattle.std.specs.FinMap as map
@@ -76,7 +76,7 @@ unit_of_scope : (scope : Scope) → is_of_scope scope (Some (slots.Unit (scope_p
 unit_of_scope Etc = refl
 unit_of_scope Run = refl
 
--- a slot of a dependency is none of a unit
+-- a slot of a dependency is not a unit's slot
 other_slot : (place : Place) (dependency : Dependency) → Some (slot_of_dependency place dependency) ≡ Some (slots.Unit place) → ⊥
 other_slot place Wants same = cc
 other_slot place Requires same = cc
@@ -86,7 +86,7 @@ module _ (scope : Scope) (u : Entries) (unit : List ℕ) where
   abbrev place : Place
   place = scope_place scope
 
-  -- a link of the scope belongs to the unit, by its own name or by the end of its target
+  -- a link of the scope belongs to the unit, by its own name or by the last part of its target
   linked : (path file text : List ℕ) → map.get u path ≡ Some (Link text) → canonical path text ≡ canonical path file → IsFileOf unit file
       → is_of_scope scope (slot_of path) ≡ true → is_named unit path text ≡ true → path ≢ unit_slot place unit → IsLinkedIn scope u unit
   unfolding belongs
@@ -119,7 +119,7 @@ module _ (scope : Scope) (u : Entries) (unit : List ℕ) where
       no_instance Template off = refl
       no_instance Instance off = absurd (off refl)
 
-  -- an alias is another name
+  -- an alias is a different name
   alias_off : (alias path : List ℕ) → is_unit_name alias ≡ true → is_unit_name unit ≡ true → may_have unit alias ≡ true → path ≡ unit_slot place alias → path ≢ unit_slot place unit
   unfolding may_have
   alias_off alias path valid unit_valid may at same =

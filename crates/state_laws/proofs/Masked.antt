@@ -1,4 +1,4 @@
--- Masked units are told to be.
+-- Masked units are reported as masked.
 use Rattle.std.proofs.Common.{◌≡◌, ◌≢◌, ℕ, Bool, true, false, List, [], ◌∷◌, ◌++◌, Option, Some, None, refl, sym, ap, ◌∙◌, arith, inl, inr}
 use Rattle.std.specs.Prelude.{Contains, codes, is_some, is_none, not, if◌then◌else◌}
 use Rattle.std.specs.FinMap as map
@@ -59,7 +59,7 @@ mask_null : (path : List ℕ) → is_null_link path mask_link ≡ true
 unfolding is_null_target is_path merged walked with_part is_part start_of begins_with_slash is_text_byte is_absolute
 mask_null path = refl
 
--- what stands at a slot that a mask filled leads to /dev/null
+-- the entry at a slot that a mask filled leads to /dev/null
 leads_to_null : (path : List ℕ) (there : Option Entry) (t u : Entries) → map.get t path ≡ there → is_in_the_way t path ≡ false
     → map.get u path ≡ (if is_none (map.get t path) then Some mask_link else map.get t path) → LinksToNull u path
 leads_to_null path None t u there free left = null_link path mask_link u (left ∙ rw there refl) (mask_null path)
@@ -91,7 +91,7 @@ module _ (t : Entries) (unit : List ℕ) where
       ((names_are_found_by_first_entry unit t).masked places.Etc).1
       (path, (([], (at places.Run ∷ at places.Local ∷ at places.Vendor ∷ []) ++ behind, refl, All-nil IsFree), stands path null), leads path null)
 
-  -- in /run behind that
+  -- in /run it comes after that
   run_first : map.get t (unit_slot places.Etc unit) ≡ None → LinksToNull t (unit_slot places.Run unit) → (find unit).conclusion t ≡ founds.Masked places.Run
   run_first free null =
       let path = unit_slot places.Run unit in
@@ -113,7 +113,7 @@ contained scope (first ∷ rest) unit here =
       | inr later ↦ or_right own (list_any (bytes_eq slot) (slots_of scope rest)) (contained scope rest unit later)
     ]
 
--- where no path is in the way, none of the slots is
+-- if no path is blocked, none of the slots is
 free_each : (t : Entries) (scope : Scope) (units : List (List ℕ)) → first_of (is_in_the_way t) (slots_of scope units) ≡ None
     → (unit : List ℕ) → Contains units unit → is_in_the_way t (unit_slot (scope_place scope) unit) ≡ false
 free_each t scope [] free unit here = absurd (none_of [] unit refl here)

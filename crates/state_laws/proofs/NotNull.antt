@@ -1,4 +1,4 @@
--- Links to units' files aren't links to /dev/null.
+-- Links to unit files aren't links to /dev/null.
 use Rattle.std.proofs.Common.{◌≡◌, ℕ, Bool, true, false, List, [], ◌∷◌, ◌++◌, All, Option, Some, None, refl, sym, ap, subst, ◌∙◌}
 use Rattle.std.specs.Prelude.{codes, if◌then◌else◌, map as list_map}
 use Rattle.std.specs.Option.{option_map_or}
@@ -35,7 +35,7 @@ use Rattle.load_path.proofs.Units.{is-name}
 abbrev null : List ℕ
 null = codes "/dev/null"
 
--- whichever link leads to a file with the name of a unit
+-- a link that leads to a file with the name of a unit
 pub not_null : (link file : List ℕ) → is_path file ≡ true → is_unit_name (name_at file) ≡ true → is_null_target link file ≡ false
 unfolding is_null_target name_at name_fault part_fault prefix_of stem_of suffix_of type_of type_named type_text
 not_null link file path named =
@@ -49,12 +49,12 @@ not_null link file path named =
     other true is = absurd (false≢true (sym no_name ∙ ap (λ p. is_unit_name (name_at p)) (sym ((bytes_eq-Decides file null).0 is)) ∙ named))
     other false is = is
 
--- links that lead alike do so to /dev/null
+-- of two links with the same target, either both or none lead to /dev/null
 pub null_alike : (link one other : List ℕ) → canonical link one ≡ canonical link other → is_null_target link one ≡ is_null_target link other
 unfolding is_null_target
 null_alike link one other same = ap (λ (o : Option (List ℕ)). option_map_or (λ p. bytes_eq p null) o false) same
 
--- a path leads to paths
+-- links from a valid path lead to valid paths
 pub led_path : (t : Entries) (path last : List ℕ) (links : ℕ) → Leads t path links last → is_path path ≡ true → is_path last ≡ true
 led_path t path last links (Here start) is = is
 led_path t path last links (Onward from next to more link on) is = led_path t next last more on (of_canonical from link.0 next (is_path (canonical_text from link.0)) refl link.2)
@@ -84,7 +84,7 @@ template_slots_are_paths Instance name is valid = slots_are_paths (template_of n
     whole : IsUnitName (template_of name) → is_unit_name (template_of name) ≡ true
     whole named = rw (no_fault_in_name (template_of name) named) refl
 
--- a unit's file is at a path
+-- a unit's file is at a valid path
 pub file_path : (t : Entries) (name real file : List ℕ) (place : Place) → is_unit_name name ≡ true → (find name).conclusion t ≡ founds.Unit real file place → is_path file ≡ true
 file_path t name real file place valid found =
     let by = ((names_are_found_by_first_entry name t).unit real file place).0 found in

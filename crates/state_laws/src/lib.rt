@@ -1,4 +1,4 @@
-//! What `is-enabled` answers after a command: laws that join the questions with the commands.
+//! What `is-enabled` answers after a command: laws that combine questions with commands.
 #![tactic(auto)]
 
 mod laws;

@@ -1,4 +1,4 @@
--- The names that steps reach are among the names around.
+-- The names that steps reach are among the names that `names_around` lists.
 use Rattle.std.proofs.Common.{◌≡◌, ℕ, zero, suc, Bool, true, false, List, ◌∷◌, map, Option, Some, None, Contains, filter_map, flat_map, refl, sym, ap, subst, ◌∙◌, inl, inr, if◌then◌else◌}
 use Rattle.std.specs.Option.{option_map}
 use Rattle.std.specs.Str.{bytes_eq}
@@ -24,21 +24,21 @@ use Rattle.states.proofs.Linked.{step_link}
 use Rattle.states.proofs.Members.{none_in, in_either, in_flat_map, of_flat_map, in_filter_map, of_filter_map, in_map}
 use Rattle.states.proofs.Reaches.{Name, all_within}
 
--- a text that stands in a name is one
+-- a text that is read as a name is that name
 named_is : (text name : Name) → named text ≡ Some name → (name ≡ text) × (is_unit_name text ≡ true)
 named_is text name h = elim (cases_Bool (is_unit_name text)) [
   | inl is ↦ (let same : Some text ≡ Some name = rw is at h in (sym (some_is text name same), is))
   | inr other ↦ (let none : None ≡ Some name = rw other at h in absurd (cc))
 ]
 
--- what is put in is the instance
+-- the instance that is put in is the instance of the result
 put_is : (end : Name) (instance : Option Name) (name : Name) → is_unit_name end ≡ true → put_in end instance ≡ Some name → instance_of name ≡ instance
 put_is end None name is h = absurd (cc)
 put_is end (Some instance) name is h =
     let put = named_is (with_instance end instance) name h in
     ap instance_of put.0 ∙ (instance_set end instance (is-name end is)).0
 
--- Where one step from a name leads: its own end, or that of a step from its template.
+-- Where one step from a name leads: to an end of its own, or to one of a step from its template.
 pub data Comes (reverse : Bool) (ends : Name → List Name) (name to : Name) : Type 0 where
   Own : Contains (ends name) to → Comes reverse ends name to
   Shared : (end : Name) → kind_of (instance_of name) ≡ Instance → Contains (ends (template_of name)) end → end_for reverse (instance_of name) end (kind_of (instance_of end)) ≡ Some to
@@ -67,7 +67,7 @@ module _ (reverse : Bool) (ends : Name → List Name) (name to : Name) where
       (subst (λ kind. Contains (ends_for reverse (instance_of name) (ends (template_of name)) kind) to) (sym is)
       (in_filter_map (λ end. end_for reverse (instance_of name) end (kind_of (instance_of end))) (ends (template_of name)) end to here leads))
 
--- so it doesn't matter in which order ends are
+-- so the order of the ends doesn't matter
 same_comes : (reverse : Bool) (ends others : Name → List Name) → ((name : Name) → AreSame (ends name) (others name)) → (name to : Name) → Comes reverse ends name to → Comes reverse others name to
 same_comes reverse ends others same name to (Own own) = Own ((same name to).0 own)
 same_comes reverse ends others same name to (Shared end is here leads) = Shared end is ((same (template_of name) end).0 here) leads
@@ -76,7 +76,7 @@ pub same_next : (reverse : Bool) (ends others : Name → List Name) → ((name :
     → Contains (next_names reverse ends name) to → Contains (next_names reverse others name) to
 same_next reverse ends others same name to here = in_next reverse others name to (same_comes reverse ends others same name to (of_next reverse ends name to here))
 
--- what is reached by some steps is by others that lead as far
+-- what is reached by some steps is also reached by others that include them
 pub same_reached : (Leads Others : Name → Name → Type 0) → ((by to : Name) → Leads by to → Others by to) → (from name : Name) → Reached Leads from name → Reached Others from name
 same_reached Leads Others same from name (Next _ leads) = Next name (same from name leads)
 same_reached Leads Others same from name (Further by _ r leads) = Further by name (same_reached Leads Others same from by r) (same by name leads)
@@ -95,7 +95,7 @@ of_ends steps name to here =
 pub in_ends : (steps : List Step) (step : Step) → Contains steps step → Contains (ends_of steps step.from) step.to
 in_ends steps step here = in_filter_map (λ other. if bytes_eq other.from step.from then Some other.to else None) steps step step.to here (rw (nat_list_eq_equiv.refl step.from) refl)
 
--- both names of a step are names
+-- both names of a step are valid
 named_step_is : (from to : Name) (step : Step) → named_step from to ≡ Some step → (step.from ≡ from) × (step.to ≡ to) × (is_unit_name from ≡ true) × (is_unit_name to ≡ true)
 named_step_is from to step h = by_tests (is_unit_name from) (is_unit_name to) refl refl
   where
@@ -104,7 +104,7 @@ named_step_is from to step h = by_tests (is_unit_name from) (is_unit_name to) re
     by_tests true false ha hb = (let none : None ≡ Some step = rw (ha, hb) at h in absurd (cc))
     by_tests false b ha hb = (let none : None ≡ Some step = rw ha at h in absurd (cc))
 
--- the ends of steps are names
+-- the ends of steps are valid names
 abbrev pub AreNamed : List Step → Type 0
 AreNamed steps = (step : Step) → Contains steps step → is_unit_name step.to ≡ true
 
@@ -141,7 +141,7 @@ module _ (reverse : Bool) (steps : List Step) (unit : Name) (names : AreNamed st
   abbrev ends : List Name
   ends = map (λ step. step.to) steps
 
-  -- a name has the instance of the unit, or that of an end
+  -- the instance of a name is that of the unit, or of an end
   abbrev HasInstance : Name → Type 0
   HasInstance name = (other : Name) × Contains (unit ∷ ends) other × (instance_of name ≡ instance_of other)
 
@@ -159,7 +159,7 @@ module _ (reverse : Bool) (steps : List Step) (unit : Name) (names : AreNamed st
       let found : Contains (instances end) to = in_filter_map (λ name. put_in end (instance_of name)) (unit ∷ ends) has.0 to has.1 (ap (put_in end) (sym has.2) ∙ put) in
       (Contains-append_right ends (flat_map instances ends) to (in_flat_map instances ends end to here found), (has.0, has.1, put_is end (instance_of name) to good put ∙ has.2))
 
-  -- where an end is led to as it is
+  -- if the step leads to the end itself
   as_it_is : (reverse : Bool) (end to : Name) → (if reverse then None else Some end) ≡ Some to → to ≡ end
   as_it_is true end to h = absurd (cc)
   as_it_is false end to h = sym (some_is end to h)
@@ -189,7 +189,7 @@ module _ (reverse : Bool) (steps : List Step) (unit : Name) (names : AreNamed st
   pub are_all : AreReached next unit (reached_names reverse steps unit)
   are_all = all_within next unit (names_around steps unit) (λ k name here. (all_around k name here).0)
 
--- so those that are found by ends in another order are these
+-- so those that are found by ends in another order are the same
 pub same_names : (reverse : Bool) (steps : List Step) (unit : Name) (ends : Name → List Name) (found : List Name)
     → AreNamed steps → ((name : Name) → AreSame (ends name) (ends_of steps name)) → AreReached (next_names reverse ends) unit found → AreSame found (reached_names reverse steps unit)
 same_names reverse steps unit ends found names same all name = (

@@ -22,7 +22,7 @@ use Rattle.states.proofs.Members.{in_filter_map, of_filter_map}
 abbrev pub Links : Type 0
 Links = List (List ℕ × Entry)
 
--- a name is found by the order of bytes where it is found by its bytes
+-- looking a name up by byte order finds the same as by equality of bytes
 lookup_same : {X : Type 0} (name : List ℕ) (es : List (List ℕ × X)) → lookup (is_at (path_cmp name)) es ≡ lookup (bytes_eq name) es
 lookup_same name [] = refl
 lookup_same name (e ∷ es) = (λ i. cond (at_bytes name e.0 i) (Some e.1) (lookup_same name es i))
@@ -37,7 +37,7 @@ pub one_name_set : {X : Type 0} (es fs : List (List ℕ × X)) (name : List ℕ)
 one_name_set es fs name new h = one_set es fs name new (λ q.
     lookup_same q fs ∙ h q ∙ (λ i. cond (sym (at_bytes name q) i) (Some new) (sym (lookup_same q es) i)))
 
--- one step more is an end more
+-- one more step is one more end
 with_step-ends : (ends : EndMap) (step : Step) (name : List ℕ) → ends_at (with_step ends step) name ≡ ends_at ends name ++ ends_of (step ∷ []) name
 unfolding ends_at with_step
 with_step-ends ends step name =
@@ -54,7 +54,7 @@ with_step-ends ends step name =
         let none : bytes_eq step.from name ≡ false = nat_list_eq_equiv.symm step.from name ∙ away in
         sym (append-nil (or_none (map.get ends name))) ∙ ap (λ b. or_none (map.get ends name) ++ filter_map (λ (step : Step). if b then Some step.to else None) (step ∷ [])) (sym none)
 
--- Ends are there, or the links that are left lead to them.
+-- Each end is in the map, or a remaining link leads to it.
 abbrev pub AreEndsOf : (reverse : Bool) → EndMap → (left all : Links) → Type 0
 AreEndsOf reverse ends left all = (name : List ℕ) → ends_at ends name ++ ends_of (steps_of reverse left) name ≡ ends_of (steps_of reverse all) name
 
@@ -100,7 +100,7 @@ other_ended reverse ends left rest all path entry first is before name =
 kept_by : {X Y : Type 0} (h : X → Option Y) (xs ys : List X) → ((x : X) → Contains xs x → Contains ys x) → (y : Y) → Contains (filter_map h xs) y → Contains (filter_map h ys) y
 kept_by h xs ys all y here = let found = of_filter_map h xs y here in in_filter_map h ys found.0 y (all found.0 found.1) found.2
 
--- the same links in whatever order lead to the same ends
+-- the same links in any order lead to the same ends
 ends_kept : (reverse : Bool) (links others : Links) → ((link : List ℕ × Entry) → Contains links link → Contains others link) → (name end : List ℕ)
     → Contains (ends_of (steps_of reverse links) name) end → Contains (ends_of (steps_of reverse others) name) end
 unfolding steps_of
@@ -108,7 +108,7 @@ ends_kept reverse links others all name end here =
     kept_by (λ (step : Step). if bytes_eq step.from name then Some step.to else None) (steps_of reverse links) (steps_of reverse others)
     (kept_by (λ link. option_map (turned reverse) (step_at link.0 link.1)) links others all) end here
 
--- the links of a tree have been gone through
+-- all links of a tree have been processed
 pub all_ended : (reverse : Bool) (ends : EndMap) (left all : Links) (links : Entries) → left ≡ [] → IsPermutation all (map.entries links) → AreEndsOf reverse ends left all → AreEnds ends (steps_of reverse (map.entries links))
 unfolding steps_of
 all_ended reverse ends left all links none same past name end =

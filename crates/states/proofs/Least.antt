@@ -1,4 +1,4 @@
--- Dependencies are the least set, and turn round.
+-- Dependencies are the least set, and reversing them swaps the two units.
 use Rattle.std.proofs.Common.{◌≡◌, ◌≢◌, ℕ, Bool, true, false, List, [], Some, Contains, refl, sym, ap, subst, ◌∙◌, inl, inr}
 use Rattle.std.specs.FinMap as map
 use Rattle.std.proofs.lemmas.List.Elements.{All-contains}
@@ -91,7 +91,7 @@ dependencies_are_least reverse unit name t =
       λ both. but.1 (reached.1 (same_reached (Leads reverse t) (λ by to. Contains (next by) to) (λ by to leads. in_next reverse (ends_of steps) by to (leads_comes t reverse by to leads)) unit name both.0), both.1),
     )
 
--- a first step goes before others
+-- a first step can be put before others
 before : (Steps : Name → Name → Type 0) (from by to : Name) → Steps from by → Reached Steps by to → Reached Steps from to
 before Steps from by to first (Next _ leads) = Further by to (Next by first) leads
 before Steps from by to first (Further last _ r leads) = Further last to (before Steps from by last first r) leads
@@ -100,7 +100,7 @@ module _ (t : Entries) (none : (of to : Name) → IsLinked t of to → kind_of (
   template_kind : (name : Name) → is_unit_name name ≡ true → kind_of (instance_of (template_of name)) ≡ Template
   template_kind name good = ap kind_of (instance_set name [] (is-name name good)).0
 
-  -- a step forward is a link, since no template has one
+  -- a forward step is a link, since no template has one
   forward : (from to : Name) → is_unit_name from ≡ true → Leads false t from to → IsLinked t from to
   forward from to good (inl linked) = linked
   forward from to good (inr (is, takes)) = absurd (none (template_of from) takes.0 takes.1 (template_kind from good))

@@ -67,7 +67,7 @@ module _ (place : Place) (dependency : Dependency) (of name : List ℕ) (of_good
       ap (λ text. take (length text - length (dependency_ending dependency)) text) (name-seam (unit_directory place) directory directory_slash)
       ∙ take_front of (dependency_ending dependency) (length directory - length (dependency_ending dependency)) (omega (arith, length-append of (dependency_ending dependency)))
 
-  -- a link at the slot of a dependency leads from the one unit to the other
+  -- a link at the slot of a dependency leads from one unit to the other
   pub link_step : (target : List ℕ) → is_null_target (dependency_slot place dependency of name) target ≡ false
       → step_at (dependency_slot place dependency of name) (Link target) ≡ Some (record { from = of; to = name })
   unfolding step_at

@@ -1,4 +1,4 @@
--- What lists hold.
+-- The elements of lists.
 use Rattle.std.proofs.Common.{◌≡◌, List, [], ◌∷◌, ◌++◌, Option, Some, None, Contains, filter_map, flat_map, map, refl, sym, ap, subst, ◌∙◌, inl, inr, arith, ◌⊎◌}
 use Rattle.std.proofs.lemmas.List.Concat.{flat_map-cons}
 use Rattle.std.proofs.lemmas.List.Elements.{Contains-append_left, Contains-append_right, filter_map-append}
@@ -7,7 +7,7 @@ use Rattle.install_section.proofs.Least.{first_or_later, is_first, is_later}
 pub none_in : {X : Type 0} (x : X) → Contains [] x → ⊥
 none_in x h = let lt = h.1 in omega (arith)
 
--- what two lists hold, one of them does
+-- an element of two lists, appended, is in one of them
 pub in_either : {X : Type 0} (xs ys : List X) (x : X) → Contains (xs ++ ys) x → Contains xs x ⊎ Contains ys x
 in_either [] ys x h = inr h
 in_either (y ∷ xs) ys x h = elim (first_or_later y (xs ++ ys) x h.0 h.1 h.2) [
@@ -15,7 +15,7 @@ in_either (y ∷ xs) ys x h = elim (first_or_later y (xs ++ ys) x h.0 h.1 h.2) [
   | inr later ↦ elim (in_either xs ys x later) [ inl here ↦ inl (is_later y xs x here) | inr there ↦ inr there ]
 ]
 
--- what a function gives of the elements, all together
+-- the results of a function for the elements, all together
 pub in_flat_map : {X Y : Type 0} (f : X → List Y) (xs : List X) (x : X) (y : Y) → Contains xs x → Contains (f x) y → Contains (flat_map f xs) y
 in_flat_map f [] x y here there = absurd (none_in x here)
 in_flat_map f (z ∷ xs) x y here there = elim (first_or_later z xs x here.0 here.1 here.2) [

@@ -52,7 +52,7 @@ pub not_so : (b : Bool) → not b ≡ true → b ≡ false
 not_so true h = sym h
 not_so false h = refl
 
--- whether one of these names is the same
+-- whether one of these names is equal
 abbrev pub is_among : List Name → Name → Bool
 is_among names name = list_any (eq_by_cmp path_cmp name) names
 
@@ -60,7 +60,7 @@ has-set_of : (names : List Name) (name : Name) → has (set_of names) name ≡ i
 has-set_of [] name = ap is_some (map.get-empty path_cmp name)
 has-set_of (first ∷ names) name = has-insert (set_of names) first name ∙ ap (λ b. eq_by_cmp path_cmp name first || b) (has-set_of names name)
 
--- a set with these names too, but for one
+-- a set with these names too, except one
 abbrev pub without : (left_out : Name) → NameSet → List Name → NameSet
 without left_out names [] = names
 without left_out names (name ∷ more) = without left_out (if bytes_eq name left_out then names else map.insert names name tt) more
@@ -95,7 +95,7 @@ in_without left_out names (first ∷ more) name = elim (cases_Bool (bytes_eq fir
     one_more true false e a apart = ap (λ e. not e && true) (sym (apart refl))
     one_more false c e a apart = refl
 
--- all names but one
+-- all names except one
 pub all_without : (left_out : Name) (names : List Name) → without left_out map.empty names ≡ map.remove (set_of names) left_out
 all_without left_out names = same_set _ _ (λ name.
     in_without left_out map.empty names name
@@ -103,7 +103,7 @@ all_without left_out names = same_set _ _ (λ name.
     ∙ ap (λ b. not (eq_by_cmp path_cmp name left_out) && b) (sym (has-set_of names name))
     ∙ sym (has-remove (set_of names) left_out name))
 
--- one name joins the names of a set
+-- one name is added to the names of a set
 pub one_joins : (old new : BTreeSet Name) (name : Name) → ((q : Name) → contains path_cmp new q ≡ cond (is_at name q) true (contains path_cmp old q)) → set_of new.keys ≡ map.insert (set_of old.keys) name tt
 one_joins old new name h = same_set _ _ (λ q.
     has-set_of new.keys q ∙ h q ∙ or_cond (is_at name q) (contains path_cmp old q)
@@ -115,7 +115,7 @@ one_joins old new name h = same_set _ _ (λ q.
     or_cond true c = refl
     or_cond false c = refl
 
--- names in order are those of their set
+-- sorted names are those of their set
 abbrev entry : Name → Name × Unit {0}
 entry name = (name, tt)
 
@@ -149,7 +149,7 @@ same_sets names others same = same_set _ _ (λ name.
     same_any : (name : Name) → is_among names name ≡ is_among others name
     same_any name = both_ways (is_among names name) (is_among others name) (to_any name names others (same name).0) (to_any name others names (same name).1)
 
--- A name is in order among the others where it is one of them, and not the one left out.
+-- A name is among the sorted ones if it is one of the names, and not the one left out.
 pub Contains-names_but : (names : List Name) (left_out name : Name) → Contains (names_but names left_out) name ↔ (Contains names name × (name ≡ left_out → ⊥))
 Contains-names_but names left_out name = (
   λ here. let both = and_parts (not (eq_by_cmp path_cmp name left_out)) (is_among names name) (sym is ∙ list_any-from_Contains (eq_by_cmp_equiv nat_list_cmp_total) name (names_but names left_out) here) in (

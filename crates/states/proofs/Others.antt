@@ -19,6 +19,6 @@ no_fault = refl
 abbrev pub is_other : (own : List ℕ) → List ℕ × Entry → Bool
 is_other own link = not (bytes_eq link.0 own)
 
--- in whatever order they are gone through
+-- in any order of the links
 pub same_in_order : (own : List ℕ) (links : Entries) (xs : List (List ℕ × Entry)) → IsPermutation xs (map.entries links) → list_any (is_other own) xs ≡ has_other own links
 same_in_order own links xs same = list_any-IsPermutation (is_other own) xs (map.entries links) same

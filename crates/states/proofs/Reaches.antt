@@ -1,4 +1,4 @@
--- All names that are reached are within as many steps as there are names around.
+-- All names that are reached are reached within as many steps as there are names in `names_around`.
 use Rattle.std.proofs.Common.{◌≡◌, ◌≤◌, ◌<◌, ◌+◌, ◌-◌, ℕ, zero, suc, false, List, [], ◌∷◌, ◌++◌, Contains, flat_map, length, length-append, refl, sym, subst, ◌∙◌, inl, inr, arith, ◌⊎◌}
 use Rattle.std.specs.List.{list_any, IsDistinct}
 use Rattle.std.specs.Str.{bytes_eq}
@@ -23,7 +23,7 @@ no_names : IsDistinct bytes_eq []
 unfolding IsDistinct
 no_names = tt
 
--- all that one list holds, another does
+-- every element of one list is in the other
 abbrev pub Within : (names others : List Name) → Type 0
 Within names others = (name : Name) → Contains names name → Contains others name
 
@@ -46,7 +46,7 @@ module _ (next : Name → List Name) (from : Name) where
         Contains-append_right (next from) (flat_map next (W (suc k))) name (in_flat_map next (W (suc k)) found.0 name (grows k found.0 found.1) found.2))
   ]
 
-  -- what is within so many steps is reached
+  -- what is within this number of steps is reached
   pub are_reached : (k : ℕ) (name : Name) → Contains (W k) name → R name
   are_reached zero name here = absurd (none_in name here)
   are_reached (suc k) name here = elim (in_either (next from) (flat_map next (W k)) name here) [
@@ -54,12 +54,12 @@ module _ (next : Name → List Name) (from : Name) where
     | inr later ↦ (let found = of_flat_map next (W k) name later in Further found.0 name (are_reached k found.0 found.1) found.2)
   ]
 
-  -- in a list that holds the first names and is closed, all that is reached is
+  -- a list that has the first names and is closed under steps has everything that is reached
   pub reached_in : (names : List Name) → Within (next from) names → IsClosed next names → (name : Name) → R name → Contains names name
   reached_in names first closed name (Next _ leads) = first name leads
   reached_in names first closed name (Further by _ r leads) = closed by name (reached_in names first closed by r) leads
 
-  -- nothing more is reached by one step more
+  -- one more step reaches nothing new
   abbrev IsFull : ℕ → Type 0
   IsFull k = Within (W (suc k)) (W k)
 
@@ -72,7 +72,7 @@ module _ (next : Name → List Name) (from : Name) where
   abbrev pub Wider : ℕ → Type 0
   Wider k = (names : List Name) × IsDistinct bytes_eq names × (length names ≡ k) × Within names (W k)
 
-  -- whether a list holds all of another, or a name that it lacks
+  -- whether a list has all elements of another, or a name that it lacks
   all_or_one : (names others : List Name) → Within names others ⊎ ((name : Name) × Contains names name × (list_any (bytes_eq name) others ≡ false))
   all_or_one [] others = inl (λ name here. absurd (none_in name here))
   all_or_one (n ∷ names) others = elim (cases_Bool (list_any (bytes_eq n) others)) [
@@ -115,7 +115,8 @@ module _ (next : Name → List Name) (from : Name) where
         | inl has ↦ absurd (false≢true (sym absent ∙ list_any-from_Contains nat_list_eq_equiv name others (all name (Contains-from_any same_bytes name names has))))
       ]
 
-  -- So where all names within any number of steps are among these, nothing more is reached by more steps than these are.
+  -- So if all names within any number of steps are among these, more steps than there are names
+  -- here reach nothing new.
   full_by : (around : List Name) → ((k : ℕ) → Within (W k) around) → (j : ℕ) × IsFull j × (j ≤ length around)
   full_by around all = elim (wider_or_full (suc (length around))) [
     | inl full ↦ (let lt = full.2 in (full.0, full.1, omega (arith, lt)))
@@ -129,7 +130,7 @@ module _ (next : Name → List Name) (from : Name) where
   more j (suc m) zero is name here = absurd (omega (arith, is))
   more j (suc m) (suc k) is name here = grows k name (more j m k (omega (arith, is)) name here)
 
-  -- the names that are reached are those within so many steps
+  -- the names that are reached are those within that number of steps
   pub all_within : (around : List Name) → ((k : ℕ) → Within (W k) around) → AreReached next from (W (length around))
   all_within around all name = (
     are_reached (length around) name,

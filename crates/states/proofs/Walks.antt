@@ -1,4 +1,4 @@
--- Name after name, what one step from each leads to.
+-- Processing name after name: where one step from each leads.
 use Rattle.std.proofs.Common.{◌≡◌, ◌≤◌, ◌<◌, ◌+◌, ℕ, zero, suc, List, [], ◌∷◌, ◌++◌, Some, None, Contains, get_or, slice_get, length, length-append, refl, sym, ap, subst, ◌∙◌, inl, inr, arith, ◌⊎◌}
 use Rattle.std.specs.List.{list_any}
 use Rattle.std.specs.Str.{bytes_eq}
@@ -21,7 +21,7 @@ at_or_before zero (suc place) under = inr (omega arith)
 at_or_before (suc k) zero under = absurd (omega (arith, under))
 at_or_before (suc k) (suc place) under = elim (at_or_before k place (omega (arith, under))) [ inl at ↦ inl (ap suc at) | inr less ↦ inr (omega (arith, less)) ]
 
--- with one name more these are the names, and perhaps one behind them
+-- adding one name results in these names, and perhaps one more at the end
 with_one : (names : List Name) (name : Name) → (rest : List Name) × (with_name names name ≡ names ++ rest) × Contains (names ++ rest) name × Within (names ++ rest) (names ++ name ∷ [])
 unfolding with_name
 with_one names name = elim (cases_Bool (list_any (bytes_eq name) names)) [
@@ -34,7 +34,7 @@ pub with_names-append : (names more others : List Name) → with_names (with_nam
 with_names-append names [] others = refl
 with_names-append names (name ∷ more) others = with_names-append (with_name names name) more others
 
--- These are names, others, and no more.
+-- The result is these names, the others, and no more.
 pub record AreJoined (names more all : List Name) : Type 0 where
   pub rest : List Name
   pub begins : all ≡ names ++ rest
@@ -61,7 +61,7 @@ joined_all names (name ∷ more) =
       ];
     }
 
--- The names up to a place have been gone through: one step from them leads to none outside.
+-- The names up to a position have been processed: one step from them leads to no name outside.
 pub record IsPast (next : Name → List Name) (from : Name) (found : List Name) (place : ℕ) : Type 0 where
   pub sound : (name : Name) → Contains found name → Reached (λ by to. Contains (next by) to) from name
   pub first : Within (next from) found
@@ -107,7 +107,7 @@ one_past next from found grown place name at is before = elim (slice_get_cases f
       | inr less ↦ (λ other leads. kept other (before.past k by less (sym (old k by (omega (arith, lt, less))) ∙ is) other leads))
     ]
 
--- past the last one
+-- after the last one
 pub all_past : (next : Name → List Name) (from : Name) (found : List Name) (place : ℕ) → slice_get found place ≡ None → IsPast next from found place → AreReached next from found
 all_past next from found place none past = λ name. (
   past.sound name,

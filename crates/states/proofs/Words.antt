@@ -1,4 +1,4 @@
--- Which word is told.
+-- Which word is answered.
 use Rattle.std.proofs.Common.{◌≡◌, ◌≢◌, ◌⊎◌, ℕ, Bool, true, false, List, [], ◌∷◌, Contains, Option, Some, None, refl, sym, ap, subst, ◌∙◌, inl, inr}
 use Rattle.std.specs.Prelude.{not}
 use Rattle.std.specs.FinMap as map

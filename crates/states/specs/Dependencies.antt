@@ -1,4 +1,5 @@
--- What units depend on, by links: systemctl(1), "list-dependencies"; systemd.unit(5), "Description", on .wants/, .requires/ and .upholds/.
+-- The units on which units depend, by links: systemctl(1), "list-dependencies"; systemd.unit(5),
+-- "Description", on .wants/, .requires/ and .upholds/.
 use Rattle.std.specs.Prelude.{ℕ, zero, suc, ◌-◌, Bool, false, not, ◌&&◌, if◌then◌else◌, List, [], ◌∷◌, ◌++◌, length, take, map as list_map, filter_map, flat_map, Option, Some, None}
 use Rattle.std.specs.Option.{option_map}
 use Rattle.std.specs.Str.{bytes_eq}
@@ -24,15 +25,16 @@ use Rattle.states.specs.declared.step.Step.{Step}
 use Rattle.states.specs.declared.dependencies.Dependencies.{Dependencies}
 use Rattle.states.specs.Questions.{asked}
 
--- how the name of the directory ends that contains a slot of a dependency
+-- the ending of the name of the directory that contains a path, if the path is the slot of a
+-- dependency
 abbrev pub ending_of : Option Slot → Option (List ℕ)
 ending_of slot = option_map dependency_ending (dependency_of slot)
 
--- from one unit to another, if both texts are names
+-- the step from one unit to another, if both texts are names
 abbrev pub named_step : (from to : List ℕ) → Option Step
 named_step from to = if is_unit_name from && is_unit_name to then Some (record { from = from; to = to }) else None
 
--- from the unit whose directory this is, by its name and this ending
+-- the step from the unit whose directory this is, by its name and this ending
 abbrev pub step_from : (directory : Option (List ℕ)) → (ending : Option (List ℕ)) → (to : List ℕ) → Option Step
 step_from (Some directory) (Some ending) to = named_step (take (length (name_at directory) - length ending) (name_at directory)) to
 step_from directory ending to = None
@@ -42,11 +44,12 @@ abbrev pub is_other_link : (path : List ℕ) → Entry → Bool
 is_other_link path (File contents) = false
 is_other_link path (Link target) = not (is_null_target path target)
 
--- from the unit OF to the unit NAME by a link at DIR/OF.wants/NAME, DIR/OF.requires/NAME or DIR/OF.upholds/NAME
+-- the step from the unit OF to the unit NAME by a link at DIR/OF.wants/NAME, DIR/OF.requires/NAME
+-- or DIR/OF.upholds/NAME
 unfoldable pub step_at : (path : List ℕ) → Entry → Option Step
 step_at path entry = if is_other_link path entry then step_from (parent_of path) (ending_of (slot_of path)) (name_at path) else None
 
--- in reverse the other way
+-- the same step; in reverse, the opposite one
 abbrev pub turned : (reverse : Bool) → Step → Step
 turned reverse step = if reverse then record { from = step.to; to = step.from } else step
 
@@ -58,8 +61,9 @@ steps_of reverse links = filter_map (λ link. option_map (turned reverse) (step_
 abbrev pub ends_of : List Step → (name : List ℕ) → List (List ℕ)
 ends_of steps name = filter_map (λ step. if bytes_eq step.from name then Some step.to else None) steps
 
--- Where a step from a template leads its instances: to the instance, with the same text, of another template, if that is a name.
--- To any other unit it leads them as it is; but not in reverse, since that unit depends on the template alone.
+-- Where a step from a template leads its instances: if it is to another template, to that
+-- template's instance with the same instance name, if that is a valid name. If it is to any other
+-- unit, to that unit; but not in reverse, since that unit depends on the template alone.
 abbrev pub end_for : (reverse : Bool) → (instance : Option (List ℕ)) → (end : List ℕ) → Kind → Option (List ℕ)
 end_for reverse instance end Template = put_in end instance
 end_for reverse instance end other = if reverse then None else Some end
@@ -68,26 +72,29 @@ abbrev pub ends_for : (reverse : Bool) → (instance : Option (List ℕ)) → (e
 ends_for reverse instance ends Instance = filter_map (λ end. end_for reverse instance end (kind_of (instance_of end))) ends
 ends_for reverse instance ends other = []
 
--- The names to which one step leads from a name, by the ends of the steps from each: its own, and an instance's also by those of its template.
+-- The names to which one step leads from a name, by the ends of the steps from each: its own steps,
+-- and for an instance also those of its template.
 unfoldable pub next_names : (reverse : Bool) → (ends : List ℕ → List (List ℕ)) → (name : List ℕ) → List (List ℕ)
 next_names reverse ends name = ends name ++ ends_for reverse (instance_of name) (ends (template_of name)) (kind_of (instance_of name))
 
--- the names to which one step leads, or more, up to so many
+-- the names that are reached by at least one step and at most this number of steps
 abbrev pub within : (steps : ℕ) → (next : List ℕ → List (List ℕ)) → (name : List ℕ) → List (List ℕ)
 within zero next name = []
 within (suc steps) next name = next name ++ flat_map next (within steps next name)
 
--- No other names can be reached: the ends of steps, and these with the instance of the unit or of an end put in.
+-- No other names can be reached: the ends of steps, and these with the instance name of the unit or
+-- of an end put in.
 abbrev pub names_around : List Step → (unit : List ℕ) → List (List ℕ)
 names_around steps unit =
     let ends = list_map (λ step. step.to) steps in
     ends ++ flat_map (λ end. filter_map (λ name. put_in end (instance_of name)) (unit ∷ ends)) ends
 
--- the names that are reached by any number of steps: at most as many as there are names around
+-- the names that are reached by any number of steps: no more steps are needed than there are such
+-- names
 abbrev pub reached_names : (reverse : Bool) → List Step → (unit : List ℕ) → List (List ℕ)
 reached_names reverse steps unit = within (length (names_around steps unit)) (next_names reverse (ends_of steps)) unit
 
--- names as a set: a map with nothing at each
+-- names as a set: a map with a trivial value for each
 abbrev pub NameSet : Type 0
 NameSet = map.FinMap path_cmp (Unit {0})
 
@@ -95,10 +102,11 @@ abbrev pub set_of : List (List ℕ) → NameSet
 set_of [] = map.empty
 set_of (name ∷ names) = map.insert (set_of names) name tt
 
--- The names of the units on which a unit depends, without its own; in reverse of those that depend on it.
+-- The names of the units on which a unit depends, without its own; in reverse, of those that depend
+-- on it.
 unfoldable pub dependencies : (reverse : Bool) → (unit : List ℕ) → (links : Entries) → NameSet
 dependencies reverse unit links = map.remove (set_of (reached_names reverse (steps_of reverse (map.entries links)) unit)) unit
 
--- What the question asks of a tree, and what it answers: the names, in byte order.
+-- What the question looks up in a tree, and what it answers: the names, in byte order.
 abbrev pub dependencies_meaning : Dependencies → Inquiry Effect
 dependencies_meaning c = asked (giving (entries_seen Links) (λ links. Names (map.keys (dependencies c.reverse c.unit links))))

@@ -18,6 +18,6 @@ named_by (Err refusal) = Refused refusal
 abbrev pub default_target : List ℕ
 default_target = codes "default.target"
 
--- What the question asks of a tree, and what it answers.
+-- What the question looks up in a tree, and what it answers.
 abbrev pub get_default_meaning : GetDefault → Inquiry Effect
 get_default_meaning c = asked (giving (giving (by_cells (find default_target)) (found_unit default_target)) named_by)

@@ -25,16 +25,16 @@ use Rattle.footprint.specs.Operations.{Effect}
 use Rattle.states.specs.declared.is_enabled.IsEnabled.{IsEnabled}
 use Rattle.states.specs.Questions.{asked}
 
--- one word where an entry stands in /run, and another elsewhere
+-- one word if an entry is in /run, and another if it is elsewhere
 abbrev pub by_place : Place → (in_run elsewhere : StateWord) → StateWord
 by_place places.Run in_run elsewhere = in_run
 by_place place in_run elsewhere = elsewhere
 
--- whether one of these links stands at another path than this
+-- whether one of these links is at a path other than this
 abbrev pub has_other : (own : List ℕ) → (links : Entries) → Bool
 has_other own links = list_any (λ link. not (bytes_eq link.0 own)) (map.entries links)
 
--- a link of a scope, of those that belong to the unit, is another than that of its own name
+-- whether a link of a scope that belongs to the unit is at another path than that of its own name
 abbrev pub is_enabled_in : Scope → (unit : List ℕ) → (links : Entries) → Bool
 is_enabled_in scope unit links = has_other (unit_slot (scope_place scope) unit) links
 
@@ -42,16 +42,17 @@ is_enabled_in scope unit links = has_other (unit_slot (scope_place scope) unit) 
 abbrev pub asks_for_none : Section → Bool
 asks_for_none section = length section.text.alias == 0 && length section.text.wanted_by == 0 && length section.text.required_by == 0 && length section.text.upheld_by == 0
 
--- by what the lists of a section hold
+-- the word, by what the lists of a section hold
 abbrev pub by_lists : Option Section → StateWord
 by_lists None = Static
 by_lists (Some section) = if is_empty section then Static else if asks_for_none section then Indirect else Disabled
 
--- by where its file lies
+-- the word, by where the unit's file is
 abbrev pub by_file : (file : List ℕ) → Place → Option Section → StateWord
 by_file file place section = if is_unit_slot (slot_of file) then by_lists section else by_place place LinkedRuntime Linked
 
--- The first of these that holds: a link of /etc enables it, or one of /run; its file lies elsewhere; it has nothing to ask for.
+-- The first of these that holds: a link of /etc enables it, or one of /run does; its file is
+-- elsewhere; its section asks for nothing.
 abbrev pub by_links : (unit file : List ℕ) → Place → Option Section → (etc run : Entries) → StateWord
 by_links unit file place section etc run =
     if is_enabled_in Etc unit etc then Enabled else if is_enabled_in Run unit run then EnabledRuntime else by_file file place section
@@ -84,6 +85,6 @@ state_word name = do
   found ← by_cells (find name)
   found_word name found
 
--- What the question asks of a tree, and what it answers.
+-- What the question looks up in a tree, and what it answers.
 abbrev pub is_enabled_meaning : IsEnabled → Inquiry Effect
 is_enabled_meaning c = asked (giving (state_word c.unit) (λ word. State word))

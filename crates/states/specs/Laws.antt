@@ -1,4 +1,4 @@
--- When each word is told, as the contract of a public function: systemctl(1), "is-enabled".
+-- When each word is answered, as the contract of a public function: systemctl(1), "is-enabled".
 use Rattle.std.specs.Prelude.{◌≡◌, ◌≢◌, ℕ, ◌↔◌, Bool, true, false, List, Some}
 use Rattle.std.specs.FinMap as map
 use Rattle.unit_paths.specs.declared.place.Place.{Place}
@@ -25,16 +25,17 @@ use Rattle.states.specs.IsEnabled.{asks_for_none, state_word}
 abbrev pub IsFound : Entries → (name : List ℕ) → Found → Type 0
 IsFound t name found = (find name).conclusion t ≡ found
 
--- A link of a scope belongs to a unit, at another path than that of the unit's own name.
+-- A link of a scope belongs to a unit, at a path other than that of the unit's own name.
 abbrev pub IsLinkedIn : Scope → Entries → (unit : List ℕ) → Type 0
 IsLinkedIn scope t unit =
     (path : List ℕ) × (entry : Entry) × (map.get t path ≡ Some entry) × (belongs scope unit path entry ≡ true) × (path ≢ unit_slot (scope_place scope) unit)
 
--- No such link is there, in either scope.
+-- There is no such link, in either scope.
 abbrev pub IsFree : Entries → (unit : List ℕ) → Type 0
 IsFree t unit = ¬ IsLinkedIn Etc t unit × ¬ IsLinkedIn Run t unit
 
--- A unit has its own name, and its file lies in one of the four directories of units (or in none of them).
+-- A unit has its own name, and its file is in one of the four unit directories (or in none of
+-- them).
 abbrev pub LiesInside : (inside : Bool) → Entries → (unit : List ℕ) → Place → Type 0
 LiesInside inside t unit place = (file : List ℕ) × IsFound t unit (founds.Unit unit file place) × (is_unit_slot (slot_of file) ≡ inside)
 
@@ -42,7 +43,7 @@ LiesInside inside t unit place = (file : List ℕ) × IsFound t unit (founds.Uni
 abbrev pub HasSection : Entries → (unit : List ℕ) → Section → Type 0
 HasSection t unit section = (section_of unit).conclusion t ≡ Some section
 
--- Which word is told of a name.
+-- Which word is answered for a name.
 pub data Tells (t : Entries) (name : List ℕ) : StateWord → Type 0 where
   Missing : IsFound t name founds.Missing → Tells t name words.NotFound
   Dangling : (link : List ℕ) → IsFound t name (founds.Dangling link) → Tells t name words.NotFound
@@ -59,6 +60,6 @@ pub data Tells (t : Entries) (name : List ℕ) : StateWord → Type 0 where
   LinksListed : (place : Place) (section : Section) → LiesInside true t name place → IsFree t name
       → HasSection t name section → is_empty section ≡ false → asks_for_none section ≡ false → Tells t name words.Disabled
 
--- Each word is told exactly where it holds.
+-- Each word is answered exactly if it applies.
 abbrev pub WordsAreTold : Type 0
 WordsAreTold = (name : List ℕ) (t : Entries) (word : StateWord) → ((state_word name).conclusion t ≡ word) ↔ Tells t name word

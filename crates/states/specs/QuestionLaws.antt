@@ -1,4 +1,5 @@
--- For the proofs of this crate: no public contract cites it. Questions keep the laws of operations.
+-- For the proofs of this crate: no public contract cites it. Questions satisfy the laws of
+-- operations.
 use Rattle.std.specs.Prelude.{true, Contains, refl}
 use Rattle.std.proofs.lemmas.List.Elements.{All-nil}
 use Rattle.footprint.specs.declared.answer.Answer.{Answer}

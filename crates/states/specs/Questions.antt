@@ -1,4 +1,4 @@
--- Questions: what asks of a tree, and changes nothing.
+-- Questions: operations that look things up in a tree and change nothing.
 use Rattle.std.specs.Prelude.{[]}
 use Rattle.footprint.specs.declared.answer.Answer.{Answer}
 use Rattle.footprint.specs.Inquiry.{Inquiry, giving}

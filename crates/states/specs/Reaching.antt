@@ -1,4 +1,4 @@
--- What the private contracts of dependencies say: no public contract cites this file.
+-- Definitions for the private contracts of dependencies: no public contract cites this file.
 use Rattle.std.specs.Prelude.{ℕ, List, [], ◌∷◌, ◌++◌, ◌↔◌, if◌then◌else◌, Option, Some, None, Contains}
 use Rattle.std.specs.List.{list_any}
 use Rattle.std.specs.Str.{bytes_eq}
@@ -19,11 +19,11 @@ or_none None = []
 unfoldable pub ends_at : EndMap → (name : List ℕ) → List (List ℕ)
 ends_at ends name = or_none (map.get ends name)
 
--- one step more
+-- adds one step
 unfoldable pub with_step : EndMap → Step → EndMap
 with_step ends step = map.insert ends step.from (ends_at ends step.from ++ step.to ∷ [])
 
--- a name more, unless it is there
+-- adds a name, unless it is there already
 unfoldable pub with_name : (names : List (List ℕ)) → (name : List ℕ) → List (List ℕ)
 with_name names name = if list_any (bytes_eq name) names then names else names ++ name ∷ []
 
@@ -39,10 +39,10 @@ AreSame names others = (name : List ℕ) → Contains names name ↔ Contains ot
 abbrev pub AreEnds : EndMap → List Step → Type 0
 AreEnds ends steps = (name : List ℕ) → AreSame (ends_at ends name) (ends_of steps name)
 
--- these are all names that are reached from one
+-- these are all names that are reached from one name
 abbrev pub AreReached : (next : List ℕ → List (List ℕ)) → (from : List ℕ) → (names : List (List ℕ)) → Type 0
 AreReached next from names = (name : List ℕ) → Contains names name ↔ Reached (λ by to. Contains (next by) to) from name
 
--- the names but for one, in byte order
+-- the names except one, in byte order
 abbrev pub names_but : (names : List (List ℕ)) → (left_out : List ℕ) → List (List ℕ)
 names_but names left_out = map.keys (map.remove (set_of names) left_out)

@@ -1,4 +1,4 @@
-//! Outcomes of questions.
+//! Results of questions.
 ghost use Rattle.std.specs.Prelude.{◌≡◌, ◌∷◌, [], All, true, IfOk};
 ghost use Rattle.unit_paths.specs.Slots.{is_slot};
 ghost use Rattle.link_tree.specs.Trees.{Entries};
@@ -10,8 +10,8 @@ use footprint::{Answer, Changes, Key, Keys, Outcome, Reading};
 use link_tree::{Tree, TreePart};
 use std::alloc::{AllocError, Global};
 
-/// What a question comes to: an answer and no change, with the reading of the tree by the keys of what was looked at. Fails only where memory
-/// runs out.
+/// The result of a question: an answer and no change, with the reading of the tree by the keys of
+/// what was looked at. Fails only if memory runs out.
 pub(crate) fn answered(
     alloc: Global,
     tree: &Tree,
@@ -28,7 +28,7 @@ pub(crate) fn answered(
     })
 }
 
-/// The same of one key, where the entries at which it looks are at hand.
+/// The same for one key, given the entries at which it looks.
 pub(crate) fn answered_by(
     alloc: Global,
     key: Key,

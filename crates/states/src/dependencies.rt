@@ -6,12 +6,15 @@ use link_tree::Tree;
 use std::alloc::{AllocError, Global};
 use unit_name::UnitName;
 
-/// systemctl(1), `list-dependencies`: the names of all units on which a unit depends by links, over one or more (`Answer::Names`), without its own,
-/// in byte order; in reverse of all that depend on it. It is a question, changes nothing and refuses nothing.
+/// systemctl(1), `list-dependencies`: the names of all units on which a unit depends by one or more
+/// links in a row (`Answer::Names`), without its own name, in byte order; in reverse, of all that
+/// depend on it. It is a question, changes nothing and refuses nothing.
 ///
-/// A unit depends on another where a link that doesn't lead to `/dev/null` stands at `DIR/UNIT.wants/OTHER` or `DIR/UNIT.requires/OTHER`, in any of
-/// the four directories, whether the two are found or not. An instance takes each link of its template too, where one to another template leads it
-/// to that one's instance of the same text; a name of over 255 bytes is none.
+/// A unit depends on another if a link that doesn't lead to `/dev/null` exists at
+/// `DIR/UNIT.wants/OTHER` or `DIR/UNIT.requires/OTHER`, in any of the four directories, whether the
+/// two are found or not. An instance also has each link of its template; if such a link is to
+/// another template, it leads the instance to that template's instance with the same instance name.
+/// A name of over 255 bytes is not valid.
 #[derive(Debug, Drop)]
 pub struct Dependencies {
     pub unit: UnitName,

@@ -1,4 +1,4 @@
-//! Where steps lead, by the names from which they do.
+//! The ends of steps, by the names from which the steps lead.
 ghost use Rattle.std.specs.Prelude.{◌≡◌, ◌∷◌, [], IfOk, OnOk};
 ghost use Rattle.std.specs.FinMap as map;
 ghost use Rattle.states.specs.Dependencies.{steps_of};
@@ -12,7 +12,8 @@ use std::alloc::{AllocError, Global};
 use std::marker::Model;
 use unit_name::UnitName;
 
-/// The ends of steps, by the names from which they lead, so that each is found at once. Contracts see the finite map.
+/// The ends of steps, by the names from which they lead, so that lookup by name is fast. Contracts
+/// see this as the finite map.
 #[derive(Drop)]
 pub(crate) struct Ends {
     by_name: IndexMap<UnitName, Units>,
@@ -41,7 +42,7 @@ impl Ends {
         }
     }
 
-    /// One step more.
+    /// Adds one step.
     fn add(&mut self, alloc: Global, step: Step) -> Result<(), AllocError>
         ensures { OnOk result (self.new ≡ with_step self.old step) }
     {
@@ -53,7 +54,7 @@ impl Ends {
         Ok(())
     }
 
-    /// The first step from a name.
+    /// Adds the first step from a name.
     fn add_first(&mut self, alloc: Global, from: UnitName, to: UnitName) -> Result<(), AllocError>
         ensures { OnOk result (self.new ≡ map.insert self.old from (to ∷ [])) }
     {
@@ -74,7 +75,7 @@ impl Ends {
         }
     }
 
-    /// Those of the steps of links. Fails only where memory runs out.
+    /// The ends of the steps of these links. Fails only if memory runs out.
     pub(crate) fn of(alloc: Global, reverse: bool, links: &TreePart) -> Result<Ends, AllocError>
         ensures { IfOk result (λ ends. AreEnds ends (steps_of reverse (map.entries links.now))) }
     {

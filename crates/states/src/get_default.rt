@@ -9,8 +9,9 @@ use link_tree::{Tree, TreePath};
 use std::alloc::{AllocError, Global};
 use unit_name::{NameError, UnitName};
 
-/// systemctl(1), `get-default`: the own name of what `default.target` is found as (`Answer::Name`). Refused by `NotFound`, `Masked` or
-/// `Dangling`. It is a question, and changes nothing.
+/// systemctl(1), `get-default`: the own name of the unit as which `default.target` is found
+/// (`Answer::Name`). Refused with `NotFound`, `Masked` or `Dangling`. It is a question, and changes
+/// nothing.
 #[derive(Debug, Drop)]
 pub struct GetDefault {}
 

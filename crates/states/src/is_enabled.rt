@@ -14,21 +14,25 @@ use load_path::{Cells, Found};
 use std::alloc::{AllocError, Global};
 use unit_name::UnitName;
 
-/// systemctl(1), `is-enabled`: the first of these words that holds (`Answer::State`). It is a question, changes nothing and refuses nothing.
+/// systemctl(1), `is-enabled`: the first of these words that applies (`Answer::State`). It is a
+/// question, changes nothing and refuses nothing.
 ///
-/// - `NotFound`: the name is found nowhere, or its links lead nowhere.
-/// - `Masked`, or `MaskedRuntime` where its entry stands in `/run`.
+/// - `NotFound`: the name isn't found anywhere, or its links lead nowhere.
+/// - `Masked`, or `MaskedRuntime` if its entry is in `/run`.
 /// - `Alias`: it is another name of a unit.
-/// - `Enabled`: a link in `/etc` belongs to the unit, but for that of its own name; or else `EnabledRuntime`: one in `/run` does.
-/// - `Linked`: its file lies outside the directories of units, or `LinkedRuntime`, where its entry stands in `/run`.
-/// - `Static`: its [Install] section names no unit and asks for no link; `Indirect`: it names units alone.
+/// - `Enabled`: a link in `/etc` belongs to the unit, other than the one with its own name; or else
+///   `EnabledRuntime`: one in `/run` does.
+/// - `Linked`: its file is outside the unit directories, or `LinkedRuntime` if its entry is in
+///   `/run`.
+/// - `Static`: its [Install] section names no unit and asks for no link; `Indirect`: it only names
+///   units.
 /// - `Disabled`.
 #[derive(Debug, Drop)]
 pub struct IsEnabled {
     pub unit: UnitName,
 }
 
-/// One word where an entry stands in `/run`, and another elsewhere.
+/// One word if an entry is in `/run`, and another if it is elsewhere.
 fn by_place(place: Place, in_run: StateWord, elsewhere: StateWord) -> StateWord
     ensures { result ≡ by_place place in_run elsewhere }
 {
@@ -38,7 +42,7 @@ fn by_place(place: Place, in_run: StateWord, elsewhere: StateWord) -> StateWord
     }
 }
 
-/// Whether one of the links stands at another path than this.
+/// Whether one of the links is at a path other than this.
 fn has_other(own: &TreePath, links: &TreePart) -> bool
     ensures { result ≡ has_other own.now links.now }
 {
@@ -50,7 +54,7 @@ fn has_other(own: &TreePath, links: &TreePart) -> bool
     false
 }
 
-/// Whether a link of a scope, of those that belong to the unit, is another than that of its own name.
+/// Whether a link of a scope that belongs to the unit is at another path than that of its own name.
 fn is_enabled_in(
     alloc: Global,
     scope: Scope,
@@ -74,7 +78,7 @@ fn asks_for_none(section: &Section) -> bool
         && text.upheld_by.is_empty()
 }
 
-/// By what the lists of a section hold.
+/// The word, by what the lists of a section hold.
 fn by_lists(section: Option<&Section>) -> StateWord
     ensures { result ≡ by_lists (option_copied section.entry) }
 {
@@ -92,7 +96,7 @@ fn by_lists(section: Option<&Section>) -> StateWord
     }
 }
 
-/// By where its file lies.
+/// The word, by where the unit's file is.
 fn by_file(file: &TreePath, place: Place, section: Option<&Section>) -> StateWord
     ensures { result ≡ by_file file.now place (option_copied section.entry) }
 {
@@ -102,7 +106,7 @@ fn by_file(file: &TreePath, place: Place, section: Option<&Section>) -> StateWor
     by_place(place, StateWord::LinkedRuntime, StateWord::Linked)
 }
 
-/// By the links that belong to a unit, and by its file.
+/// The word, by the links that belong to a unit, and by its file.
 fn by_links(
     alloc: Global,
     unit: &UnitName,

@@ -40,7 +40,7 @@ impl Names {
         }
     }
 
-    /// A name more, which goes last, unless it is there.
+    /// Adds a name at the end, unless it is there already.
     #[tactic(auto, unfolding(crate::specs::Reaching::with_name))]
     fn add(&mut self, name: UnitName) -> Result<(), AllocError>
         ensures { OnOk result (self.new ≡ with_name self.old name) }
@@ -49,7 +49,7 @@ impl Names {
         Ok(())
     }
 
-    /// The name at a place, counted from 0.
+    /// The name at a position, counted from 0.
     fn get(&self, place: usize) -> Option<&UnitName>
         ensures name { option_copied result ≡ slice_get self.now place }
         ensures within { IfSome result (λ name. place < 2 ^ 63) }
@@ -60,7 +60,7 @@ impl Names {
         self.names.get_index(place)
     }
 
-    /// These names.
+    /// Adds these names.
     fn add_all(&mut self, more: &[UnitName]) -> Result<(), AllocError>
         ensures { OnOk result (self.new ≡ with_names self.old more.now) }
     {
@@ -70,7 +70,7 @@ impl Names {
         Ok(())
     }
 
-    /// The names to which one step leads from a name.
+    /// Adds the names to which one step leads from a name.
     #[tactic(auto, unfolding(crate::specs::Dependencies::next_names))]
     fn add_next(
         &mut self,
@@ -91,7 +91,7 @@ impl Names {
         }
     }
 
-    /// Where the steps from a template lead an instance.
+    /// Adds the names to which the steps from a template lead an instance.
     fn add_ends_for(
         &mut self,
         alloc: Global,
@@ -109,7 +109,7 @@ impl Names {
         Ok(())
     }
 
-    /// The names but for one, in byte order. Fails only where memory runs out.
+    /// The names except one, in byte order. Fails only if memory runs out.
     fn in_order_without(self, alloc: Global, left_out: &UnitName) -> Result<Units, AllocError>
         ensures { IfOk result (λ names. names ≡ names_but self left_out.now) }
     {
@@ -117,7 +117,7 @@ impl Names {
         in_order(alloc, set)
     }
 
-    /// The set of the names but for one.
+    /// The set of the names except one.
     fn set_without(
         self,
         alloc: Global,
@@ -146,7 +146,8 @@ fn in_order(alloc: Global, set: BTreeSet<UnitName>) -> Result<Units, AllocError>
     Ok(names)
 }
 
-/// Where a step from a template to `end` leads its instance; `None` where it leads it nowhere.
+/// Where a step from a template to `end` leads its instance; `None` if it leads the instance
+/// nowhere.
 fn end_for(
     alloc: Global,
     reverse: bool,
@@ -164,7 +165,7 @@ fn end_for(
     }
 }
 
-/// The names that are reached from one by one step or more.
+/// The names that are reached from one name by one step or more.
 fn reached(alloc: Global, reverse: bool, from: &UnitName, ends: &Ends) -> Result<Names, AllocError>
     ensures { IfOk result (AreReached (next_names reverse (ends_at ends.now)) from.now) }
 {
@@ -179,8 +180,8 @@ fn reached(alloc: Global, reverse: bool, from: &UnitName, ends: &Ends) -> Result
     Ok(found)
 }
 
-/// The names of the units on which a unit depends, without its own, in byte order; in reverse of those that depend on it. Fails only where memory
-/// runs out.
+/// The names of the units on which a unit depends, without its own, in byte order; in reverse, of
+/// those that depend on it. Fails only if memory runs out.
 #[tactic(auto, unfolding(crate::specs::Dependencies::dependencies))]
 pub(crate) fn dependencies(
     alloc: Global,

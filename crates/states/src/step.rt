@@ -10,14 +10,16 @@ use link_tree::{Entry, Slot, TreePath, is_null_link, last_part};
 use std::alloc::{AllocError, Global};
 use unit_name::{NameError, UnitName};
 
-/// From a unit to one on which it depends by a link; in reverse from a unit to one that depends on it.
+/// A step from a unit to one on which it depends by a link; in reverse, from a unit to one that
+/// depends on it.
 #[derive(Debug, Drop)]
 pub(crate) struct Step {
     pub(crate) from: UnitName,
     pub(crate) to: UnitName,
 }
 
-/// How the name of the directory ends that contains a path, if it is the slot of a dependency.
+/// The ending of the name of the directory that contains a path, if the path is the slot of a
+/// dependency.
 fn ending_of(path: &TreePath) -> Option<&'static [u8]>
     ensures { option_copied result ≡ ending_of (slot_of path.now) }
 {
@@ -38,7 +40,7 @@ fn named(alloc: Global, text: &[u8]) -> Result<Option<UnitName>, AllocError>
     }
 }
 
-/// From one unit to another, if both texts are names.
+/// The step from one unit to another, if both texts are names.
 fn named_step(alloc: Global, from: &[u8], to: &[u8]) -> Result<Option<Step>, AllocError>
     ensures { IfOk result (λ step. step ≡ named_step from.now to.now) }
 {
@@ -51,8 +53,8 @@ fn named_step(alloc: Global, from: &[u8], to: &[u8]) -> Result<Option<Step>, All
     Ok(Some(Step { from, to }))
 }
 
-/// From the unit whose directory, which isn't the root, contains a link, by the directory's name and
-/// this ending.
+/// The step from the unit whose directory contains a link, by the directory's name and this ending.
+/// The directory isn't the root.
 #[tactic(auto, unfolding(unit_paths::specs::Paths::name_at))]
 fn step_from(
     alloc: Global,
@@ -81,8 +83,9 @@ fn is_other_link(path: &TreePath, entry: &Entry) -> bool
 }
 
 impl Step {
-    /// From the unit `OF` to the unit `NAME` by a link at `DIR/OF.wants/NAME`, `DIR/OF.requires/NAME` or
-    /// `DIR/OF.upholds/NAME`; `None` if an entry is no such link, or leads to `/dev/null`.
+    /// The step from the unit `OF` to the unit `NAME` by a link at `DIR/OF.wants/NAME`,
+    /// `DIR/OF.requires/NAME` or `DIR/OF.upholds/NAME`; `None` if an entry is no such link, or
+    /// leads to `/dev/null`.
     #[tactic(auto, unfolding(crate::specs::Dependencies::step_at))]
     pub(crate) fn at(
         alloc: Global,
@@ -97,7 +100,7 @@ impl Step {
         step_from(alloc, path.directory(), ending_of(path), path.file_name())
     }
 
-    /// In reverse the other way.
+    /// The same step; in reverse, the opposite one.
     pub(crate) fn turned(self, reverse: bool) -> Step
         ensures { result ≡ turned reverse self }
     {

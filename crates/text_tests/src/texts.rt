@@ -1,4 +1,4 @@
-//! Texts that rows ask of, and texts that they are answered by.
+//! Texts that rows are given, and texts of their answers.
 ghost use Rattle.std.specs.Prelude.{◌≡◌};
 
 use sample_rows::{Row, unlike};
@@ -6,7 +6,7 @@ use std::alloc::{AllocError, Global};
 use std::process::Abort;
 use std::test::Fail;
 
-/// All rows of a text are answered as they say.
+/// Every row of a text gets the answer that it states.
 pub(crate) fn assert_rows<F>(
     rt: &impl Abort,
     alloc: Global,
@@ -59,7 +59,7 @@ pub(crate) fn number_of(text: &[u8]) -> usize {
     first_number(text).0
 }
 
-/// The numbers of a text, with a space between any two.
+/// The numbers of a text, separated by spaces.
 pub(crate) fn numbers_of(alloc: Global, text: &[u8]) -> Result<Vec<usize>, AllocError> {
     let mut numbers = Vec::new(alloc);
     let mut rest = text;

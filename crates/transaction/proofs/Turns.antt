@@ -27,7 +27,7 @@ abbrev pub looked : {A : Type 0} → (A → Step) → List A → Entries → Lis
 looked step [] t = []
 looked step (a ∷ rest) t = (step a).keys t ++ looked_on (looked step rest) (placed_by ((step a).conclusion t) t)
 
--- a step for each of these arguments
+-- one step for each of these arguments, in turn
 abbrev pub turns : {A : Type 0} → (A → Step) → List A → Run (Unit {0})
 turns step args = record { conclusion = concluded step args; keys = looked step args }
 
@@ -47,7 +47,7 @@ then_looked : (ruling : Ruling) (keys : Entries → List Key) (t : Entries) → 
 then_looked (Ok placed) keys t = refl
 then_looked (Err refusal) keys t = refl
 
--- This form does what `each_in_turn` does.
+-- This form does the same as `each_in_turn`.
 pub turns_conclude : {A : Type 0} (step : A → Step) (args : List A) (t : Entries) → concluded step args t ≡ placed_by ((each_in_turn step args).conclusion t) t
 turns_conclude step [] t = refl
 turns_conclude step (a ∷ rest) t =
@@ -59,8 +59,8 @@ turns_look step (a ∷ rest) t =
     ap (λ keys. (step a).keys t ++ keys)
     ((λ i. looked_on (λ u. turns_look step rest u i) (placed_by ((step a).conclusion t) t)) ∙ then_looked ((step a).conclusion t) (each_in_turn step rest).keys t)
 
--- The invariant of a loop: from the tree as it is now, the rest of the arguments leads to what all
--- of them lead to from the first one, and what it looks at follows what was looked at so far.
+-- The invariant of a loop: from the tree as it is now, the remaining arguments lead to what all of
+-- them lead to from the first tree, and what they look at is added to what was looked at so far.
 abbrev pub GoesOn : {A : Type 0} → (A → Step) → (rest args : List A) → (old now : Transacted) → Type 0
 GoesOn step rest args old now =
     ((turns step rest).conclusion now.tree ≡ (taking (each_in_turn step args)).conclusion old.tree)

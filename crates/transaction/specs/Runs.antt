@@ -15,8 +15,8 @@ use Rattle.transaction.specs.declared.stop.Stop.{Stop}
 use Rattle.transaction.specs.declared.stop.Stop.TheVariants.{Refused, OutOfMemory}
 use Rattle.transaction.specs.Seen.{Transacted}
 
--- What a function does from a tree on: its value with the tree that it leaves, or its refusal; and
--- the keys of what it looks at.
+-- What a function does, starting from a tree: its value with the tree that it leaves, or its
+-- refusal; and the keys of what it looks at.
 pub record Run (X : Type 0) : Type 0 where
   pub conclusion : Entries → Result (X × Entries) Refusal
   pub keys : Entries → List Key
@@ -26,7 +26,7 @@ abbrev pub with_tree : {X : Type 0} → Entries → Result X Refusal → Result 
 with_tree t (Ok x) = Ok (x, t)
 with_tree t (Err refusal) = Err refusal
 
--- the tree in which all is placed that a ruling places, or the refusal
+-- the tree with everything placed that a ruling places, or the refusal
 abbrev pub placed_by : Ruling → Entries → Result (Unit {0} × Entries) Refusal
 placed_by (Ok placed) t = Ok (tt, placed_in placed t)
 placed_by (Err refusal) t = Err refusal
@@ -35,17 +35,17 @@ placed_by (Err refusal) t = Err refusal
 abbrev pub asking : {X : Type 0} → Inquiry X → Run X
 asking q = record { conclusion = λ t. Ok (q.conclusion t, t); keys = q.keys }
 
--- so does an inquiry that may result in a refusal
+-- the same for an inquiry that may result in a refusal
 abbrev pub asking_for : {X : Type 0} → Inquiry (Result X Refusal) → Run X
 asking_for q = record { conclusion = λ t. with_tree t (q.conclusion t); keys = q.keys }
 
--- a step leaves what it places
+-- a step leaves the tree with what it places
 abbrev pub taking : Step → Run (Unit {0})
 taking step = record { conclusion = λ t. placed_by (step.conclusion t) t; keys = step.keys }
 
--- The contract of functions that are given a transaction, which was so before and is so afterwards:
--- with this result they did the run. If memory ran out, only the first tree is known to be the
--- same.
+-- The contract of functions that are given a transaction, from its state before to its state
+-- afterwards: with this result, they did what the run says. If memory ran out, only the first tree
+-- is known to be the same.
 abbrev pub Runs : {X : Type 0} → Run X → (old new : Transacted) → Result X Stop → Type 0
 Runs run old new (Ok x) = (run.conclusion old.tree ≡ Ok (x, new.tree)) × (new.keys ≡ old.keys ++ run.keys old.tree) × (new.first ≡ old.first)
 Runs run old new (Err (Refused refusal)) = (run.conclusion old.tree ≡ Err refusal) × (new.keys ≡ old.keys ++ run.keys old.tree) × (new.first ≡ old.first)
@@ -69,7 +69,7 @@ Closes txn (Ok notices) outcome = outcome ≡ ended txn.first txn.keys notices (
 Closes txn (Err (Refused refusal)) outcome = outcome ≡ ended txn.first txn.keys map.empty (Err refusal)
 Closes txn (Err OutOfMemory) outcome = ⊥
 
--- the same of a command that reports nothing
+-- the same for a command that reports nothing
 abbrev pub silently : Result (Unit {0}) Stop → Result NoticeMap Stop
 silently (Ok done) = Ok map.empty
 silently (Err stop) = Err stop

@@ -14,7 +14,7 @@ abbrev pub tree_of : Entries → Option (Entries × Entries) → Entries
 tree_of first None = first
 tree_of first (Some edit) = edit.1
 
--- the edit is one of this tree
+-- the edit belongs to this tree
 abbrev pub StartsAt : Entries → Option (Entries × Entries) → Type 0
 StartsAt first None = Unit {0}
 StartsAt first (Some edit) = edit.0 ≡ first

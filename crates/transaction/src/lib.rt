@@ -1,6 +1,6 @@
 //! Transactions: a command reads and edits a tree through one value, which also notes what the
-//! command looked at. It begins a `Transaction`, hands it to its steps as `&mut`, and ends it by
-//! `outcome`. A step that can't go on returns a `Stop`, which `?` hands on.
+//! command looked at. It begins a `Transaction`, passes it to its steps as `&mut`, and ends it by
+//! `outcome`. A step that can't continue returns a `Stop`, which `?` passes on.
 #![tactic(auto)]
 
 mod stop;

@@ -162,7 +162,7 @@ impl<'t> Transaction<'t> {
         }
     }
 
-    /// Ends a command that reports no notices: as `outcome`.
+    /// Ends a command that reports no notices, as `outcome` does.
     pub fn outcome_of_steps(
         self,
         alloc: Global,

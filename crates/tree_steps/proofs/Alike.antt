@@ -1,4 +1,4 @@
--- Trees of which each entry stands in the other are equal.
+-- Two trees are equal if each entry of one is in the other, both ways.
 use Rattle.std.proofs.Common.{◌≡◌, ℕ, List, [], ◌∷◌, All, Contains, Option, Some, None, refl, sym, ap, ◌∙◌, subst}
 use Rattle.std.specs.Prelude.{IsPermutation}
 use Rattle.std.specs.FinMap as map
@@ -21,7 +21,7 @@ same_where_all_stand t u on back = same_tree t u (λ path. by_entry path (map.ge
 pub all_stand_where_same : (t u : Entries) → t ≡ u → AllStandIn t u
 all_stand_where_same t u same path entry here = ap (λ m. map.get m path) (sym same) ∙ here
 
--- Of all, those that are still to come are among them, and each of the others stands in the other tree.
+-- The remaining entries are among all entries, and the property holds for all if it holds for them.
 pub record AreChecked (P : Standing → Type 0) (rest all : List Standing) : Type 0 where
   pub among : (x : Standing) → Contains rest x → Contains all x
   pub checked : All P rest → All P all
@@ -36,7 +36,7 @@ pub all_checked : (P : Standing → Type 0) (t : Entries) (all : List Standing) 
 all_checked P t all same checked path entry there =
     All-contains P (map.entries t) (path, entry) (All-permutation P all (map.entries t) same (checked.checked (All-nil P))) (all_listed t path entry there)
 
--- one that is still to come stands in the tree
+-- a remaining entry is in the tree
 pub one_stands : (P : Standing → Type 0) (t : Entries) (all : List Standing) (x : Standing) (rest : List Standing) → IsPermutation all (map.entries t) → AreChecked P (x ∷ rest) all → map.get t x.0 ≡ Some x.1
 one_stands P t all x rest same before =
     All-contains (λ x. map.get t x.0 ≡ Some x.1) (map.entries t) x (all_standing t)

@@ -1,3 +1,4 @@
 pub mod Noted
 pub mod Alike
 pub mod Turns
+pub mod SlotChanges

@@ -1,4 +1,4 @@
--- When all paths of both trees are noted, what is noted is how the trees differ.
+-- When the paths of both trees were walked, the noted changes are the differences of the trees.
 use Rattle.std.proofs.Common.{◌≡◌, ℕ, true, cond, List, [], ◌∷◌, All, Contains, Option, Some, None, refl, sym, ap, ◌∙◌, inl, inr, ◌⊎◌}
 use Rattle.std.specs.Prelude.{IsPermutation}
 use Rattle.std.specs.Str.{bytes_eq}
@@ -27,7 +27,7 @@ path_among : (xs : List Standing) (path : List ℕ) (entry : Entry) → Contains
 path_among xs path entry here = All-contains (λ (y : Standing). list_any (λ (x : Standing). bytes_eq y.0 x.0) xs ≡ true) xs (path, entry) (all_among xs) here
 
 module _ (other : Entries) where
-  -- a path that is alike already, or among those that are made so, is alike in the end
+  -- a path that is equal already, or is one of those that are made equal, is equal in the end
   alike_after : (xs : List Standing) (t : Entries) (path : List ℕ) → (map.get t path ≡ map.get other path) ⊎ (list_any (λ x. bytes_eq path x.0) xs ≡ true) → map.get (made_alike xs other t) path ≡ map.get other path
   alike_after [] t path here = elim here [ inl was ↦ was | inr none ↦ absurd (true≢false (sym none)) ]
   alike_after (x ∷ xs) t path here = elim (cases_Bool (bytes_eq path x.0)) [
@@ -38,12 +38,12 @@ module _ (other : Entries) where
     ]
   ]
 
-  -- each path of a tree that is walked over is alike then
+  -- after a walk, each path of the walked tree is equal
   walked_alike : (walked t : Entries) (all : List Standing) → IsPermutation all (map.entries walked) → (path : List ℕ) (entry : Entry) → map.get walked path ≡ Some entry → map.get (made_alike all other t) path ≡ map.get other path
   walked_alike walked t all same path entry there =
       alike_after all t path (inr (path_among all path entry (Contains-permutation (map.entries walked) all (path, entry) (IsPermutation-sym all (map.entries walked) same) (all_listed walked path entry there))))
 
--- a walk over both trees makes the first like the second
+-- a walk over both trees makes the first equal to the second
 both_walked : (old new : Entries) (ones others : List Standing) → IsPermutation ones (map.entries old) → IsPermutation others (map.entries new) → made_alike others new (made_alike ones new old) ≡ new
 both_walked old new ones others of_old of_new = same_tree _ _ (λ path. by_entry path (map.get new path) (map.get old path) refl refl)
   where

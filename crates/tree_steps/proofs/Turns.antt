@@ -1,4 +1,4 @@
--- Changes from what stands in a tree may be made in turns.
+-- Changes that start from what is in a tree may be made in turns.
 use Rattle.std.proofs.Common.{◌≡◌, ℕ, true, false, cond, List, [], ◌∷◌, ◌++◌, Option, Some, None, refl, sym, ap, ◌∙◌, subst, inl, inr}
 use Rattle.std.specs.Prelude.{not, ◌&&◌, is_some}
 use Rattle.std.specs.Str.{bytes_eq}
@@ -15,17 +15,17 @@ use Rattle.link_tree.proofs.Leads.{leads}
 use Rattle.tree_steps.specs.declared.turn.Turn.TheVariants.{FilesPut, LinksPut, LinksTaken, FilesTaken}
 use Rattle.tree_steps.specs.Steps.{is_file, is_link, comes_in, those, in_turn, steps_between, IsOnTheWay, LeadsOn, LeadsInTurn}
 
--- a path that one change more keeps, wherever that stands
+-- a path that no change is at, with one more change of another path anywhere in the list
 keeps_more : (q : List ℕ) (xs ys : List Change) (c : Change) → KeepsPath q (xs ++ ys) → bytes_eq q c.path ≡ false → KeepsPath q (xs ++ c ∷ ys)
 keeps_more q [] ys c h away = (away, h)
 keeps_more q (x ∷ xs) ys c h away = (h.0, keeps_more q xs ys c h.1 away)
 
--- the first change may come later
+-- the first change may be made later
 from_later : (m : Entries) (c : Change) (xs ys : List Change) → AreFrom m (c ∷ (xs ++ ys)) → AreFrom m (xs ++ c ∷ ys)
 from_later m c [] ys h = h
 from_later m c (x ∷ xs) ys h = (h.2.0, keeps_more x.path xs ys c h.2.1 (other_bytes c.path x.path h.1.0), from_later m c xs ys (h.0, h.1.1, h.2.2))
 
--- two changes of different paths leave the same in either order
+-- two changes of different paths have the same result in either order
 either_order : (q : List ℕ) (c x : Change) (o : Option Entry) → bytes_eq c.path x.path ≡ false
     → cond (bytes_eq q x.path) x.after (cond (bytes_eq q c.path) c.after o) ≡ cond (bytes_eq q c.path) c.after (cond (bytes_eq q x.path) x.after o)
 either_order q c x o apart = elim (cases_Bool (bytes_eq q c.path)) [
@@ -39,11 +39,11 @@ leaves_later : (q : List ℕ) (c : Change) (xs ys : List Change) (o : Option Ent
 leaves_later q c [] ys o h = refl
 leaves_later q c (x ∷ xs) ys o h = leaves_later q c xs ys (cond (bytes_eq q x.path) x.after o) h.1 ∙ ap (after_at (xs ++ ys) q) (sym (either_order q c x o h.0))
 
--- One list is another with a change more somewhere.
+-- One list is the other with one more change somewhere in it.
 abbrev IsWith : Change → (fewer more : List Change) → Type 0
 IsWith c fewer more = (front : List Change) × (back : List Change) × (front ++ back ≡ fewer) × (front ++ c ∷ back ≡ more)
 
--- in which turns a change comes, by its sides
+-- the turn of a change, by its entries before and after
 abbrev TurnsOf : Change → Option Entry → Option Entry → Type 0
 TurnsOf c before after =
     (comes_in FilesPut c ≡ is_file after) × (comes_in LinksPut c ≡ is_link after)
@@ -53,7 +53,7 @@ turns : (c : Change) (before after : Option Entry) → c.before ≡ before → c
 turns c before after was is =
     (ap is_file is, ap is_link is, (λ i. not (is_some (is i)) && is_link (was i)), (λ i. not (is_some (is i)) && not (is_link (was i))))
 
--- one change more comes somewhere in its turn
+-- one more change is somewhere in its turn
 one_more : (c : Change) (cs : List Change) → IsWith c (in_turn cs) (in_turn (c ∷ cs))
 one_more c cs = by_sides c.before c.after (turns c c.before c.after refl refl)
   where
@@ -91,7 +91,7 @@ leaves_with : (q : List ℕ) (c : Change) (fewer more : List Change) (o : Option
 leaves_with q c fewer more o at h =
     ap (λ cs. after_at cs q o) (sym at.3) ∙ leaves_later q c at.0 at.1 o (subst (KeepsPath c.path) (sym at.2) h) ∙ ap (λ cs. after_at (c ∷ cs) q o) at.2
 
--- in turns, changes keep the same paths, are from the same tree and leave the same
+-- in turns, changes keep the same paths, start from the same tree and have the same result
 turn_keeps : (q : List ℕ) (cs : List Change) → KeepsPath q cs → KeepsPath q (in_turn cs)
 turn_keeps q [] h = tt
 turn_keeps q (c ∷ cs) h = keeps_with q c (in_turn cs) (in_turn (c ∷ cs)) (one_more c cs) (turn_keeps q cs h.1) h.0
@@ -108,14 +108,14 @@ turn_leaves m q (c ∷ cs) o h =
 turn_to : (m : Entries) (cs : List Change) → AreFrom m cs → after_changes (in_turn cs) m ≡ after_changes cs m
 turn_to m cs h = same_tree _ _ (λ q. get-after_changes (in_turn cs) m q ∙ turn_leaves m q cs (map.get m q) h ∙ sym (get-after_changes cs m q))
 
--- what is still from the tree when one of other paths was made
+-- changes still start from the tree after a change of another path was made
 still_from : (m : Entries) (c : Change) (cs : List Change) → KeepsPath c.path cs → AreFrom m cs → AreFrom (after_change c m) cs
 still_from m c [] apart h = tt
 still_from m c (d ∷ ds) apart h =
     (get-set_other m c.path c.after d.path (other_bytes c.path d.path apart.0) ∙ h.0, h.1, still_from m c ds apart.1 h.2)
 
 module _ (old new : Entries) where
-  -- what was changed once stands as it will in the end
+  -- a path that was changed has its final entry
   next_on_way : (now : Entries) (c : Change) (cs : List Change) → IsOnTheWay old new now → KeepsPath c.path cs → after_changes cs (after_change c now) ≡ new → IsOnTheWay old new (after_change c now)
   next_on_way now c cs way apart to path = elim (cases_Bool (bytes_eq path c.path)) [
     | inl here ↦ inr (

@@ -7,6 +7,7 @@ use Rattle.link_tree.specs.declared.entry.Entry.TheVariants.{File, Link}
 use Rattle.link_tree.specs.declared.change.Change.{Change}
 use Rattle.link_tree.specs.Trees.{Entries, after_change}
 use Rattle.link_tree.specs.Differences.{changes_between}
+use Rattle.unit_paths.specs.Slots.{is_slot}
 use Rattle.tree_steps.specs.declared.turn.Turn.{Turn}
 use Rattle.tree_steps.specs.declared.turn.Turn.TheVariants.{FilesPut, LinksPut, LinksTaken, FilesTaken}
 
@@ -30,21 +31,29 @@ comes_in FilesTaken change = not (is_some change.after) && not (is_link change.b
 abbrev pub those : Turn → List Change → List Change
 those turn changes = filter (comes_in turn) changes
 
--- Files come before the links that may lead to them, and go after the links that did. What is put in place of another entry
--- comes in the turn of what is put.
+-- Files are put before the links that may lead to them, and removed after the links that led to
+-- them. If one entry is replaced by another, the turn is that of the new entry.
 abbrev pub in_turn : List Change → List Change
 in_turn changes = those FilesPut changes ++ those LinksPut changes ++ those LinksTaken changes ++ those FilesTaken changes
 
--- the steps from one tree to another: in each turn in byte order of their paths
+-- the steps from one tree to another: turn after turn, each in byte order of the paths
 abbrev pub steps_between : Entries → Entries → List Change
 steps_between old new = in_turn (changes_between old new)
 
--- At each path stands what stood there in the old tree, or what stands there in the new.
+-- those of the changes that are at slots
+abbrev pub at_slots : List Change → List Change
+at_slots changes = filter (λ change. is_slot change.path) changes
+
+-- how two trees differ at slots, in byte order of the paths
+abbrev pub slot_changes_between : Entries → Entries → List Change
+slot_changes_between old new = at_slots (changes_between old new)
+
+-- Each path has what the old tree or what the new tree has there.
 abbrev pub IsOnTheWay : (old new now : Entries) → Type 0
 IsOnTheWay old new now = (path : List ℕ) → (map.get now path ≡ map.get old path) ⊎ (map.get now path ≡ map.get new path)
 
--- The rest of the steps lead from the tree as it is now to the new one: each is from what stands at its path when its turn
--- comes, and each tree is on the way from the old one to the new one.
+-- The rest of the steps lead from the current tree to the new one: when a step's turn comes, its
+-- old entry is at its path, and each tree is on the way from the old one to the new one.
 abbrev pub LeadsOn : (old new now : Entries) → List Change → Type 0
 LeadsOn old new now [] = now ≡ new
 LeadsOn old new now (step ∷ steps) = IsOnTheWay old new now × (map.get now step.path ≡ step.before) × LeadsOn old new (after_change step now) steps

@@ -17,8 +17,9 @@ fn note_all(net: &mut NetChanges, walked: &Tree, old: &Tree, new: &Tree) -> Resu
     Ok(())
 }
 
-/// The changes from one tree to another, in byte order of their paths: one at each path where they differ, from what stands there
-/// in the old tree to what stands there in the new one. Fails only where memory runs out.
+/// The changes from one tree to another, in byte order of their paths: one at each path where they
+/// differ, from what is there in the old tree to what is there in the new one. Fails only if memory
+/// runs out.
 pub fn changes_between(alloc: Global, old: &Tree, new: &Tree) -> Result<Vec<Change>, AllocError>
     ensures { IfOk result (λ changes. changes.items ≡ changes_between old.now new.now) }
 {

@@ -9,7 +9,7 @@ use std::alloc::{AllocError, Global};
 use std::collections::BTreeMap;
 use std::marker::Model;
 
-/// Changes, one at a path. Contracts see a finite map.
+/// Changes, one at a path. In contracts it is a finite map.
 #[derive(Drop)]
 pub(crate) struct NetChanges {
     by_path: BTreeMap<TreePath, Change>,
@@ -40,7 +40,7 @@ fn same(one: Option<&Entry>, other: Option<&Entry>) -> bool
     }
 }
 
-/// An equal entry, or none.
+/// A copy of an entry, or `None`.
 fn copied(entry: Option<&Entry>) -> Result<Option<Entry>, AllocError>
     ensures { IfOk result (λ copy. copy ≡ option_copied entry.entry) }
 {
@@ -60,7 +60,7 @@ impl NetChanges {
         }
     }
 
-    /// Says what stands at a path before and after: a change, unless it is the same.
+    /// Sets what is at a path before and after: a change, unless both are the same.
     pub(crate) fn note(
         &mut self,
         path: &TreePath,

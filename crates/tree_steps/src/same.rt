@@ -5,7 +5,7 @@ ghost use Rattle.tree_steps.specs.Walks.{AllStandIn};
 
 use link_tree::{Entry, Tree, TreePath};
 
-/// Whether this entry stands at a path.
+/// Whether this entry is at a path of a tree.
 fn stands(tree: &Tree, path: &TreePath, entry: &Entry) -> bool
     ensures yes { result ≡ true → (map.get tree.now path.now ≡ Some entry.now) }
     ensures no { (map.get tree.now path.now ≡ Some entry.now) → result ≡ true }
@@ -16,7 +16,7 @@ fn stands(tree: &Tree, path: &TreePath, entry: &Entry) -> bool
     }
 }
 
-/// Whether each entry of a tree stands in another.
+/// Whether each entry of a tree is in another.
 fn all_stand_in(tree: &Tree, other: &Tree) -> bool
     ensures yes { result ≡ true → AllStandIn tree.now other.now }
     ensures no { AllStandIn tree.now other.now → result ≡ true }
@@ -29,7 +29,7 @@ fn all_stand_in(tree: &Tree, other: &Tree) -> bool
     true
 }
 
-/// Whether two trees are equal: the same paths, with the same entries. Takes no memory.
+/// Whether two trees are equal: the same paths, with the same entries. Allocates no memory.
 #[tactic(auto, using(crate::proofs::Alike::same_where_all_stand, crate::proofs::Alike::all_stand_where_same))]
 pub fn are_same(one: &Tree, other: &Tree) -> bool
     ensures yes { result ≡ true → (one.now ≡ other.now) }

@@ -8,11 +8,12 @@ use crate::turn::in_turn;
 use link_tree::{Change, Tree};
 use std::alloc::{AllocError, Global};
 
-/// The steps from one tree to another, to be made one after another: files that are put, links that are put, links that are taken
-/// away, files that are taken away, each in byte order of their paths, and one at each path where the trees differ. So a file is
-/// there before a link comes that leads to it, and goes after the link. Each step is from what stands at its path when its turn
-/// comes; on the way there stands at each path what the old tree has there, or what the new one has; the last tree is the new one.
-/// Fails only where memory runs out.
+/// The steps from one tree to another, in the order in which they must be made: files that are put,
+/// links that are put, links that are removed, files that are removed, each group in byte order of
+/// the paths, and one step at each path where the trees differ. So a file exists before a link to
+/// it is put, and is removed after that link. When a step's turn comes, its old entry is at its
+/// path; in between, each path has what the old tree or what the new tree has there; the last tree
+/// is the new one. Fails only if memory runs out.
 #[tactic(auto, using(crate::proofs::Turns::steps_from, crate::proofs::Turns::steps_to, crate::proofs::Turns::steps_lead))]
 pub fn steps_between(alloc: Global, old: &Tree, new: &Tree) -> Result<Vec<Change>, AllocError>
     ensures steps { IfOk result (λ steps. steps.items ≡ steps_between old.now new.now) }

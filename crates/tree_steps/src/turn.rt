@@ -5,7 +5,7 @@ ghost use Rattle.tree_steps.specs.Steps.{is_file, is_link, comes_in, those, in_t
 use link_tree::{Change, Entry};
 use std::alloc::{AllocError, Global};
 
-/// When a change is made, by what it does.
+/// The turn in which a change is made, by what it does.
 #[derive(Clone, Copy, Debug)]
 pub(crate) enum Turn {
     FilesPut,
@@ -40,7 +40,7 @@ impl Turn {
     }
 }
 
-/// Adds the changes of one turn.
+/// Appends the changes of one turn.
 fn push_those(steps: &mut Vec<Change>, turn: Turn, changes: &[Change]) -> Result<(), AllocError>
     ensures { OnOk result (steps.new.items ≡ steps.old.items ++ those turn changes.now) }
 {
@@ -52,7 +52,7 @@ fn push_those(steps: &mut Vec<Change>, turn: Turn, changes: &[Change]) -> Result
     Ok(())
 }
 
-/// The changes, turn after turn.
+/// The changes, in the order of their turns.
 pub(crate) fn in_turn(alloc: Global, changes: &[Change]) -> Result<Vec<Change>, AllocError>
     ensures { IfOk result (λ steps. steps.items ≡ in_turn changes.now) }
 {

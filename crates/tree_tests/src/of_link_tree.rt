@@ -1,6 +1,7 @@
 pub(crate) mod changes;
 mod entries;
+mod keeping;
 mod large;
 pub(crate) mod names;
 mod reading;
-mod writing;
+pub(crate) mod writing;

@@ -1,4 +1,4 @@
-//! Rows, and what their answers are made of.
+//! Rows, and the parts of their answers.
 ghost use Rattle.std.specs.Prelude.{◌≡◌};
 
 use link_tree::TreePath;
@@ -7,7 +7,7 @@ use std::alloc::{AllocError, Global};
 use std::process::Abort;
 use std::test::Fail;
 
-/// All rows of a text are answered as they say.
+/// Every row of a text gets the answer that it states.
 pub(crate) fn assert_rows<F>(
     rt: &impl Abort,
     alloc: Global,

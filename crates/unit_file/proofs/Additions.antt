@@ -1,4 +1,4 @@
--- Comments between lines, and one file behind another.
+-- Comments between lines, and one file after another.
 use Rattle.std.proofs.Common.{◌≡◌, refl, ℕ, ◌+◌, ◌-◌, ◌<◌, ◌==◌, ◌||◌, Bool, true, false, not, cond, List, [], ◌∷◌, ◌++◌, length, get_or, take, map, fold, Option, Some, None, sym, ap, ◌∙◌, arith, append_assoc}
 use Rattle.std.specs.List.{list_any, slice_get, filter_map, flat_map, find, take_while, last_or}
 use Rattle.std.specs.Option.{option_map_or, option_or}
@@ -54,7 +54,7 @@ kept-append one other = filter-append (λ line. not (is_comment line)) one other
 kept-comment : (line : List ℕ) (rest : List (List ℕ)) → is_comment line ≡ true → kept (line ∷ rest) ≡ kept rest
 kept-comment line rest comment = rw comment refl
 
--- A comment between two lines says nothing.
+-- A comment between two lines has no effect.
 pub alike-comment : (before comment after : List ℕ) → are_whole_lines before ≡ true → is_comment comment ≡ true → list_any is_lf comment ≡ false → AreReadAlike (before ++ ((comment ++ 10 ∷ []) ++ after)) (before ++ after)
 alike-comment before comment after whole is none =
     let line = (comment ++ 10 ∷ []) ++ after in
@@ -65,7 +65,7 @@ alike-comment before comment after whole is none =
     let same : joined_lines (before ++ line) ≡ joined_lines (before ++ after) = ap joined (with ∙ sym without) in
     alike_from_joined (before ++ line) (before ++ after) (ap said same) (ap (list_any is_too_long) same)
 
--- Joined lines, where the last of the first ones waits for none.
+-- Joined lines, if the last of the first ones doesn't continue.
 onto_next-append : (text : List ℕ) (lines others : List (List ℕ)) → 0 < length lines → onto_next text (lines ++ others) ≡ onto_next text lines ++ others
 onto_next-append text [] others some = absurd (omega arith)
 onto_next-append text (line ∷ lines) others some = refl
@@ -84,7 +84,7 @@ joined-some line rest =
 abbrev waits_after : Option (List ℕ) → List (List ℕ) → Bool
 waits_after o lines = option_map_or (ends_with 92) (last_or o lines) false
 
--- a line that waits has another behind it, where the last waits for none
+-- a line that continues has another after it, if the last line doesn't continue
 waiting : (line : List ℕ) (rest : List (List ℕ)) → ends_with 92 line ≡ true → waits_after (Some line) rest ≡ false → 0 < length (joined rest)
 waiting line [] ends none = absurd (cc)
 waiting line (next ∷ rest) ends none = joined-some next rest
@@ -106,7 +106,7 @@ logical-append one other whole none =
     let apart : kept (lines (one ++ other)) ≡ kept (lines one) ++ kept (lines other) = ap kept (lines-append one other whole) ∙ kept-append (lines one) (lines other) in
     ap (λ ls. map stripped (joined ls)) apart ∙ ap (map stripped) (joined-append None (kept (lines one)) (kept (lines other)) none) ∙ map-append stripped (joined_lines one) (joined_lines other)
 
--- The lines of [Install], where the second list begins with a section.
+-- The lines of [Install], if the second list begins with a section.
 take_while-stops : (lines : List (List ℕ)) (line : List ℕ) (more : List (List ℕ)) → opens_section line ≡ true → take_while no_section (lines ++ line ∷ more) ≡ take_while no_section lines
 take_while-stops [] line more opens = let stops : take_while no_section (line ∷ more) ≡ [] = rw (take_while-cons no_section line more, opens) refl in stops
 take_while-stops (x ∷ xs) line more opens =

@@ -1,4 +1,4 @@
--- The last line of bytes, and what stands at its end.
+-- The last line of bytes, and how it ends.
 use Rattle.std.proofs.Common.{◌≡◌, refl, ℕ, suc, ◌-◌, ◌<◌, ◌==◌, ◌||◌, ◌⊎◌, inl, inr, Bool, true, false, not, List, [], ◌∷◌, ◌++◌, length, take, map, sym, ap, ◌∙◌, arith, append_assoc, append-nil, length-append, slice_index}
 use Rattle.std.specs.List.{list_any, slice_get, slice_split}
 use Rattle.std.specs.Option.{option_map_or}
@@ -17,7 +17,7 @@ use Rattle.unit_file.proofs.PhysicalLines.{is_lf, lines-seam, lines-first, lines
 use Rattle.unit_file.proofs.Joining.{kept}
 use Rattle.unit_file.proofs.Folding.{read_from, read-none, read-all}
 
--- what a list ends with is what its last part ends with
+-- a list ends with what its last part ends with
 pub ends_with-cons : (b x y : ℕ) (ys : List ℕ) → ends_with b (x ∷ y ∷ ys) ≡ ends_with b (y ∷ ys)
 unfolding ends_with
 ends_with-cons b x y ys =
@@ -43,7 +43,8 @@ ends_with-lf [] none = ends_with-nil 10
 ends_with-lf (b ∷ []) none = ends_with-one 10 b ∙ (or_parts (is_lf b) false none).0
 ends_with-lf (b ∷ c ∷ cs) none = ends_with-cons 10 b c cs ∙ ends_with-lf (c ∷ cs) (or_parts (is_lf b) (list_any is_lf (c ∷ cs)) none).1
 
--- The lines of bytes with others behind them are these, and those of the last line with the others behind it.
+-- The lines of bytes followed by others are the lines before the last one, and then those of the
+-- last line followed by the others.
 pub record LastLine (bytes : List ℕ) : Type 0 where
   pub prior : List (List ℕ)
   pub last : List ℕ
@@ -83,7 +84,7 @@ last_line bytes =
       | false ↦ λ none. record { prior = []; last = bytes; none = none; lines_are = λ others. refl; ends = λ b some. refl; whole = whole-alone bytes none }
     ] refl
 
--- Lines break after a LF.
+-- A line ends after a LF.
 pub lines-append : (bytes others : List ℕ) → are_whole_lines bytes ≡ true → lines (bytes ++ others) ≡ lines bytes ++ lines others
 lines-append bytes others whole =
     let line = last_line bytes in
@@ -91,7 +92,7 @@ lines-append bytes others whole =
     let prior : lines bytes ≡ line.prior = ap lines (sym (append-nil bytes)) ∙ line.lines_are [] ∙ ap (λ l. line.prior ++ lines (l ++ [])) empty ∙ append-nil line.prior in
     line.lines_are others ∙ ap (λ l. line.prior ++ lines (l ++ others)) empty ∙ ap (λ ls. ls ++ lines others) (sym prior)
 
--- A LF behind the last line says nothing.
+-- A LF after the last line has no effect.
 is_comment-nil : is_comment [] ≡ false
 unfolding is_comment
 is_comment-nil = refl
@@ -108,7 +109,7 @@ pub joined-nil : joined [] ≡ []
 unfolding joined
 joined-nil = refl
 
--- the same lines, or an empty one more
+-- the same lines, or one empty line more
 abbrev pub IsSameOrMore : List (List ℕ) → List (List ℕ) → Type 0
 IsSameOrMore lines others = (others ≡ lines) ⊎ (others ≡ lines ++ [] ∷ [])
 
@@ -139,7 +140,7 @@ joined-push (line ∷ rest) =
           ])
     ] refl
 
--- what a file says, by its joined lines
+-- what a file asks for, by its joined lines
 abbrev pub said : List (List ℕ) → InstallText
 said lines = install_text (map stripped lines)
 
@@ -177,7 +178,7 @@ last_is (x ∷ y ∷ ys) b none some =
     let place : length (x ∷ y ∷ ys) - 1 ≡ suc (length (y ∷ ys) - 1) = omega arith in
     ap (λ i. slice_index (x ∷ y ∷ ys) i == b) place ∙ last_is (y ∷ ys) b (sym (ends_with-cons b x y ys) ∙ none) (omega arith)
 
--- a line that doesn't end in a CR is the same behind a LF
+-- a line that doesn't end in a CR is the same if a LF follows
 strip-same : (line : List ℕ) → ends_with 13 line ≡ false → strip_carriage_return line ≡ line
 strip-same [] none = refl
 strip-same (b ∷ bs) none = let last = last_is (b ∷ bs) 13 none (omega arith) in rw last refl
@@ -188,7 +189,7 @@ lines_at_end prior (b ∷ bs) before after none now then ends =
     let alone : lines (b ∷ bs) ≡ (b ∷ bs) ∷ [] = ap lines_of_parts (slice_split-none (b ∷ bs) none) ∙ lines_of_parts-last (b ∷ bs) (omega arith) in
     inl (then ∙ ap (λ l. prior ++ l ∷ []) (strip-same (b ∷ bs) (ends (omega arith))) ∙ sym (now ∙ ap (λ ls. prior ++ ls) alone))
 
--- the lines of bytes with a LF behind them
+-- the lines of bytes followed by a LF
 lines-push_lf : (bytes : List ℕ) → ends_with 13 bytes ≡ false → IsSameOrMore (lines bytes) (lines (bytes ++ 10 ∷ []))
 lines-push_lf bytes none =
     let line = last_line bytes in

@@ -1,4 +1,4 @@
--- What the lines of a file change, one after another, adds up to what the file asks for.
+-- The changes that the lines of a file make, one after another, add up to what the file asks for.
 use Rattle.std.proofs.Common.{◌≡◌, refl, ℕ, ◌||◌, Bool, true, false, not, cond, List, [], ◌∷◌, ◌++◌, map, fold, Option, Some, None, codes, sym, ap, ◌∙◌, append_assoc, append-nil}
 use Rattle.std.specs.List.{list_any, filter_map, cons_option, flat_map, take_while, after_last, last_or}
 use Rattle.std.specs.Str.{bytes_eq}
@@ -27,7 +27,7 @@ pub read-none : (inside : Bool) (text : InstallText) (lines : List (List ℕ)) �
 read-none inside text [] = text_after-nil inside text
 read-none inside text (line ∷ lines) = refl
 
--- What is carried and then the lines left, one line further on.
+-- The carried text and then the lines left, one line later.
 pub read-carried : (inside : Bool) (text : InstallText) (carried front line : List ℕ) (rest : List (List ℕ)) → joined (kept (line ∷ rest)) ≡ onto_next (front ++ 32 ∷ []) (joined (kept rest)) → read_from inside text (onto_next carried (joined (kept (line ∷ rest)))) ≡ read_from inside text (onto_next ((carried ++ front) ++ 32 ∷ []) (joined (kept rest)))
 read-carried inside text carried front line rest is =
     ap (λ lines. read_from inside text (onto_next carried lines)) is
@@ -42,7 +42,7 @@ pub read-end : (inside : Bool) (text : InstallText) (carried : List ℕ) → rea
 unfolding joined
 read-end inside text carried = refl
 
--- The lines of [Install] among these, where the first of them stands in it or not.
+-- The lines of [Install] among these, whether or not the first of them is in it.
 abbrev pub no_section : List ℕ → Bool
 no_section line = not (opens_section line)
 
@@ -82,7 +82,7 @@ chapter-outside : (line : List ℕ) (rest : List (List ℕ)) → opens_section l
 unfolding install_lines
 chapter-outside line rest none = let other = not_install line none in rw other refl
 
--- What becomes of one field.
+-- How one field changes.
 module _ {A : Type 0} (key : List ℕ) (field : InstallText → A) (changed : A → List ℕ → A) (at_key : (text : InstallText) (name value : List ℕ) → field (with_assignment text name value) ≡ cond (bytes_eq name key) (changed (field text) value) (field text)) where
   fold-pair : (text : InstallText) (line : List ℕ) (more : List (List ℕ)) → fold changed (field (with_pair text (assignment line))) more ≡ fold changed (field text) (cons_option (value_of key line) more)
   unfolding value_of
@@ -109,7 +109,7 @@ module _ {A : Type 0} (key : List ℕ) (field : InstallText → A) (changed : A 
             ]
       ] refl
 
--- The last value that empties the list, one value further on.
+-- The last value that empties the list, one value later.
 after_last-later : (value : List ℕ) (rest : List (List ℕ)) → list_any is_empty rest ≡ true → after_last is_empty (value ∷ rest) ≡ after_last is_empty rest
 after_last-later value rest any =
     let cut = last_cut_of is_empty rest any in

@@ -1,4 +1,4 @@
--- The identity of a template, by whether the name with its default instance is one.
+-- The identity of a template, by whether the name with its default instance is a name.
 use Rattle.std.proofs.Common.{◌≡◌, refl, ℕ, true, false, List, Option, Some, None, is_none, ap}
 use Rattle.std.proofs.lemmas.Bool.{false_from_ne_true}
 use Rattle.unit_name.specs.declared.kind.Kind.TheVariants.{Template}

@@ -24,12 +24,12 @@ unfolding ends_with
 ends_with-some b [] ends = absurd (cc)
 ends_with-some b (x ∷ xs) ends = omega arith
 
--- a text in front of a text in front of lines
+-- a text put before a text put before lines
 pub onto_next-onto_next : (a b : List ℕ) (lines : List (List ℕ)) → onto_next a (onto_next b lines) ≡ onto_next (a ++ b) lines
 onto_next-onto_next a b [] = refl
 onto_next-onto_next a b (line ∷ lines) = ap (λ text. text ∷ lines) (sym (append_assoc a b line))
 
--- whether a line is too long where n bytes stand before the first
+-- whether a line is too long if n bytes are before the first
 abbrev pub is_long_after : ℕ → List (List ℕ) → Bool
 is_long_after n [] = nat_lt 1048576 n
 is_long_after n (line ∷ lines) = nat_lt 1048576 (n + length line) || list_any is_too_long lines
@@ -54,7 +54,7 @@ long-beyond : (n : ℕ) (lines : List (List ℕ)) → 1048576 < n → is_long_af
 long-beyond n [] over = lt-ltb 1048576 n over
 long-beyond n (line ∷ lines) over = ap (λ t. t || list_any is_too_long lines) (lt-ltb 1048576 (n + length line) (omega arith))
 
--- a line that is carried takes as many bytes, the space for the backslash
+-- a line that is carried has the same number of bytes, since a space replaces the backslash
 length-carried : (line : List ℕ) → 0 < length line → length (take (length line - 1) line ++ 32 ∷ []) ≡ length line
 length-carried line some = omega (arith, length-append (take (length line - 1) line) (32 ∷ []), length-take-le (length line - 1) line (omega arith))
 

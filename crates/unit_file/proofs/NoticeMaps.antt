@@ -22,7 +22,7 @@ use Rattle.unit_file.specs.Notices.{notice_line, line_cmp, NoticeMap, AreAtTheir
 abbrev pub Entries : Type 0
 Entries = List (List ℕ × Notice)
 
--- what a test of keys finds among entries
+-- the entry that a test of keys finds
 abbrev entry_at : Entries → List ℕ → Option Notice
 entry_at es q = lookup (is_at (line_cmp q)) es
 
@@ -36,7 +36,7 @@ get_entry es q = map.get-from_entries nat_list_cmp_total es q ∙ find_entry es 
 pub same_notices : (notices others : NoticeMap) → ((q : List ℕ) → map.get notices q ≡ map.get others q) → notices ≡ others
 same_notices = map.same_map nat_list_cmp_total exact_bytes
 
--- entries that differ at one line make maps that differ there
+-- entries that differ at one line give maps that differ there
 pub one_set : (es fs : Entries) (line : List ℕ) (notice : Notice) → ((q : List ℕ) → entry_at fs q ≡ cond (is_at (line_cmp line) q) (Some notice) (entry_at es q)) → map.from_entries {R = line_cmp} fs ≡ map.insert (map.from_entries es) line notice
 one_set es fs line notice h = same_notices _ _ (λ q.
     get_entry fs q ∙ h q ∙ ap (λ b. cond b (Some notice) (entry_at es q)) ((eq_by_cmp_equiv nat_list_cmp_total).symm line q)
@@ -63,7 +63,7 @@ unfolding IsStrictlySortedBy
 sorted [] h = tt
 sorted (e ∷ es) h = both _ _ (below e.0 es h.0) (sorted es h.1)
 
--- the entries of the map that entries in order make are these
+-- a map that is built from entries in order has these entries
 pub entries_again : (es : Entries) → IsStrictlySortedBy line_cmp (keys_of es) → map.entries (map.from_entries {R = line_cmp} es) ≡ es
 entries_again es h =
     ap map.entries (same_notices _ _ (λ q. map.get-from_entries nat_list_cmp_total es q ∙ sym (map.get-from_sorted line_cmp es q (sorted es h))))
@@ -103,7 +103,7 @@ find-append (e ∷ es) fs q = elim (eq_by_cmp line_cmp q e.0) as (λ b. cond b (
   | false ↦ find-append es fs q
 ]
 
--- what two maps of notices, joined, have at a line
+-- the notice of two joined maps at a line
 pub get-joined : (notices others : NoticeMap) (q : List ℕ) → map.get (joined notices others) q ≡ option_or (map.get others q) (map.get notices q)
 unfolding joined
 get-joined notices others q =
@@ -131,7 +131,7 @@ joined-joined one two three = same_notices _ _ (λ q.
     ∙ or_or (map.get three q) (map.get two q) (map.get one q)
     ∙ sym (get-joined one (joined two three) q ∙ ap (λ o. option_or o (map.get one q)) (get-joined two three q)))
 
--- joining one notice more is adding it to what is joined
+-- joining one more notice is the same as adding it to the joined notices
 pub joined-with_notice : (notices others : NoticeMap) (notice : Notice) → joined notices (with_notice others notice) ≡ with_notice (joined notices others) notice
 joined-with_notice notices others notice = same_notices _ _ (λ q.
     get-joined notices (with_notice others notice) q ∙ ap (λ o. option_or o (map.get notices q)) (map.get-insert nat_list_cmp_total others (notice_line notice) notice q)
@@ -152,7 +152,7 @@ is_equal Less h = absurd (false≢true h)
 is_equal Equal h = refl
 is_equal Greater h = absurd (false≢true h)
 
--- what two more notices make of a map at a line
+-- the notice at a line after two more notices are added to a map
 get-two : (notices : NoticeMap) (one other : Notice) (q : List ℕ) → map.get (with_notice (with_notice notices one) other) q ≡ cond (eq_by_cmp line_cmp q (notice_line other)) (Some other) (cond (eq_by_cmp line_cmp q (notice_line one)) (Some one) (map.get notices q))
 get-two notices one other q =
     map.get-insert nat_list_cmp_total (with_notice notices one) (notice_line other) other q
@@ -182,12 +182,12 @@ added_once notices notice = same_notices _ _ (λ q.
     again true o = refl
     again false o = refl
 
--- a line below all of others is none of them
+-- a line below all of the others isn't one of them
 none_below : (q : List ℕ) (es : Entries) → T (below_all line_cmp q es) → find line_cmp q es ≡ None
 none_below q [] h = refl
 none_below q (e ∷ es) h = ap (λ b. cond b (Some e.1) (find line_cmp q es)) (ap is_eq (less (line_cmp q e.0) (first _ _ h))) ∙ none_below q es (second _ _ h)
 
--- Entries in order are still to be added to some notices, which then are these.
+-- Adding entries, which are in order, to some notices gives all.
 pub record AreToBeAdded (left : Entries) (notices all : NoticeMap) : Type 0 where
   pub lines : All HasItsLine left
   pub order : T (is_sorted line_cmp left)

@@ -1,4 +1,4 @@
--- The lines of bytes, as `bstr` gives them and as std says them.
+-- The lines of bytes, as `bstr` returns them and as std defines them.
 use Rattle.std.proofs.Common.{◌≡◌, ◌≢◌, refl, ℕ, zero, suc, ◌-◌, ◌<◌, ◌≤◌, ◌==◌, ◌&&◌, Bool, true, false, nat_lt, cond, List, [], ◌∷◌, ◌++◌, length, get_or, take, map, sym, ap, ◌∙◌, arith, append_assoc, length-append, slice_index, inr}
 use Rattle.std.specs.List.{list_any, slice_split, onto_first}
 use Rattle.std.specs.Str.Lines.{lines, lines_of_parts, strip_carriage_return}
@@ -12,7 +12,7 @@ use Rattle.unit_name.proofs.Cuts.{first_cut_of}
 abbrev pub is_lf : ℕ → Bool
 is_lf b = b == 10
 
--- a split at a LF that stands between two lists
+-- a split at a LF between two lists
 onto_first-append : {X : Type 0} (x : X) (part : List X) (parts others : List (List X)) → onto_first x ((part ∷ parts) ++ others) ≡ onto_first x (part ∷ parts) ++ others
 onto_first-append x part parts others = refl
 
@@ -42,7 +42,7 @@ slice_split-seam (x ∷ xs) ys =
           ap (onto_first x) (slice_split-seam xs ys) ∙ rw first.is refl
     ] refl
 
--- where none is a LF there is one part
+-- if no byte is a LF, there is one part
 pub slice_split-none : (xs : List ℕ) → list_any is_lf xs ≡ false → slice_split is_lf xs ≡ xs ∷ []
 slice_split-none [] none = refl
 slice_split-none (x ∷ xs) none =
@@ -89,7 +89,7 @@ without_terminator-ended line =
     let front : take (length ended - 1) ended ≡ line = ap (λ n. take n ended) len ∙ take_at line (10 ∷ []) (length line) refl in
     rw (some, last) (ap no_cr front ∙ no_cr-strip line)
 
--- what follows the last LF is a line where there is something
+-- what follows the last LF is a line if it isn't empty
 pub lines_of_parts-last : (part : List ℕ) → 0 < length part → lines_of_parts (part ∷ []) ≡ part ∷ []
 lines_of_parts-last part some = let full = ne_eqb (length part) 0 (λ none. absurd (omega arith)) in rw full refl
 

@@ -1,4 +1,4 @@
--- A file whose last byte is a CR, and the same file with a LF behind it.
+-- A file whose last byte is a CR, and the same file followed by a LF.
 use Rattle.std.proofs.Common.{◌≡◌, refl, ℕ, ◌+◌, ◌-◌, ◌<◌, ◌==◌, ◌||◌, Bool, true, false, List, [], ◌∷◌, ◌++◌, length, take, drop, map, sym, ap, ◌∙◌, arith, append_assoc, length-append, slice_index}
 use Rattle.std.specs.List.{list_any, prefix_len, suffix_len}
 use Rattle.std.specs.Str.Lines.{lines, lines_of_parts, strip_carriage_return}
@@ -43,7 +43,7 @@ stripped-push text =
           ap without_trailing back ∙ without_trailing-push (without_leading text)
     ] refl
 
--- Joined lines whose last differs in what is stripped.
+-- Joined lines, of which the last differs in what is stripped.
 onto_next-nil : (lines : List (List ℕ)) → 0 < length lines → onto_next [] lines ≡ lines
 onto_next-nil [] some = absurd (omega arith)
 onto_next-nil (line ∷ lines) some = refl
@@ -80,7 +80,7 @@ module _ (a b : List ℕ) (a_ends : ends_with 92 a ≡ false) (b_ends : ends_wit
   joined_alike lines =
       sym (ap (map stripped) (onto_next-nil (joined (lines ++ a ∷ [])) (joined-push_some lines a))) ∙ carried_alike lines [] ∙ ap (map stripped) (onto_next-nil (joined (lines ++ b ∷ [])) (joined-push_some lines b))
 
--- The last line with a CR behind it, and with a CR and a LF.
+-- The last line followed by a CR, and by a CR and a LF.
 strip-push : (line : List ℕ) → strip_carriage_return (line ++ 13 ∷ []) ≡ line
 strip-push line =
     let ended = line ++ 13 ∷ [] in

@@ -8,7 +8,7 @@ use Rattle.unit_file.specs.Reading.{has_long_line}
 use Rattle.unit_file.proofs.PhysicalLines.{is_lf, has_first}
 use Rattle.unit_file.proofs.Joining.{kept, joined-comment, is_long_after, long-none, long-end, long-carried, long-ended}
 
--- how many bytes lists have together
+-- the number of bytes of lists together
 abbrev total : List (List ℕ) → ℕ
 total [] = 0
 total (line ∷ rest) = length line + total rest

@@ -1,4 +1,5 @@
--- The identity of a unit, whose instance the words of its lists are expanded with: systemd.unit(5), "DefaultInstance=".
+-- The identity of a unit, with which the words of its lists are expanded: systemd.unit(5),
+-- "DefaultInstance=".
 use Rattle.std.specs.Prelude.{ℕ, Bool, true, false, not, ◌&&◌, if◌then◌else◌, List, Option, Some, None}
 use Rattle.unit_name.specs.declared.kind.Kind.{Kind}
 use Rattle.unit_name.specs.declared.kind.Kind.TheVariants.{Plain, Template, Instance}
@@ -11,8 +12,8 @@ is_template Plain = false
 is_template Template = true
 is_template Instance = false
 
--- A template whose default instance isn't empty and makes a valid name has the identity of that instance. Any
--- other unit is its own identity.
+-- A template whose default instance isn't empty and makes a valid name has that instance as its
+-- identity. Any other unit is its own identity.
 abbrev pub identity_of : List ℕ → Option (List ℕ) → List ℕ
 identity_of name None = name
 identity_of name (Some default) =

@@ -10,8 +10,8 @@ use Prim.Native.Char.{code}
 abbrev pub is_empty : List ℕ → Bool
 is_empty text = length text == 0
 
--- [NAME] opens the section NAME, whatever its bytes. Any other line that begins with [ opens none, and gives no
--- value to a key that counts.
+-- [NAME] opens the section NAME, whatever its bytes. Any other line that begins with [ doesn't open
+-- a section, and gives no value to any of the keys below.
 unfoldable pub opens_section : List ℕ → Bool
 opens_section line = begins_with (code "[") line && ends_with (code "]") line
 
@@ -32,7 +32,7 @@ is_equals_sign b = b == code "="
 unfoldable pub assignment : List ℕ → Option (List ℕ × List ℕ)
 assignment line = option_map (λ at. (stripped (take at line), stripped (drop (at + 1) line))) (position is_equals_sign line)
 
--- the value that a line gives to a key
+-- the value that a line assigns to a key
 unfoldable pub value_of : List ℕ → List ℕ → Option (List ℕ)
 value_of key line = option_and_then (λ pair. if bytes_eq pair.0 key then Some pair.1 else None) (assignment line)
 
@@ -52,7 +52,7 @@ list_of values = flat_map words (after_last is_empty values)
 abbrev pub last_value : List (List ℕ) → Option (List ℕ)
 last_value values = option_and_then (λ value. if is_empty value then None else Some value) (last_or None values)
 
--- What the logical lines of a file ask for. An empty value of Also= empties nothing.
+-- What the logical lines of a file ask for. An empty value of Also= doesn't empty its list.
 unfoldable pub install_text : List (List ℕ) → InstallText
 install_text lines = record {
   wanted_by = list_of (values (codes "WantedBy") lines);

@@ -13,7 +13,7 @@ abbrev pub are_whole_lines : List ℕ → Bool
 are_whole_lines [] = true
 are_whole_lines (b ∷ bytes) = ends_with (code "\n") (b ∷ bytes)
 
--- whether the last line, comments apart, ends in a backslash, and so waits for another
+-- whether the last line that isn't a comment ends in a backslash, and so continues on another
 abbrev pub waits : List ℕ → Bool
 waits bytes = option_map_or (ends_with (code "\\")) (last_or None (filter (λ line. not (is_comment line)) (lines bytes))) false
 
@@ -21,25 +21,26 @@ waits bytes = option_map_or (ends_with (code "\\")) (last_or None (filter (λ li
 abbrev pub begins_with_section : List ℕ → Bool
 begins_with_section bytes = option_map_or opens_section (slice_get (logical_lines bytes) 0) false
 
--- Two files ask for the same, and have a line that is too long or not.
+-- Two files ask for the same, and both or neither have a line that is too long.
 pub record AreReadAlike (one other : List ℕ) : Type 0 where
   pub text : text_of one ≡ text_of other
   pub long : has_long_line one ≡ has_long_line other
 
--- A file may end in a LF or not, unless its last byte is a CR,
+-- A LF at the end of a file makes no difference, unless the byte before it is a CR,
 abbrev pub LastLineFeed : Type 0
 LastLineFeed = (bytes : List ℕ) → ends_with (code "\r") bytes ≡ false → AreReadAlike (bytes ++ codes "\n") bytes
 
--- and even then, the limit of a line apart, unless a backslash stands before the CR: with the LF it ends its line.
+-- and even then (except for the limit on a line), unless a backslash is before the CR: with the LF,
+-- the backslash ends its line.
 abbrev pub LastReturn : Type 0
 LastReturn = (bytes : List ℕ) → ends_with (code "\\") bytes ≡ false → text_of (bytes ++ codes "\r\n") ≡ text_of (bytes ++ codes "\r")
 
--- A comment says nothing wherever its line stands, a line that continues before it or not.
+-- A comment has no effect wherever its line is, whether or not the line before it continues.
 abbrev pub CommentsSayNothing : Type 0
 CommentsSayNothing = (before comment after : List ℕ) → are_whole_lines before ≡ true → is_comment comment ≡ true → list_any (λ b. b == code "\n") comment ≡ false → AreReadAlike (before ++ (comment ++ codes "\n" ++ after)) (before ++ after)
 
--- In two files, one after the other, each key has the values of the first and then those of the second, where
--- neither a line nor a section of the first goes on in the second.
+-- In two files that are concatenated, each key has the values of the first and then those of the
+-- second, if neither a line nor a section of the first continues in the second.
 abbrev pub ValuesAddUp : Type 0
 ValuesAddUp = (one other key : List ℕ) → are_whole_lines one ≡ true → waits one ≡ false → begins_with_section other ≡ true → values key (logical_lines (one ++ other)) ≡ values key (logical_lines one) ++ values key (logical_lines other)
 

@@ -26,17 +26,17 @@ without_trailing text = take (length text - suffix_len is_blank text) text
 unfoldable pub stripped : List ℕ → List ℕ
 stripped text = without_trailing (without_leading text)
 
--- "Empty lines and lines starting with # or ; are ignored": blanks may stand before these.
+-- "Empty lines and lines starting with # or ; are ignored": blanks may be before these.
 unfoldable pub is_comment : List ℕ → Bool
 is_comment line = option_map_or (λ b. b == code "#" || b == code ";") (find (λ b. not (is_blank b)) line) false
 
--- what stands before a line, in front of the first of these; by itself where there is none
+-- a text put before the first of these lines; as a line of its own if there are none
 abbrev pub onto_next : List ℕ → List (List ℕ) → List (List ℕ)
 onto_next text [] = text ∷ []
 onto_next text (next ∷ more) = (text ++ next) ∷ more
 
--- "Lines ending in a backslash are concatenated with the following non-comment line while reading and the
--- backslash is replaced by a space character."
+-- "Lines ending in a backslash are concatenated with the following non-comment line while reading
+-- and the backslash is replaced by a space character."
 abbrev pub is_continued : List ℕ → Bool
 is_continued line = ends_with (code "\\") line
 
@@ -49,8 +49,9 @@ joined (line ∷ rest) =
     if is_continued line then onto_next (without_last line ++ codes " ") (joined rest)
     else line ∷ joined rest
 
--- The lines as they are joined. A line ends at LF, and one CR before that belongs to its end; what follows the
--- last LF is a line where there is something (std's `lines`). Comments are dropped wherever they stand.
+-- The lines as they are joined. A line ends at LF, and one CR before that is part of the line's
+-- end; what follows the last LF is a line if it isn't empty (std's `lines`). Comments are dropped
+-- wherever they are.
 abbrev pub joined_lines : List ℕ → List (List ℕ)
 joined_lines bytes = joined (filter (λ line. not (is_comment line)) (lines bytes))
 

@@ -1,4 +1,4 @@
--- What is reported of a word that was skipped, and the notices of an operation.
+-- What is reported about a word that was skipped, and the notices of an operation.
 use Rattle.std.specs.Prelude.{◌≡◌, ℕ, List, ◌++◌, All, codes}
 use Rattle.std.specs.List.{concat}
 use Rattle.std.specs.Ordering.{nat_cmp}
@@ -32,7 +32,7 @@ reason_text reasons.IsAlias = codes "is an alias"
 abbrev pub notice_line : Notice → List ℕ
 notice_line notice = codes "  ! " ++ notice.unit ++ codes ": " ++ key_text notice.key ++ codes " " ++ notice.word ++ codes ": " ++ reason_text notice.reason ++ codes "\n"
 
--- Notices by their lines, in byte order of these.
+-- Notices keyed by their lines, in byte order of the lines.
 abbrev pub line_cmp : List ℕ → List ℕ → Ordering
 line_cmp = slice_cmp nat_cmp
 
@@ -43,11 +43,11 @@ NoticeMap = map.FinMap line_cmp Notice
 abbrev pub AreAtTheirLines : NoticeMap → Type 0
 AreAtTheirLines notices = All (λ e. e.0 ≡ notice_line e.1) (map.entries notices)
 
--- notices with one more, instead of one that has the same line
+-- notices with one more, which replaces one that has the same line
 abbrev pub with_notice : NoticeMap → Notice → NoticeMap
 with_notice notices notice = map.insert notices (notice_line notice) notice
 
--- The notices of both; at a line that both have, the others' notice.
+-- The notices of both; for a line that both have, the others' notice.
 unfoldable pub joined : NoticeMap → NoticeMap → NoticeMap
 joined notices others = map.from_entries (map.entries others ++ map.entries notices)
 

@@ -1,5 +1,6 @@
--- What one logical line changes in what was read of the lines before it. The contracts of the reader's own
--- functions cite this; that the changes add up to what a file asks for is proved, and need not be believed.
+-- How one logical line changes what was read from the lines before it. The contracts of the
+-- reader's own functions refer to this; it is proved that the changes add up to what a file asks
+-- for, so this need not be trusted.
 use Rattle.std.specs.Prelude.{ℕ, Bool, if◌then◌else◌, List, [], ◌++◌, Option, Some, None, codes}
 use Rattle.std.specs.Str.{bytes_eq}
 use Rattle.unit_file.specs.declared.install.InstallText.{InstallText}

@@ -5,11 +5,13 @@ use crate::install::InstallText;
 use std::alloc::{AllocError, Global};
 use unit_name::{InstanceError, Kind, UnitName};
 
-/// The name with which the specifiers in the words of a unit's lists are expanded. For a template whose
-/// `DefaultInstance=` isn't empty and makes a valid name, it is the name of that instance; for any other unit, and for a
-/// template whose value makes none, it is the unit's own name. Specifiers in the value aren't expanded.
+/// The name that is used to expand the specifiers in the words of a unit's lists. For a template
+/// whose `DefaultInstance=` isn't empty and makes a valid name, it is the name of that instance;
+/// for any other unit, and for a template whose value doesn't make one, it is the unit's own name.
+/// Specifiers in the value aren't expanded.
 ///
-/// A value that makes no valid name is no error: the only one is `AllocError`, where memory runs out.
+/// A value that doesn't make a valid name is no error: the only error is `AllocError`, if memory
+/// runs out.
 ///
 /// systemd.unit(5), "[Install] Section Options", `DefaultInstance=`.
 pub fn identity(alloc: Global, unit: &UnitName, text: &InstallText) -> Result<UnitName, AllocError>
@@ -21,7 +23,7 @@ pub fn identity(alloc: Global, unit: &UnitName, text: &InstallText) -> Result<Un
     }
 }
 
-/// The name with which the specifiers are expanded, where the unit has this default instance.
+/// The name that is used to expand the specifiers, if the unit has this default instance.
 fn identity_with(alloc: Global, unit: &UnitName, default: &[u8]) -> Result<UnitName, AllocError>
     ensures { IfOk result (λ name. name ≡ identity_of unit.now (Some default.now)) }
 {

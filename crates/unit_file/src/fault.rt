@@ -4,7 +4,8 @@ ghost use Rattle.unit_file.specs.declared.fault.InstallError.TheVariants as erro
 use std::alloc::AllocError;
 use thiserror::Error;
 
-/// How many bytes a logical line may have, as it is joined and before it is stripped: systemd.syntax(7), "currently 1 MB".
+/// The most bytes that a logical line may have, as it is joined and before it is stripped:
+/// systemd.syntax(7), "currently 1 MB".
 pub const MAX_LINE: usize = 1_048_576;
 
 /// What is wrong with the bytes of a unit file.
@@ -15,7 +16,7 @@ pub enum InstallFault {
     LineTooLong,
 }
 
-/// Why a unit file isn't read.
+/// Why a unit file can't be read.
 #[derive(Clone, Copy, Debug, PartialEq, Eq, Hash, Error)]
 pub enum InstallError {
     #[error("{0}")]

@@ -5,8 +5,8 @@ use crate::line::{assignment, opens_section, stripped};
 use crate::word::{Word, Words};
 use std::alloc::{AllocError, Global};
 
-/// What the [Install] section of a unit file asks for. Its words are as they are written: no
-/// specifier is expanded, and it isn't tested whether a word is a unit's name.
+/// What the [Install] section of a unit file asks for. Its words are as they are written:
+/// specifiers aren't expanded, and it isn't checked whether a word is a unit's name.
 ///
 /// systemd.unit(5), "[Install] Section Options".
 #[derive(Clone, Debug, Drop)]
@@ -43,15 +43,15 @@ impl InstallText {
         }
     }
 
-    /// An equal value. The only error is that memory runs out.
+    /// An equal copy. The only error is running out of memory.
     pub fn copy(&self) -> Result<InstallText, AllocError>
         ensures { IfOk result (λ text. text ≡ self.now) }
     {
         self.clone()
     }
 
-    /// Takes the next logical line, and answers whether the lines after it are in [Install]. `inside`
-    /// says whether this one is.
+    /// Takes the next logical line, and returns whether the lines after it are in [Install].
+    /// `inside` says whether this one is.
     #[tactic(auto, unfolding(crate::specs::Steps::inside_after, crate::specs::Steps::text_after))]
     pub(crate) fn take_line(
         &mut self,
@@ -74,7 +74,7 @@ impl InstallText {
         Ok(inside)
     }
 
-    /// Takes a line `KEY=VALUE` of [Install]. A key that doesn't count changes nothing.
+    /// Takes a line `KEY=VALUE` of [Install]. A key that isn't one of the six changes nothing.
     #[tactic(auto, unfolding(crate::specs::Steps::with_assignment))]
     fn assign(&mut self, alloc: Global, key: &[u8], value: &[u8]) -> Result<(), AllocError>
         ensures { OnOk result (self.new ≡ with_assignment self.old key.now value.now) }

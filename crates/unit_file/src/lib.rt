@@ -1,4 +1,5 @@
-//! Unit files: systemd.syntax(7), and the [Install] section of systemd.unit(5). Notices say which of its words were skipped.
+//! Unit files: systemd.syntax(7), and the [Install] section of systemd.unit(5). Notices say which
+//! of its words were skipped.
 #![tactic(auto)]
 
 mod default_instance;

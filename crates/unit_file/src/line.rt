@@ -1,4 +1,4 @@
-//! One line: the blanks at its ends, and whether it is a comment, opens a section or gives a key a value.
+//! One line: the blanks at its ends, and whether it is a comment, opens a section or sets a key.
 //!
 //! systemd.syntax(7), "Introduction".
 ghost use Rattle.std.specs.Prelude.{◌≡◌, ◌<◌, true, false, not, length, IsTrue, MatchOption, IfSome, Some, None};
@@ -81,7 +81,7 @@ fn ends_with(text: &[u8], b: u8) -> bool
     }
 }
 
-/// What stands before the backslash at the end of a line that continues on the next one.
+/// What is before the backslash at the end of a line that continues on the next one.
 pub(crate) fn before_backslash(line: &[u8]) -> Option<&[u8]>
     ensures { MatchOption result (is_continued line.now ≡ false) (λ front. (is_continued line.now ≡ true) × (front.now ≡ without_last line.now)) }
 {

@@ -14,9 +14,9 @@ pub fn is_template(name: &UnitName) -> bool
     }
 }
 
-/// The name of the link to a unit in the `.wants`, `.requires` or `.upholds` directory of another, by
-/// the unit's identity (`identity`): its own name; but if it is a template and the other unit is
-/// none, the name of its default instance. `None` if it has no default instance.
+/// The name of the link to a unit in the `.wants`, `.requires` or `.upholds` directory of another
+/// unit, given the unit's identity (`identity`): its own name; but if it is a template and the
+/// other unit isn't, the name of its default instance. `None` if it has no default instance.
 ///
 /// systemd.unit(5), "[Install] Section Options", `WantedBy=` and `DefaultInstance=`.
 #[tactic(auto, unfolding(crate::specs::Listed::listed_name))]

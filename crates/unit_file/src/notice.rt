@@ -38,9 +38,9 @@ impl NoticeKey {
 /// Why a word was skipped.
 #[derive(Clone, Copy, Debug, PartialEq, Eq)]
 pub enum Reason {
-    /// It has a `%` that begins no specifier of unit names: systemd.unit(5), "Specifiers".
+    /// It has a `%` that doesn't begin a specifier of unit names: systemd.unit(5), "Specifiers".
     BadSpecifier,
-    /// It is no valid unit name, once its specifiers are expanded.
+    /// It isn't a valid unit name after its specifiers are expanded.
     BadName,
     /// It is a valid name that the unit can't have as an alias: systemd.unit(5), "Alias=".
     BadAlias,
@@ -87,7 +87,7 @@ pub struct Notice {
 impl Notice {
     ghost use Rattle.unit_file.specs.Notices.{notice_line};
 
-    /// An equal notice.
+    /// An equal copy.
     pub fn copy(&self) -> Result<Notice, AllocError>
         ensures { IfOk result (λ notice. notice ≡ self.now) }
     {

@@ -6,7 +6,7 @@ use std::alloc::{AllocError, Global};
 use std::cmp::Ordering;
 use std::marker::Model;
 
-/// The line that tells a notice. Contracts see its text.
+/// The line that reports a notice. Contracts see its text.
 #[derive(Debug, Drop)]
 pub(crate) struct NoticeLine {
     text: Vec<u8>,
@@ -37,7 +37,7 @@ impl NoticeLine {
         &self.text
     }
 
-    /// An equal line.
+    /// An equal copy.
     pub fn copy(&self) -> Result<NoticeLine, AllocError>
         ensures { IfOk result (λ line. line ≡ self.now) }
     {

@@ -9,8 +9,8 @@ use std::alloc::{AllocError, Global};
 use std::collections::{BTreeMap, btree_map};
 use std::marker::Model;
 
-/// Notices in byte order of their lines, each once, whatever the order in which they were added. Contracts see the finite
-/// map from lines to notices.
+/// Notices in byte order of their lines, each once, whatever the order in which they were added.
+/// Contracts see the finite map from lines to notices.
 #[derive(Debug, Drop)]
 pub struct Notices {
     by_line: BTreeMap<NoticeLine, Notice>,
@@ -49,7 +49,7 @@ impl Notices {
         self.by_line.len()
     }
 
-    /// Whether there is none.
+    /// Whether there are no notices.
     pub fn is_empty(&self) -> bool
         ensures { result ≡ (map.len self.now == 0) }
     {
@@ -66,7 +66,8 @@ impl Notices {
         }
     }
 
-    /// Adds a notice, in place of one that has the same line. Where memory runs out, nothing has changed.
+    /// Adds a notice; it replaces one that has the same line. If memory runs out, nothing has
+    /// changed.
     pub fn add(&mut self, notice: Notice) -> Result<(), AllocError>
         ensures ok { OnOk result (self.new ≡ with_notice self.old notice) }
         ensures err { OnErr result (self.new ≡ self.old) }
@@ -84,9 +85,20 @@ impl Notices {
         Ok(())
     }
 
-    /// Adds all of the others, each in place of one that has the same line. Where memory runs out, some of them may have
-    /// been added.
+    /// Adds all of the others; each replaces one that has the same line. If memory runs out,
+    /// nothing has changed.
     pub fn add_all(&mut self, others: &Notices) -> Result<(), AllocError>
+        ensures ok { OnOk result (self.new ≡ joined self.old others.now) }
+        ensures err { OnErr result (self.new ≡ self.old) }
+    {
+        let mut all = self.copy()?;
+        all.insert_all(others)?;
+        *self = all;
+        Ok(())
+    }
+
+    /// The same, but if memory runs out, some of them may have been added.
+    fn insert_all(&mut self, others: &Notices) -> Result<(), AllocError>
         ensures { OnOk result (self.new ≡ joined self.old others.now) }
     {
         for (line, notice) in others.by_line.iter() {
@@ -95,27 +107,37 @@ impl Notices {
         Ok(())
     }
 
-    /// Equal notices.
+    /// An equal copy.
     pub fn copy(&self) -> Result<Notices, AllocError>
         ensures { IfOk result (λ notices. notices ≡ self.now) }
     {
         let mut copy = Notices::none(self.alloc);
-        copy.add_all(self)?;
+        copy.insert_all(self)?;
         Ok(copy)
     }
 
-    /// Appends the lines, in byte order. Where memory runs out, some of them may have been appended.
+    /// Appends the lines, in byte order. If memory runs out, nothing has been appended.
     pub fn push_lines(&self, out: &mut Vec<u8>) -> Result<(), AllocError>
-        ensures { OnOk result (out.new.items ≡ out.old.items ++ notice_lines self.now) }
+        ensures ok { OnOk result (out.new.items ≡ out.old.items ++ notice_lines self.now) }
+        ensures err { OnErr result (out.new.items ≡ out.old.items) }
     {
+        let lines = self.lines()?;
+        out.extend_from_slice(&lines)
+    }
+
+    fn lines(&self) -> Result<Vec<u8>, AllocError>
+        ensures { IfOk result (λ lines. lines.items ≡ notice_lines self.now) }
+    {
+        let mut out = Vec::new(self.alloc);
         for line in self.by_line.keys() {
             out.extend_from_slice(line.text())?;
         }
-        Ok(())
+        Ok(out)
     }
 }
 
-/// The notices that are still to come, in byte order of their lines. Contracts see their list.
+/// The notices that haven't been returned yet, in byte order of their lines. Contracts see their
+/// list.
 #[derive(Drop)]
 pub struct NoticesIter<'a> {
     inner: btree_map::Values<'a, NoticeLine, Notice>,

@@ -8,18 +8,19 @@ use crate::line::{before_backslash, is_comment};
 use bstr::ByteSlice;
 use std::alloc::{AllocError, Global};
 
-/// Reads what the [Install] section of a unit file asks for. Any bytes are a unit file: a line that says nothing that counts
-/// is skipped, and no line of over `MAX_LINE` bytes may be in it.
+/// Reads what the [Install] section of a unit file asks for. Any bytes are a valid unit file,
+/// unless a line has over `MAX_LINE` bytes; a line that has no meaning is skipped.
 ///
 /// Errors:
-/// - `Bad(LineTooLong)`: a logical line, comments apart, has over `MAX_LINE` bytes once it is joined and before it is
-///   stripped. The whole file is looked through for such a line first, before memory is asked for.
-/// - `OutOfMemory`: there is no memory for the words, or for a line that is joined.
+/// - `Bad(LineTooLong)`: a logical line that isn't a comment has over `MAX_LINE` bytes after it is
+///   joined and before it is stripped. The whole file is searched for such a line first, before
+///   any memory is allocated.
+/// - `OutOfMemory`: memory runs out for the words, or for a line that is joined.
 ///
 /// systemd.syntax(7), "Introduction"; systemd.unit(5), "[Install] Section Options".
 pub fn install_of(alloc: Global, bytes: &[u8]) -> Result<InstallText, InstallError>
     ensures read { Reads bytes.now result }
-    // A file of no more bytes has no such line.
+    // A file with at most this number of bytes has no such line.
     ensures small { length bytes.now ≤ 1048576 → has_long_line bytes.now ≡ false }
 {
     if has_long_line(bytes) {
@@ -32,7 +33,8 @@ pub fn install_of(alloc: Global, bytes: &[u8]) -> Result<InstallText, InstallErr
 fn has_long_line(bytes: &[u8]) -> bool
     ensures { result ≡ has_long_line bytes.now }
 {
-    // How many bytes the lines before this one give to its logical line, because they end in a backslash.
+    // The number of bytes that the lines before this one add to its logical line, because they end
+    // in a backslash.
     let mut carried = 0;
     for line in bytes.lines() {
         if !is_comment(line) {
@@ -54,7 +56,8 @@ fn read_lines(alloc: Global, bytes: &[u8]) -> Result<InstallText, AllocError>
 {
     let mut text = InstallText::new(alloc);
     let mut inside = false;
-    // What the lines before this one give to its logical line, because they end in a backslash.
+    // The text that the lines before this one add to its logical line, because they end in a
+    // backslash.
     let mut carried = Vec::new(alloc);
     for line in bytes.lines() {
         if is_comment(line) {
@@ -73,7 +76,8 @@ fn read_lines(alloc: Global, bytes: &[u8]) -> Result<InstallText, AllocError>
     Ok(text)
 }
 
-/// Appends a line that continues on the next one: what stood before its backslash, and a space in place of that.
+/// Appends a line that continues on the next one: what is before its backslash, and a space instead
+/// of the backslash.
 fn carry(carried: &mut Vec<u8>, front: &[u8]) -> Result<(), AllocError>
     ensures { OnOk result (carried.new.items ≡ (carried.old.items ++ front.now) ++ codes " ") }
 {

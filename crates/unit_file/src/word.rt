@@ -7,7 +7,8 @@ use crate::line::is_blank;
 use std::alloc::{AllocError, Global};
 use std::marker::Model;
 
-/// Some bytes of a unit file as they are written: a word of a list, or the value of a key. Contracts see the bytes.
+/// Some bytes of a unit file as they are written: a word of a list, or the value of a key.
+/// Contracts see the bytes.
 #[derive(Clone, Debug, Drop)]
 pub struct Word {
     bytes: Vec<u8>,
@@ -22,7 +23,8 @@ impl Model for Word {
 }
 
 impl Word {
-    /// The word of these bytes, whatever they are. The only error is `AllocError`, where memory runs out.
+    /// The word of these bytes, whatever they are. The only error is `AllocError`, if memory runs
+    /// out.
     pub fn from_slice(alloc: Global, bytes: &[u8]) -> Result<Word, AllocError>
         ensures { IfOk result (λ word. word ≡ bytes.now) }
     {
@@ -31,14 +33,15 @@ impl Word {
         })
     }
 
-    /// The bytes as they are written. A word of a list has at least one, and no space, TAB or CR; a value may have any.
+    /// The bytes as they are written. A word of a list has at least one byte, and no space, TAB or
+    /// CR; a value may have any bytes.
     pub fn bytes(&self) -> &[u8]
         ensures { result.now ≡ self.now }
     {
         &self.bytes
     }
 
-    /// An equal word. The only error is `AllocError`, where memory runs out.
+    /// An equal copy. The only error is `AllocError`, if memory runs out.
     pub fn copy(&self) -> Result<Word, AllocError>
         ensures { IfOk result (λ word. word ≡ self.now) }
     {
@@ -46,7 +49,8 @@ impl Word {
     }
 }
 
-/// The words of a list of [Install] in the order of the file, repeated ones too. Contracts see them as a list.
+/// The words of a list of [Install] in the order of the file, repeated ones too. Contracts see them
+/// as a list.
 ///
 /// systemd.unit(5), "[Install] Section Options": "a space-separated list of unit names".
 #[derive(Clone, Debug, Drop)]
@@ -78,7 +82,7 @@ impl Words {
         &self.items
     }
 
-    /// Whether there is no word.
+    /// Whether there are no words.
     pub fn is_empty(&self) -> bool
         ensures { result ≡ (length self.now == 0) }
     {
@@ -92,7 +96,7 @@ impl Words {
         push_words(alloc, &mut self.items, value)
     }
 
-    /// Adds the words of a value, or empties the list where the value is empty.
+    /// Adds the words of a value, or empties the list if the value is empty.
     pub(crate) fn assign(&mut self, alloc: Global, value: &[u8]) -> Result<(), AllocError>
         ensures { OnOk result (self.new ≡ with_value self.old value.now) }
     {

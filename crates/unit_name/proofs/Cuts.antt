@@ -30,7 +30,7 @@ module _ {X : Type 0} (p : X → Bool) (d : X) where
   none_at : (xs : List X) (i : ℕ) → list_any p xs ≡ false → i < length xs → p (get_or xs i d) ≡ false
   none_at xs i none within = false_from_ne_true (p (get_or xs i d)) (λ here. let any = list_any_at p xs i d within here in cc)
 
-  -- what stands before the first is all where none passes
+  -- if none passes, the part before the first is the whole list
   pub before_first-none : (xs : List X) → list_any p xs ≡ false → before_first p xs ≡ xs
   before_first-none xs none =
       let all = position_or_len_is p xs (length xs) d (omega arith) (λ k below. none_at xs k none below) (λ below. absurd (omega arith)) in
@@ -105,7 +105,7 @@ module _ {X : Type 0} (p : X → Bool) where
         | false ↦ λ none. record { before = []; at = x; after = xs; is = refl; passes = or_first (p x) (list_any p xs) none any; none = none }
       ] refl
 
-  -- what stands after the last is all where none passes
+  -- if none passes, the part after the last is the whole list
   pub after_last-none : (d : X) (xs : List X) → list_any p xs ≡ false → after_last p xs ≡ xs
   after_last-none d xs none =
       let all = suffix_len_is (λ x. not (p x)) xs 0 d (omega arith) (λ k _ below. not_from_false _ (none_at p d xs k none below)) (λ below. absurd (omega arith)) in

@@ -14,13 +14,13 @@ use Rattle.unit_name.proofs.Names.{cond_none, IsRead, spelling_read}
 abbrev with_part : Parts → List ℕ → Parts
 with_part parts instance = record { prefix = parts.prefix; instance = Some instance; unit_type = parts.unit_type }
 
--- spell the name with that instance
+-- make up the name with that instance
 with_instance-spelling : (text instance : List ℕ) (parts : Parts) → IsRead text parts → with_instance text instance ≡ spelling (with_part parts instance)
 unfolding with_instance
 with_instance-spelling text instance parts read =
     rw (read.prefix, read.suffix) (ap (λ front. front ++ codes "." ++ type_text parts.unit_type) (append_assoc parts.prefix (codes "@") instance))
 
--- what is read of a name, and of the name with another instance
+-- what is read from a name, and from the name with another instance
 name_read : (text : List ℕ) (name : IsUnitName text) → IsRead text name.0
 name_read text name = spelling_read text name.0 name.1.spelled name.1.first_at
 
@@ -69,7 +69,7 @@ instance_named text instance name bytes short =
     let all = bytes_join (parts.prefix ++ (codes "@" ++ instance) ++ codes ".") (type_text parts.unit_type) (bytes_join (parts.prefix ++ (codes "@" ++ instance)) (codes ".") (bytes_join parts.prefix (codes "@" ++ instance) prefix.0 (bytes_join (codes "@") instance refl bytes)) refl) own.1 in
     (with_part parts instance, record { spelled = spelled; with_prefix = name.1.with_prefix; first_at = name.1.first_at; name_bytes = ap (list_all is_name_byte) spelled ∙ all; short = short })
 
--- with other bytes it is none
+-- with other bytes it isn't a name
 pub instance_bytes : (text instance : List ℕ) → IsUnitName (with_instance text instance) → list_all is_name_byte instance ≡ true
 unfolding with_instance
 instance_bytes text instance name =

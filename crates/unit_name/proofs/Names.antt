@@ -1,4 +1,4 @@
--- A text is a name where nothing is wrong with it; its parts are those that are read.
+-- A text is a name exactly if it has no fault; its parts are those that are read from it.
 use Rattle.std.proofs.Common.{◌≡◌, refl, ℕ, ◌≤◌, ◌==◌, Bool, true, false, not, nat_lt, List, [], ◌∷◌, ◌++◌, length, Option, Some, None, is_none, sym, ap, subst, ◌∙◌, arith, append_assoc, append-nil, cond}
 use Rattle.std.proofs.lemmas.Bool.{not-false, le-ltb, ltb-false, ne_eqb, eqb-true, eqb-false}
 use Rattle.std.specs.Str.{bytes_eq}
@@ -27,7 +27,7 @@ type_text-dots types.Timer = refl
 type_text-dots types.Slice = refl
 type_text-dots types.Scope = refl
 
--- a type is named by its text
+-- a type is determined by its text
 type_named-type_text : (unit_type : UnitType) → type_named (type_text unit_type) ≡ Some unit_type
 unfolding type_named type_text
 type_named-type_text types.Service = refl
@@ -61,7 +61,7 @@ prefix_of-seam text prefix instance stem none =
     let cut = first_seam is_at 0 prefix 64 instance none refl in
     (rw stem cut.1, rw (stem, cut.0) (ap (λ (rest : List ℕ). Some rest) cut.2))
 
--- the prefix and the instance of a stem that they spell
+-- the prefix and the instance of a stem that they make up
 stem_parts : (text prefix : List ℕ) (instance : Option (List ℕ)) → stem_of text ≡ prefix ++ instance_spelling instance → list_any is_at prefix ≡ false → (prefix_of text ≡ prefix) × (instance_of text ≡ instance)
 stem_parts text prefix None stem none = prefix_of-plain text prefix (stem ∙ append-nil prefix) none
 stem_parts text prefix (Some instance) stem none = prefix_of-seam text prefix instance stem none
@@ -69,7 +69,7 @@ stem_parts text prefix (Some instance) stem none = prefix_of-seam text prefix in
 spelling-seam : (parts : Parts) → spelling parts ≡ (parts.prefix ++ instance_spelling parts.instance) ++ 46 ∷ type_text parts.unit_type
 spelling-seam parts = append_assoc (parts.prefix ++ instance_spelling parts.instance) (46 ∷ []) (type_text parts.unit_type)
 
--- what is read from a text that parts spell
+-- what is read from a text that parts make up
 pub record IsRead (text : List ℕ) (parts : Parts) : Type 0 where
   pub prefix : prefix_of text ≡ parts.prefix
   pub instance : instance_of text ≡ parts.instance
@@ -84,7 +84,7 @@ spelling_read text parts spelled first_at =
     let front = stem_parts text parts.prefix parts.instance stem first_at in
     record { prefix = front.0; instance = front.1; suffix = suffix }
 
--- the parts that spell a text are those that are read from it
+-- the parts that make up a text are those that are read from it
 pub parts_read : (text : List ℕ) (parts : Parts) → IsSpelledBy text parts → (prefix_of text ≡ parts.prefix) × (instance_of text ≡ parts.instance) × (type_of text ≡ Some parts.unit_type)
 unfolding type_of
 parts_read text parts spelled =
@@ -100,7 +100,7 @@ parts_unique text parts others one other =
     let unit_type : parts.unit_type ≡ others.unit_type = let e = sym a.2 ∙ b.2 in cc in
     λ i. record { prefix = prefix i; instance = instance i; unit_type = unit_type i }
 
--- in a name nothing is wrong
+-- a name has no fault
 no_fault_in_parts : (text : List ℕ) (parts : Parts) → IsSpelledBy text parts → name_fault text ≡ None
 unfolding name_fault part_fault
 no_fault_in_parts text parts spelled =
@@ -112,7 +112,7 @@ no_fault_in_parts text parts spelled =
 pub no_fault_in_name : (text : List ℕ) → IsUnitName text → name_fault text ≡ None
 no_fault_in_name text name = no_fault_in_parts text name.0 name.1
 
--- What is read from a text where nothing is wrong spells it.
+-- The parts that are read from a text without a fault make it up.
 find_passes : {X : Type 0} (p : X → Bool) (xs : List X) (x : X) → find p xs ≡ Some x → p x ≡ true
 find_passes p [] x found = absurd (cc)
 find_passes p (y ∷ ys) x found =
@@ -161,7 +161,7 @@ stem_and_suffix text unit_type typed =
       | false ↦ λ none. absurd (let typeless = type_of-dotless text none in cc)
     ] refl
 
--- what is read from a text with nothing wrong spells it
+-- the parts that are read from a text without a fault make it up
 spelled_by_reading : (text : List ℕ) (unit_type : UnitType) → (length (prefix_of text) == 0) ≡ false → list_all is_name_byte text ≡ true → length text ≤ 255 → type_of text ≡ Some unit_type → IsUnitName text
 unfolding prefix_of instance_of type_of
 spelled_by_reading text unit_type with_prefix name_bytes short typed =
@@ -178,7 +178,7 @@ spelled_by_reading text unit_type with_prefix name_bytes short typed =
       },
     )
 
--- a chain of faults that gives none passes each test
+-- a chain of faults that returns none passes each test
 pub cond_none : {F : Type 0} (b : Bool) (fault : F) (rest : Option F) → cond b (Some fault) rest ≡ None → (b ≡ false) × (rest ≡ None)
 cond_none true fault rest e = absurd (cc)
 cond_none false fault rest e = (refl, e)
@@ -197,6 +197,6 @@ name_from_no_fault text none =
     let unit_type = some_of (type_of text) typed.0 in
     spelled_by_reading text unit_type.0 with_prefix.0 (not-false _ name_bytes.0) (ltb-false 255 (length text) short.0) unit_type.1
 
--- a text with a fault is no name
+-- a text with a fault isn't a name
 pub faulty : (text : List ℕ) (fault : NameFault) → name_fault text ≡ Some fault → ¬ IsUnitName text
 faulty text fault wrong = λ name. let right = no_fault_in_name text name in cc

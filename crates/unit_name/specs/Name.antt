@@ -1,4 +1,4 @@
--- The parts of a name, read from its text, and what is wrong with a text that is none.
+-- The parts of a name, read from its text, and what is wrong with a text that isn't a name.
 use Rattle.std.specs.Prelude.{◌≡◌, ℕ, Bool, not, ◌==◌, nat_lt, if◌then◌else◌, List, [], ◌∷◌, ◌++◌, length, Option, Some, None, is_none, Result, Ok, Err, codes}
 use Rattle.std.specs.List.{list_all, list_any, find, before_first, after_first, before_last, after_last}
 use Rattle.std.specs.Str.{bytes_eq}
@@ -75,13 +75,13 @@ instance_fault text instance =
     else if not (list_all is_name_byte instance) then Some instances.BadCharacter
     else None
 
--- What `parse` answers. Memory may run out.
+-- What `parse` returns. Memory may run out.
 abbrev pub Parses : List ℕ → Result (List ℕ) NameError → Type 0
 Parses text (Ok name) = (name ≡ text) × IsUnitName text
 Parses text (Err (errors.Bad fault)) = (name_fault text ≡ Some fault) × ¬ IsUnitName text
 Parses text (Err errors.OutOfMemory) = Unit {0}
 
--- What `with_instance` answers. Memory may run out.
+-- What `with_instance` returns. Memory may run out.
 abbrev pub TakesInstance : List ℕ → List ℕ → Result (List ℕ) InstanceError → Type 0
 TakesInstance text instance (Ok name) = (name ≡ with_instance text instance) × IsUnitName name
 TakesInstance text instance (Err (instance_errors.Bad fault)) = (instance_fault text instance ≡ Some fault) × ¬ IsUnitName (with_instance text instance)

@@ -35,13 +35,13 @@ kind_of None = Plain
 kind_of (Some []) = Template
 kind_of (Some (b ∷ bs)) = Instance
 
--- The parts of a name, as getty, tty1 and service in getty@tty1.service.
+-- The parts of a name, such as getty, tty1 and service in getty@tty1.service.
 pub record Parts : Type 0 where
   pub prefix : List ℕ
   pub instance : Option (List ℕ)
   pub unit_type : UnitType
 
--- an instance stands behind an @
+-- an instance follows an @
 abbrev pub instance_spelling : Option (List ℕ) → List ℕ
 instance_spelling None = []
 instance_spelling (Some text) = codes "@" ++ text
@@ -57,6 +57,6 @@ pub record IsSpelledBy (text : List ℕ) (parts : Parts) : Type 0 where
   pub name_bytes : list_all is_name_byte text ≡ true
   pub short : length text ≤ 255
 
--- A unit name is a text that some parts spell.
+-- A unit name is a text that some parts make up.
 abbrev pub IsUnitName : List ℕ → Type 0
 IsUnitName text = (parts : Parts) × IsSpelledBy text parts

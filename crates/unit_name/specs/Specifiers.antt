@@ -11,7 +11,7 @@ is_percent b = b == code "%"
 abbrev pub is_dash : ℕ → Bool
 is_dash b = b == code "-"
 
--- what a specifier stands for, by its letter
+-- the value of a specifier, by its letter
 unfoldable pub specifier : List ℕ → ℕ → Option (List ℕ)
 specifier name letter =
     if letter == code "i" then Some (unwrap_or (instance_of name) [])
@@ -22,11 +22,11 @@ specifier name letter =
     else if letter == code "%" then Some (codes "%")
     else None
 
--- a text before what the rest of a word stands for
+-- a text before the expansion of the rest of a word
 abbrev pub onto : List ℕ → Option (List ℕ) → Option (List ℕ)
 onto text rest = option_map (λ more. text ++ more) rest
 
--- A word with each specifier replaced; none where a % begins no specifier.
+-- A word with each specifier replaced; none if a % doesn't begin a specifier.
 unfoldable pub expansion : List ℕ → List ℕ → Option (List ℕ)
 expansion name [] = Some []
 expansion name (b ∷ []) = if is_percent b then None else Some (b ∷ [])

@@ -3,7 +3,7 @@ use Rattle.std.specs.Prelude.{◌≡◌, ◌≢◌, ◌↔◌, ℕ, List, [], �
 use Rattle.unit_name.specs.Specifiers.{specifier, expansion}
 use Prim.Native.Char.{code}
 
--- A word is written in pieces: bytes other than %, and specifiers, each a % and a letter.
+-- A word consists of pieces: bytes other than %, and specifiers, each a % and a letter.
 pub data Piece : Type 0 where
   Byte : ℕ → Piece
   Specifier : ℕ → Piece
@@ -12,17 +12,17 @@ abbrev pub piece_text : Piece → List ℕ
 piece_text (Byte b) = b ∷ []
 piece_text (Specifier letter) = code "%" ∷ letter ∷ []
 
--- A byte stands for itself, and a specifier for what it says of the name.
+-- The value of a byte is the byte itself, and the name determines the value of a specifier.
 abbrev pub StandsFor : List ℕ → Piece → List ℕ → Type 0
 StandsFor name (Byte b) text = (b ≢ code "%") × (text ≡ b ∷ [])
 StandsFor name (Specifier letter) text = specifier name letter ≡ Some text
 
--- A word is written in these pieces, and they stand for the text, one after another.
+-- A word consists of these pieces, and their values, one after another, make up the text.
 abbrev pub StandFor : List ℕ → List Piece → (word text : List ℕ) → Type 0
 StandFor name [] word text = (word ≡ []) × (text ≡ [])
 StandFor name (piece ∷ pieces) word text =
     (rest first more : List ℕ) × (word ≡ piece_text piece ++ rest) × StandsFor name piece first × (text ≡ first ++ more) × StandFor name pieces rest more
 
--- A word is expanded to a text exactly where it has pieces that stand for it.
+-- A word expands to a text exactly if it consists of pieces whose values make up the text.
 abbrev pub WordsAreExpanded : Type 0
 WordsAreExpanded = (name word text : List ℕ) → (expansion name word ≡ Some text) ↔ ((pieces : List Piece) × StandFor name pieces word text)

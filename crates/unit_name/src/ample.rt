@@ -1,7 +1,8 @@
-/// For tests: what a call answers where memory is ample.
+/// For tests: what a call returns if there is enough memory.
 ///
-/// `each-growth` refuses one growth of a test, and the call that meets it must answer "out of memory" and
-/// change nothing: so it is made again here, and its second answer is compared like any other.
+/// `each-growth` makes one allocation of a test fail, and the call that meets it must return "out
+/// of memory" and change nothing: so it is made again here, and its second result is compared like
+/// any other.
 #[macro_export]
 macro_rules! ample {
     ($call:expr, $refused:pat) => {

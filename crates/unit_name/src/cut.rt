@@ -1,8 +1,8 @@
-//! A text, cut at one byte.
+//! A text, split at one byte.
 ghost use Rattle.std.specs.Prelude.{◌≡◌, ◌==◌, true, false, MatchOption};
 ghost use Rattle.std.specs.List.{list_any, before_first, after_first, before_last, after_last};
 
-/// What stands before the first `byte` and after it.
+/// The text before the first `byte`, and the text after it.
 pub(crate) fn cut_at_first(text: &[u8], byte: u8) -> Option<(&[u8], &[u8])>
     ensures { MatchOption result (list_any (λ b. b == byte) text.now ≡ false) (λ cut. (list_any (λ b. b == byte) text.now ≡ true) × (cut.0.now ≡ before_first (λ b. b == byte) text.now) × (cut.1.now ≡ after_first (λ b. b == byte) text.now)) }
 {
@@ -14,7 +14,7 @@ pub(crate) fn cut_at_first(text: &[u8], byte: u8) -> Option<(&[u8], &[u8])>
     None
 }
 
-/// What stands before the last `byte` and after it.
+/// The text before the last `byte`, and the text after it.
 pub(crate) fn cut_at_last(text: &[u8], byte: u8) -> Option<(&[u8], &[u8])>
     ensures { MatchOption result (list_any (λ b. b == byte) text.now ≡ false) (λ cut. (list_any (λ b. b == byte) text.now ≡ true) × (cut.0.now ≡ before_last (λ b. b == byte) text.now) × (cut.1.now ≡ after_last (λ b. b == byte) text.now)) }
 {

@@ -9,7 +9,7 @@ use thiserror::Error;
 /// The longest name, in bytes.
 pub const MAX_NAME: usize = 255;
 
-/// What is wrong with a text that is no unit name: the first of these that holds.
+/// What is wrong with a text that isn't a unit name: the first of these that applies.
 #[derive(Clone, Copy, Debug, PartialEq, Eq, Hash, Error)]
 pub enum NameFault {
     /// It has over 255 bytes.
@@ -18,15 +18,15 @@ pub enum NameFault {
     /// A byte is neither an ASCII letter or digit nor one of `:-_.\` and `@`.
     #[error("bad character in name")]
     BadCharacter,
-    /// Nothing stands before the first `@`, or before the last dot.
+    /// Nothing is before the first `@`, or before the last dot.
     #[error("name without prefix")]
     NoPrefix,
-    /// What stands after the last dot is no type, or there is no dot.
+    /// The text after the last dot isn't a type, or there is no dot.
     #[error("bad type of name")]
     BadType,
 }
 
-/// Why a text gives no unit name.
+/// Why a text couldn't be made a unit name.
 #[derive(Clone, Copy, Debug, PartialEq, Eq, Hash, Error)]
 pub enum NameError {
     #[error("{0}")]
@@ -43,13 +43,13 @@ impl From<AllocError> for NameError {
     }
 }
 
-/// What is wrong with the text of an instance: the first of these that holds.
+/// What is wrong with the text of an instance: the first of these that applies.
 #[derive(Clone, Copy, Debug, PartialEq, Eq, Hash, Error)]
 pub enum InstanceFault {
     /// The name with this instance would have over 255 bytes.
     #[error("name too long")]
     TooLong,
-    /// A byte may not stand in a name.
+    /// A byte isn't allowed in a name.
     #[error("bad character in name")]
     BadCharacter,
 }
@@ -74,7 +74,7 @@ impl From<AllocError> for InstanceError {
 /// Why a word can't be expanded.
 #[derive(Clone, Copy, Debug, PartialEq, Eq, Hash, Error)]
 pub enum ExpandError {
-    /// A `%` is followed by no specifier, or by nothing.
+    /// A `%` isn't followed by a specifier, or is the last byte.
     #[error("unknown specifier")]
     UnknownSpecifier,
     #[error("out of memory")]

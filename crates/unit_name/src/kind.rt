@@ -10,7 +10,7 @@ pub enum Kind {
     Instance,
 }
 
-/// What a unit is, as the end of its name says.
+/// The type of a unit, given by the end of its name.
 #[derive(Clone, Copy, Debug, PartialEq, Eq, Hash, PartialOrd, Ord)]
 pub enum UnitType {
     Service,

@@ -9,7 +9,8 @@ use crate::part::{fault_of, instance_fault_of, instance_in, text_with_instance, 
 use std::alloc::{AllocError, Global};
 use std::marker::Model;
 
-/// The name of a unit, as `ssh.service`, `getty@.service` or `getty@tty1.service`. Contracts see its text.
+/// The name of a unit, such as `ssh.service`, `getty@.service` or `getty@tty1.service`. Contracts
+/// see its text.
 ///
 /// systemd.unit(5), "Description".
 #[derive(Debug, Drop)]
@@ -29,7 +30,7 @@ impl Model for UnitName {
 }
 
 impl UnitName {
-    /// Reads a name.
+    /// Parses a name.
     pub fn parse(alloc: Global, text: &[u8]) -> Result<UnitName, NameError>
         ensures { Parses text.now result }
     {
@@ -50,7 +51,7 @@ impl UnitName {
         &self.text
     }
 
-    /// An equal name.
+    /// An equal copy.
     pub fn copy(&self) -> Result<UnitName, AllocError>
         ensures { IfOk result (λ name. name ≡ self.now) }
     {
@@ -66,14 +67,14 @@ impl UnitName {
         kind_in(self.text())
     }
 
-    /// What stands after the last dot.
+    /// The type, given by the text after the last dot.
     pub fn unit_type(&self) -> UnitType
         ensures { type_of self.now ≡ Some result }
     {
         type_in(self.text()).unwrap()
     }
 
-    /// What stands between the first `@` and the last dot: nothing in a template. A plain name has none.
+    /// The text between the first `@` and the last dot: empty in a template. A plain name has none.
     pub fn instance(&self) -> Option<&[u8]>
         ensures { option_copied result ≡ instance_of self.now }
     {
@@ -90,7 +91,7 @@ impl UnitName {
         })
     }
 
-    /// The name with this instance in place of its own. An empty one gives the template.
+    /// The name with this instance instead of its own. An empty one gives the template.
     pub fn with_instance(&self, alloc: Global, instance: &[u8]) -> Result<UnitName, InstanceError>
         requires { kind_of (instance_of self.now) ≢ Kind.Plain }
         ensures { TakesInstance self.now instance.now result }
@@ -104,7 +105,8 @@ impl UnitName {
     }
 }
 
-/// The kind of the unit name that has this text. Of a text that is none, whether it looks like an instance or a template; takes no memory.
+/// The kind of the unit name that has this text. For a text that isn't a unit name, whether it
+/// looks like an instance or a template; takes no memory.
 pub fn kind_in(text: &[u8]) -> Kind
     ensures { result ≡ kind_of (instance_of text.now) }
 {
@@ -115,7 +117,7 @@ pub fn kind_in(text: &[u8]) -> Kind
     }
 }
 
-/// Whether `UnitName::parse` takes the text, memory apart.
+/// Whether `UnitName::parse` accepts the text, unless memory runs out.
 pub fn is_unit_name(text: &[u8]) -> bool
     ensures name { IsTrue result ↔ IsUnitName text.now }
     ensures test { result ≡ is_unit_name text.now }

@@ -9,9 +9,9 @@ use crate::name::UnitName;
 use crate::part::{prefix_in, stem_in};
 use std::alloc::Global;
 
-/// The word with each specifier replaced by what it stands for in the name: `%i` the instance, nothing
-/// without one, `%n` the whole name, `%N` the name without dot and type, `%p` the prefix, `%j` what follows
-/// its last dash, `%%` a percent sign.
+/// The word with each specifier replaced by its value for the name: `%i` the instance, or nothing
+/// if there is none, `%n` the whole name, `%N` the name without dot and type, `%p` the prefix, `%j`
+/// what follows the last dash of the prefix, `%%` a percent sign.
 ///
 /// systemd.unit(5), "Specifiers".
 pub fn expand(alloc: Global, word: &[u8], name: &UnitName) -> Result<Vec<u8>, ExpandError>
@@ -30,7 +30,7 @@ pub fn expand(alloc: Global, word: &[u8], name: &UnitName) -> Result<Vec<u8>, Ex
     Ok(text)
 }
 
-/// What the first byte or specifier of a word stands for, and the rest of the word.
+/// The value of the first byte or specifier of a word, and the rest of the word.
 #[tactic(auto, unfolding(crate::specs::Specifiers::expansion))]
 fn first_piece<'a>(name: &'a UnitName, word: &'a [u8]) -> Option<(&'a [u8], &'a [u8])>
     requires { 0 < length word.now }
@@ -48,7 +48,7 @@ fn first_piece<'a>(name: &'a UnitName, word: &'a [u8]) -> Option<(&'a [u8], &'a 
     }
 }
 
-/// What the specifier `%` with this letter stands for.
+/// The value of the specifier `%` with this letter.
 #[tactic(auto, unfolding(crate::specs::Specifiers::specifier))]
 fn specifier_text(name: &UnitName, letter: u8) -> Option<&[u8]>
     ensures { option_copied result ≡ specifier name.now letter }

@@ -1,4 +1,4 @@
--- What a path lies beneath: its directory, and what that lies beneath.
+-- What a path lies beneath: its directory, and everything above that.
 use Rattle.std.proofs.Common.{◌≡◌, refl, ap, ◌++◌, ℕ, Bool, true, false, ◌&&◌, ◌||◌, List, [], ◌∷◌, sym, ◌∙◌, inl, inr}
 use Rattle.std.specs.Prelude.{◌==◌}
 use Rattle.std.specs.List.{list_any}
@@ -8,7 +8,7 @@ use Rattle.unit_paths.specs.Paths.{is_slash, is_path, is_absolute, is_root, pare
 use Rattle.unit_paths.specs.Shape.{is_beneath}
 use Rattle.unit_paths.proofs.Slashes.{last_slash}
 
--- a slash stands in what is beneath something
+-- a path beneath another has a slash
 pub beneath-slash : (path above : List ℕ) → list_any is_slash path ≡ false → is_beneath path above ≡ false
 unfolding is_beneath
 beneath-slash [] above none = refl
@@ -33,7 +33,7 @@ beneath-seam (b ∷ dir) name [] none = refl
 beneath-seam (b ∷ dir) name (a ∷ rest) none =
     ap (λ t. b == a && t) (beneath-seam dir name rest none) ∙ and_or (b == a) (bytes_eq rest dir) (is_beneath dir rest) ∙ ap (λ t. t && bytes_eq rest dir || b == a && is_beneath dir rest) (eqb-sym b a)
 
--- a path lies beneath its directory, and beneath what that lies beneath
+-- a path lies beneath its directory, and beneath everything above that
 pub beneath-parent : (path above : List ℕ) → list_any is_slash path ≡ true → is_beneath path above ≡ (bytes_eq above (parent path) || is_beneath (parent path) above)
 beneath-parent path above some =
     let at = last_slash path some in

@@ -1,4 +1,4 @@
--- What can lie beneath a path: in byte order, from the first path that can.
+-- Which paths can lie beneath a path: in byte order, from the first one that can.
 use Rattle.std.proofs.Common.{◌≡◌, refl, ℕ, zero, suc, ◌<◌, Bool, true, false, List, [], ◌∷◌, ◌++◌, length, Some, None, sym, ◌∙◌, ap, arith, inl, inr, ◌⊎◌, codes, append_assoc, length-append}
 use Rattle.std.specs.Prelude.{◌==◌, if◌then◌else◌, nat_lt}
 use Rattle.std.specs.List.{list_all, slice_split}
@@ -18,7 +18,7 @@ use Rattle.unit_paths.proofs.Slashes.{split-append}
 abbrev path_cmp : List ℕ → List ℕ → Ordering
 path_cmp = slice_cmp nat_cmp
 
--- the first elements decide, or the rest does
+-- either the first elements decide, or the rest does
 head_le : (x y : ℕ) (o : Ordering) → is_le (ordering_then (nat_cmp x y) o) ≡ true → (x < y) ⊎ ((x ≡ y) × (is_le o ≡ true))
 head_le x y o le = elim (cases_Bool (nat_lt x y)) [
   | inl less ↦ inl (ltb-true x y less)
@@ -31,7 +31,7 @@ head_le x y o le = elim (cases_Bool (nat_lt x y)) [
 nat_cmp-refl : (x : ℕ) → nat_cmp x x ≡ Equal
 nat_cmp-refl x = rw (le-ltb x x (omega arith), eq-eqb x x refl) refl
 
--- what lies between two texts that begin alike begins like them
+-- a text between two texts that begin with the same front begins with it too
 between : (front low text high : List ℕ) → is_le (path_cmp (front ++ low) text) ≡ true → is_le (path_cmp text (front ++ high)) ≡ true → (rest : List ℕ) × (text ≡ front ++ rest)
 between [] low text high from to = (text, refl)
 between (x ∷ front) low [] high from to = absurd (false≢true from)
@@ -52,7 +52,7 @@ path_cmp-front : (front low high : List ℕ) → path_cmp (front ++ low) (front 
 path_cmp-front [] low high = refl
 path_cmp-front (x ∷ front) low high = rw (nat_cmp-refl x) (path_cmp-front front low high)
 
--- what follows a slash of a path begins with a byte above 0
+-- what follows a slash in a path begins with a byte above 0
 parts_after : (front rest : List ℕ) → is_path (front ++ 47 ∷ rest) ≡ true → list_all is_part (slice_split is_slash rest) ≡ true
 parts_after [] rest is = (path_facts 47 rest is).parts
 parts_after (b ∷ front) rest is =
@@ -83,7 +83,7 @@ first_after (suc n ∷ bs) parts bytes = elim (cases_Bool (nat_lt 1 (suc n))) [
   | inr other ↦ rw (other, eq-eqb 1 (suc n) (omega (arith, ltb-false 1 (suc n) other))) (empty_le bs)
 ]
 
--- what lies beneath a path comes at or after the first path that can
+-- a path beneath another comes at or after the first path that can lie beneath it
 pub from_first : (path other : List ℕ) → is_path other ≡ true → is_beneath other path ≡ true → is_le (path_cmp (path ++ codes "/" ++ codes "\u{1}") other) ≡ true
 from_first path other is beneath =
     let at = beneath-parts other path beneath in
@@ -93,7 +93,7 @@ from_first path other is beneath =
     ∙ ap is_le (path_cmp-front (path ++ codes "/") (codes "\u{1}") at.0)
     ∙ first_after at.0 (parts_after path at.0 whole) (bytes_after path at.0 whole)
 
--- and what lies between that and something beneath the path is beneath it too
+-- a text between that first path and a path beneath is beneath it too
 pub beneath_between : (path text other : List ℕ) → is_le (path_cmp (path ++ codes "/" ++ codes "\u{1}") text) ≡ true → path_cmp text other ≡ Less → is_beneath other path ≡ true → is_beneath text path ≡ true
 unfolding begins_with_slash
 beneath_between path text other from less beneath =
@@ -125,6 +125,6 @@ some_first : (b : Bool) (first other : List ℕ) → (if b then Some first else 
 some_first true first other e = cc
 some_first false first other e = absurd (cc)
 
--- what is looked up first is the first path that can lie beneath
+-- the search begins at the first path that can lie beneath
 pub first_at : (path first : List ℕ) → first_beneath path ≡ Some first → path ++ codes "/" ++ codes "\u{1}" ≡ first
 first_at path first found = some_first (is_path (path ++ codes "/" ++ codes "\u{1}")) _ first found

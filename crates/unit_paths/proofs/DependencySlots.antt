@@ -51,7 +51,7 @@ dependency_directory_name name ending is =
     front_length : (name ending : List ℕ) → length (name ++ ending) - length ending ≡ length name
     front_length name ending = omega (arith, length-append name ending)
 
--- with one ending it doesn't have another
+-- a name with one ending doesn't have another ending
 not_other : (name word other : List ℕ) → list_any is_dot word ≡ false → list_any is_dot other ≡ false → (word ≡ other → ⊥) → is_dependency_directory (46 ∷ other) (name ++ 46 ∷ word) ≡ false
 unfolding is_dependency_directory
 not_other name word other plain other_plain differ = elim (cases_Bool (ends_with nat_eq (name ++ 46 ∷ word) (46 ∷ other))) [
@@ -77,7 +77,7 @@ dependency_directory_slots_is place Wants name is = rw (dependency_directory_nam
 dependency_directory_slots_is place Requires name is = rw (requires_not_wants name, dependency_directory_name name (codes ".requires") is) refl
 dependency_directory_slots_is place Upholds name is = rw (upholds_not_wants name, upholds_not_requires name, dependency_directory_name name (codes ".upholds") is) refl
 
--- no directory of units or presets stands in one of units
+-- no directory of units or presets lies directly in one of units
 none_in_units : (place : Place) → place_of (parent (unit_directory place)) ≡ None
 unfolding unit_directory place_of parent
 none_in_units Etc = refl
@@ -103,7 +103,7 @@ no_place : {X : Type 0} (o : Option X) → (is_some o ≡ true → ⊥) → o �
 no_place None none = refl
 no_place (Some x) none = absurd (none refl)
 
--- which slots stand in a dependency directory
+-- which slots a dependency directory contains
 slots_in_dependency_directory : (dir : List ℕ) (place : Place) → parent dir ≡ unit_directory place → slots_in dir ≡ dependency_directory_slots place (name_at dir)
 unfolding slots_in
 slots_in_dependency_directory dir place up =

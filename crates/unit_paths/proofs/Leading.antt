@@ -1,4 +1,4 @@
--- Targets lead on part by part.
+-- Targets are resolved part by part.
 use Rattle.std.proofs.Common.{◌≡◌, ◌≢◌, ℕ, true, false, List, [], ◌∷◌, ◌++◌, refl, sym, ◌∙◌, ap, append_assoc, append-nil, inl, inr}
 use Rattle.std.specs.List.{list_all, list_any, slice_split, onto_first}
 use Rattle.std.proofs.lemmas.Bool.{cases_Bool, false≢true, and_parts, or_parts, eqb-true}
@@ -8,7 +8,7 @@ use Rattle.unit_paths.specs.Paths.{is_part, is_slash, is_path, parent}
 use Rattle.unit_paths.proofs.PathFacts.{path_facts}
 use Rattle.unit_paths.proofs.Slashes.{split-cons, split-append, path_slash}
 
--- parts, each behind a slash
+-- parts, each after a slash
 joined : List (List ℕ) → List ℕ
 joined [] = []
 joined (part ∷ parts) = 47 ∷ (part ++ joined parts)
@@ -48,7 +48,7 @@ split-one (x ∷ xs) none =
     let both = or_parts (is_slash x) (list_any is_slash xs) none in
     split-cons x xs false both.0 ∙ ap (onto_first x) (split-one xs both.1)
 
--- the walk from the root passes over what stands before the first slash
+-- the walk from the root skips the empty part before the first slash
 from_root : with_part [] [] ≡ []
 unfolding with_part is_part
 from_root = refl

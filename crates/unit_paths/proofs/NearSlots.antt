@@ -31,13 +31,13 @@ above_it : (path slot : List ℕ) → is_slot slot ≡ true → is_beneath path 
 unfolding Near is_close
 above_it path slot is beneath = (slot, is, or_left (is_beneath path slot) (is_beneath slot path) beneath)
 
--- what lies beneath a path, with more behind it
+-- a path beneath another stays beneath it with more text at its end
 further : (path dir more : List ℕ) → is_beneath dir path ≡ true → is_beneath (dir ++ more) path ≡ true
 further path dir more h =
     let parts = (beneath_goes_on dir path).0 h in
     (beneath_goes_on (dir ++ more) path).1 (parts.0 ++ more, ap (λ d. d ++ more) parts.1 ∙ append_assoc path (47 ∷ parts.0) more)
 
--- a name for each kind of slot
+-- a suitable name for each kind of slot
 name_for : Slot → List ℕ
 name_for (slots.Unit place) = codes "a.service"
 name_for (slots.Wants place) = codes "a.service"
@@ -61,7 +61,7 @@ no_slash_in (slots.Requires place) = refl
 no_slash_in (slots.Upholds place) = refl
 no_slash_in (slots.Preset place) = refl
 
--- a slot in a directory of slots
+-- a slot in a directory that contains slots
 slot_in : (dir : List ℕ) (slot : Slot) → slots_in dir ≡ Some slot → is_slot (dir ++ 47 ∷ name_for slot) ≡ true
 unfolding slot_of
 slot_in dir slot h =
@@ -76,7 +76,7 @@ near_in path None at h = absurd (false≢true h)
 near_in path (Some slot) at h =
     beneath_it path (path ++ 47 ∷ name_for slot) (slot_in path slot at) ((beneath_goes_on (path ++ 47 ∷ name_for slot) path).1 (name_for slot, refl))
 
--- a directory of slots beneath the path
+-- a directory that contains slots, beneath the path
 near_over : (path dir : List ℕ) (slot : Slot) → slots_in dir ≡ Some slot → is_beneath dir path ≡ true → Near path
 near_over path dir slot at beneath = beneath_it path (dir ++ 47 ∷ name_for slot) (slot_in dir slot at) (further path dir (47 ∷ name_for slot) beneath)
 

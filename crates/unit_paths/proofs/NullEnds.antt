@@ -1,4 +1,4 @@
--- Where a target ends with a part other than null, it leads elsewhere than to /dev/null.
+-- If a target ends with a part other than null, it doesn't lead to /dev/null.
 use Rattle.std.proofs.Common.{◌≡◌, ℕ, Bool, true, false, List, [], ◌∷◌, ◌++◌, refl, sym, ◌∙◌, ap, codes, inl, inr}
 use Rattle.std.specs.Prelude.{not}
 use Rattle.std.specs.List.{list_any, slice_split}
@@ -11,7 +11,7 @@ use Rattle.unit_paths.proofs.Slashes.{last_slash, name-none, name-seam, split-ap
 use Rattle.unit_paths.proofs.Nulls.{merged_null}
 use Rattle.unit_paths.proofs.Leading.{walked-last, split-one, with_part-part}
 
--- the last step of a walk is by the last part of the target
+-- the last step of a walk takes the last part of the target
 record LastStep (text target : List ℕ) : Type 0 where
   front : List ℕ
   is : walked text (slice_split is_slash target) ≡ with_part front (name_at target)

@@ -35,7 +35,7 @@ self_null path =
       | inr other ↦ other_off path other ∙ sym other
     ]
 
--- what the walk comes to is /dev/null where the canonical path is
+-- the walk ends at a spelling of /dev/null exactly if the canonical path is /dev/null
 pub merged_null : (text : List ℕ) → leads_to_null (merged text) ≡ bytes_eq text null
 unfolding merged
 merged_null text =

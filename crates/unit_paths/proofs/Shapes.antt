@@ -24,7 +24,7 @@ pub self_close : (p : List ℕ) → is_close p p ≡ false
 unfolding is_close
 self_close p = rw (beneath_self p) refl
 
--- beneath a text is what begins with it and a slash
+-- what lies beneath a text begins with it and a slash
 pub beneath-after : (above rest : List ℕ) → is_beneath (above ++ rest) above ≡ begins_with_slash rest
 unfolding is_beneath begins_with_slash
 beneath-after [] [] = refl

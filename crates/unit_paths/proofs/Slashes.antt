@@ -1,4 +1,4 @@
--- Texts cut at slashes.
+-- Texts split at slashes.
 use Rattle.std.proofs.Common.{◌≡◌, ℕ, ◌+◌, ◌<◌, ◌≤◌, Bool, true, false, cond, ◌&&◌, not, List, [], ◌∷◌, ◌++◌, length, get_or, take, drop, Option, Some, None, refl, sym, ◌∙◌, ap, arith, suc, subst, ◌-◌, length-append, inl, inr}
 use Rattle.std.specs.List.{list_all, list_any, slice_split, position, onto_first, starts_with, suffix_len}
 use Rattle.std.specs.Option.{option_map}
@@ -18,7 +18,7 @@ use Rattle.unit_paths.specs.Canonical.{cut_at_slash, with_part, walked, begins_w
 none-at : (text : List ℕ) → list_any is_slash text ≡ false → (i : ℕ) → i < length text → is_slash (get_or text i 0) ≡ false
 none-at text none i within = false_from_ne_true (is_slash (get_or text i 0)) (λ here. false≢true (sym none ∙ list_any_at is_slash text i 0 within here))
 
--- nothing stands before the last slash where there is none
+-- nothing comes before the last slash if there is none
 pub parent-none : (text : List ℕ) → list_any is_slash text ≡ false → parent text ≡ []
 unfolding parent
 parent-none text none =
@@ -26,12 +26,12 @@ parent-none text none =
     let zero_is : length text - suffix_len (λ b. not (is_slash b)) text - 1 ≡ 0 = omega (arith, all) in
     ap (λ n. take n text) zero_is
 
--- and all of the text stands after it
+-- and the whole text comes after it
 pub name-none : (text : List ℕ) → list_any is_slash text ≡ false → name_at text ≡ text
 unfolding name_at
 name-none text none = after_last-none is_slash 0 text none
 
--- a text with a slash, and none after that
+-- a text with a slash, and no slash after that
 pub parent-seam : (front name : List ℕ) → list_any is_slash name ≡ false → parent (front ++ 47 ∷ name) ≡ front
 unfolding parent
 parent-seam front name none = (last_seam is_slash 0 front 47 name refl none).1
@@ -40,7 +40,8 @@ pub name-seam : (front name : List ℕ) → list_any is_slash name ≡ false →
 unfolding name_at
 name-seam front name none = (last_seam is_slash 0 front 47 name refl none).2
 
--- a text with a slash is what stands before the last one and what stands after it
+-- a text with a slash consists of what comes before the last one, the slash, and what comes after
+-- it
 pub record LastSlash (text : List ℕ) : Type 0 where
   pub is : text ≡ parent text ++ 47 ∷ name_at text
   pub none : list_any is_slash (name_at text) ≡ false
@@ -53,7 +54,7 @@ last_slash text some =
     let name : name_at text ≡ cut.after = ap name_at whole ∙ name-seam cut.before cut.after cut.none in
     record { is = whole ∙ sym (λ i. front i ++ 47 ∷ name i); none = ap (list_any is_slash) name ∙ cut.none }
 
--- what stands before the last slash is the front of a text
+-- what comes before the last slash is the beginning of the text
 pub take-parent : (text : List ℕ) → take (length (parent text)) text ≡ parent text
 unfolding parent
 take-parent text =
@@ -71,11 +72,11 @@ around text i within here =
     let next : i + 1 ≡ suc i = omega arith in
     sym (take-append-drop i text) ∙ ap (λ (rest : List ℕ). take i text ++ rest) (drop_more text i 0 within ∙ λ k. here k ∷ drop (next k) text)
 
--- what stands before the last slash, where there is one at i and none after it
+-- what comes before the last slash, if that is at i
 pub parent-at : (text : List ℕ) (i : ℕ) → i < length text → get_or text i 0 ≡ 47 → list_any is_slash (drop (suc i) text) ≡ false → take i text ≡ parent text
 parent-at text i within here none = sym (ap parent (around text i within here) ∙ parent-seam (take i text) (drop (suc i) text) none)
 
--- and what stands after it
+-- and what comes after it
 pub name-at : (text : List ℕ) (i : ℕ) → i < length text → get_or text i 0 ≡ 47 → list_any is_slash (drop (suc i) text) ≡ false → drop (suc i) text ≡ name_at text
 name-at text i within here none = sym (ap name_at (around text i within here) ∙ name-seam (take i text) (drop (suc i) text) none)
 
@@ -134,7 +135,7 @@ unfolding walked
 last text xs None at cut = ap (walked text) (split-none xs at)
 last text xs (Some i) at cut = cc
 
--- A walk over a text goes by the part before its first slash.
+-- The first step of a walk over a text takes the part before its first slash.
 pub walk-more : (text xs part after : List ℕ) → cut_at_slash xs ≡ Some (part, after) → walked text (slice_split is_slash xs) ≡ walked (with_part text part) (slice_split is_slash after)
 walk-more text xs part after cut = more text xs part after (position is_slash xs) refl cut
 
@@ -154,7 +155,7 @@ split-append (x ∷ xs) ys = elim (cases_Bool (is_slash x)) [
       ∙ ap (λ (ps : List (List ℕ)). ps ++ slice_split is_slash ys) (sym (split-cons x xs false away))
 ]
 
--- a byte that may stand in a part
+-- a byte that is allowed in a part
 abbrev pub is_part_byte : ℕ → Bool
 is_part_byte b = is_text_byte b && not (is_slash b)
 
@@ -162,7 +163,7 @@ onto-all : (x : ℕ) (ps : List (List ℕ)) → is_part_byte x ≡ true → list
 onto-all x [] one all = rw one refl
 onto-all x (p ∷ ps) one all = rw one all
 
--- the parts of a text have no slash, and its bytes
+-- the parts of a text have no slash, and only bytes that the text may have
 split-bytes : (xs : List ℕ) → list_all is_text_byte xs ≡ true → list_all (list_all is_part_byte) (slice_split is_slash xs) ≡ true
 split-bytes [] all = refl
 split-bytes (x ∷ xs) all =
@@ -188,7 +189,7 @@ abbrev pub is_front : List ℕ → Bool
 is_front [] = true
 is_front (b ∷ bs) = list_all is_text_byte (b ∷ bs) && (is_slash b && list_all is_part (slice_split is_slash bs))
 
--- its bytes, and the text after the slash
+-- the bytes of such a path, and what comes after its first slash
 front-facts : (b : ℕ) (bs : List ℕ) → is_front (b ∷ bs) ≡ true → (list_all is_text_byte (b ∷ bs) ≡ true) × (is_slash b ≡ true) × (list_all is_part (slice_split is_slash bs) ≡ true)
 front-facts b bs h =
     let x = and_parts (list_all is_text_byte (b ∷ bs)) (is_slash b && list_all is_part (slice_split is_slash bs)) h in

@@ -1,4 +1,4 @@
--- A slot is never beneath another slot, and never a directory of slots.
+-- A slot is never beneath another slot, and never a directory that contains slots.
 use Rattle.std.proofs.Common.{◌≡◌, ℕ, Bool, true, false, ◌&&◌, ◌||◌, List, [], ◌∷◌, ◌++◌, length, take, Option, Some, None, refl, sym, ◌∙◌, ap, append_assoc, append-nil, inl, inr, ◌⊎◌, cond, subst}
 use Rattle.std.specs.Prelude.{is_some, codes, is_none, nat_eq, ◌-◌}
 use Rattle.std.specs.Str.{bytes_eq}
@@ -33,7 +33,7 @@ or_left x y e = rw e refl
 same_bytes : (xs ys : List ℕ) → bytes_eq xs ys ≡ true → xs ≡ ys
 same_bytes xs ys h = (bytes_eq-Decides xs ys).0 h
 
--- what a slot's directory is
+-- a slot's directory contains slots
 named_some : (o : Option Slot) (name : List ℕ) → is_some (named_slot o name) ≡ true → is_some o ≡ true
 named_some None name h = absurd (false≢true h)
 named_some (Some slot) name h = refl
@@ -60,7 +60,7 @@ pick : (b : Bool) (place : Place) (o : Option Place) → is_some (cond b (Some p
 pick true place o h = inl refl
 pick false place o h = inr h
 
--- what holds of each directory of units holds of any
+-- a property of each directory of units
 pub place_all : (P : List ℕ → Type 0) (dir : List ℕ) → is_some (place_of dir) ≡ true → ((place : Place) → P (unit_directory place)) → P dir
 unfolding place_of
 place_all P dir some all = elim (pick (bytes_eq dir (unit_directory Etc)) _ _ some) [
@@ -77,7 +77,7 @@ place_all P dir some all = elim (pick (bytes_eq dir (unit_directory Etc)) _ _ so
   ]
 ]
 
--- and of presets
+-- and of each directory of presets
 pub preset_all : (P : List ℕ → Type 0) (dir : List ℕ) → is_some (preset_place_of dir) ≡ true → P (preset_directory Etc) → P (preset_directory Run) → P (preset_directory Vendor) → P dir
 unfolding preset_place_of
 preset_all P dir some etc run vendor = elim (pick (bytes_eq dir (preset_directory Etc)) _ _ some) [
@@ -140,7 +140,7 @@ over_dir slot above o at some beneath = elim (parent_over slot above beneath) [
   | inr over ↦ slots_over (parent slot) above some over
 ]
 
--- no path above a slot is without fault
+-- every path above a slot is of bad shape
 slot_over : (slot above : List ℕ) → is_slot slot ≡ true → is_beneath slot above ≡ true → (is_some (slots_in above) || (is_over_units above || is_over_presets above)) ≡ true
 slot_over slot above is beneath = over_dir slot above (slots_in (parent slot)) refl (named_some (slots_in (parent slot)) (name_at slot) (slot_is slot is)) beneath
 
@@ -148,7 +148,7 @@ slash_first : (rest : List ℕ) → begins_with_slash (47 ∷ rest) ≡ true
 unfolding begins_with_slash
 slash_first rest = refl
 
--- a slot above a path stands somewhere in it
+-- a slot above a path is what comes before one of its slashes
 pub under_parts : (done path : List ℕ) → is_under_slot done path ≡ true → (front rest : List ℕ) × (path ≡ front ++ 47 ∷ rest) × (is_slot (done ++ front) ≡ true)
 unfolding is_under_slot
 under_parts done [] h = absurd (false≢true h)
@@ -267,7 +267,7 @@ no_dir slot is dir = elim (first_cases (place_of slot) (preset_place_of slot) (d
   ]
 ]
 
--- no slot is a directory of slots
+-- no slot is a directory that contains slots
 slot_no_dir : (slot : List ℕ) → is_slot slot ≡ true → is_some (slots_in slot) ≡ false
 slot_no_dir slot is = elim (cases_Bool (is_some (slots_in slot))) [
   | inl dir ↦ absurd (no_dir slot is dir)
@@ -287,7 +287,7 @@ slot_not_under slot is = elim (cases_Bool (is_under_slot [] slot)) [
   | inr off ↦ off
 ]
 
--- a slot is of no bad shape
+-- a slot isn't of bad shape
 pub slot_shape : (slot : List ℕ) → is_slot slot ≡ true → is_bad_shape slot ≡ false
 unfolding is_bad_shape
 slot_shape slot is = off_both _ _ (slot_not_under slot is) (no_dir_or_over slot is)

@@ -1,4 +1,4 @@
--- A path is a slot exactly where it is spelled so.
+-- A path is a slot exactly if it is spelled as one.
 use Rattle.std.proofs.Common.{◌≡◌, ◌≢◌, ℕ, zero, suc, Bool, true, false, ◌||◌, ◌-◌, List, [], ◌∷◌, ◌++◌, length, length-append, take, Option, Some, None, refl, sym, ◌∙◌, ap, subst, cond, All, arith, inl, inr}
 use Rattle.std.specs.Prelude.{Contains, codes, nat_eq, not}
 use Rattle.std.specs.List.{find, list_any, ends_with}
@@ -53,7 +53,7 @@ preset_among : (dir : List ℕ) (place : Place) → preset_place_of dir ≡ Some
 unfolding preset_place_of
 preset_among dir place h = find_in (λ p. bytes_eq dir (preset_directory p)) preset_places place h
 
--- the empty text is no directory
+-- the empty text isn't a directory of units or presets
 no_unit_place : place_of [] ≡ None
 unfolding place_of unit_directory
 no_unit_place = refl
@@ -183,7 +183,7 @@ spelled path slot h =
     let named = named_is (slots_in (parent path)) (name_at path) slot h in
     by_directory path slot (place_of (parent path)) (preset_place_of (parent path)) (place_of (parent (parent path))) refl refl refl named.0 named.1
 
--- which slots stand in a directory of presets
+-- which slots a directory of presets contains
 preset_slots : (place : Place) → Contains preset_places place → slots_in (preset_directory place) ≡ Some (slots.Preset place)
 unfolding unit_directory slots_in place_of preset_place_of parent name_at dependency_directory_slots
 preset_slots Etc among = refl

@@ -22,7 +22,7 @@ or_right : (x y : Bool) → y ≡ true → (x || y) ≡ true
 or_right true y e = refl
 or_right false y e = e
 
--- What follows a slot and a slash is under it.
+-- A path that consists of a slot, a slash and more is under the slot.
 pub under-slot : (done front rest : List ℕ) → is_slot (done ++ front) ≡ true → is_under_slot done (front ++ 47 ∷ rest) ≡ true
 unfolding is_under_slot
 under-slot done [] rest slot = rw (ap is_slot (sym (append-nil done)) ∙ slot) refl

@@ -23,7 +23,7 @@ no_name_byte x b off on = elim (cases_Bool (b == x)) [
   | inr other ↦ other
 ]
 
--- a byte of a name may stand in a part of a path
+-- a byte of a name is allowed in a part of a path
 part_byte : (b : ℕ) → is_name_byte b ≡ true → is_part_byte b ≡ true
 unfolding is_text_byte
 part_byte b h = rw (no_name_byte 0 b refl h, no_name_byte 9 b refl h, no_name_byte 10 b refl h, no_name_byte 47 b refl h) refl
@@ -123,7 +123,7 @@ unit_slot_is place name is =
     ∙ ap (named_slot (Some (slots.Unit place))) (name-seam dir name none)
     ∙ rw is refl
 
--- a text that is a path is found as one
+-- if a text is a path, the result is this path
 pub found_path : (text path : List ℕ) (o : Option (List ℕ)) → text ≡ path → o ≡ cond (is_path text) (Some text) None → is_path path ≡ true → o ≡ Some path
 found_path text path o same is good = is ∙ ap (λ (t : List ℕ). cond (is_path t) (Some t) None) same ∙ ap (λ b. cond b (Some path) None) good
 

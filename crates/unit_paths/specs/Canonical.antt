@@ -1,4 +1,4 @@
--- Where a link leads: its target, taken from the link's directory, as a path.
+-- Where a link leads: its target, resolved from the link's directory, as a path.
 use Rattle.std.specs.Prelude.{ℕ, ◌+◌, take, drop, Bool, false, not, ◌||◌, ◌&&◌, nat_lt, nat_le, nat_eq, if◌then◌else◌, List, [], ◌∷◌, ◌++◌, length, Option, Some, None, codes}
 use Rattle.std.specs.List.{slice_split, starts_with, position}
 use Rattle.std.specs.Option.{option_map, option_map_or}
@@ -6,11 +6,11 @@ use Rattle.std.specs.Str.{bytes_eq}
 use Rattle.unit_paths.specs.Paths.{is_part, is_slash, is_path, parent, name_at}
 use Prim.Native.Char.{code}
 
--- what stands before the first slash and after it
+-- what comes before the first slash and after it
 abbrev pub cut_at_slash : List ℕ → Option (List ℕ × List ℕ)
 cut_at_slash text = option_map (λ i. (take i text, drop (i + 1) text)) (position is_slash text)
 
--- one step: a part is added, an empty one and . are passed over, and .. takes the last part away
+-- one step: a part is added, an empty one and . are skipped, and .. removes the last part
 unfoldable pub with_part : List ℕ → List ℕ → List ℕ
 with_part text part =
     if is_part part then text ++ code "/" ∷ part
@@ -26,7 +26,8 @@ unfoldable pub begins_with_slash : List ℕ → Bool
 begins_with_slash [] = false
 begins_with_slash (b ∷ bs) = is_slash b
 
--- a target that begins with a slash stands alone, another is joined to the link's directory
+-- a target that begins with a slash is resolved on its own, another is joined to the link's
+-- directory
 unfoldable pub start_of : List ℕ → List ℕ → List ℕ
 start_of link target = if begins_with_slash target then [] else parent link
 
@@ -38,11 +39,11 @@ merged text = if starts_with nat_eq text (codes "/lib/systemd/") then codes "/us
 abbrev pub canonical_text : List ℕ → List ℕ → List ℕ
 canonical_text link target = merged (walked (start_of link target) (slice_split is_slash target))
 
--- the same as a path: none for the root and for what is too long
+-- the same as a path: none if it is the root or too long
 abbrev pub canonical : List ℕ → List ℕ → Option (List ℕ)
 canonical link target = if is_path (canonical_text link target) then Some (canonical_text link target) else None
 
--- neither the root nor too long
+-- it is neither the root nor too long
 abbrev pub fits : List ℕ → Bool
 fits text = nat_lt 0 (length text) && nat_le (length text) 4095
 
@@ -50,6 +51,7 @@ fits text = nat_lt 0 (length text) && nat_le (length text) 4095
 unfoldable pub is_null_target : List ℕ → List ℕ → Bool
 is_null_target link target = option_map_or (λ path. bytes_eq path (codes "/dev/null")) (canonical link target) false
 
--- for the code alone, no public contract cites it: whether a walk over a target may end with null, since its last part is that or no part of a path
+-- used only by the code, no public contract refers to it: whether a walk over a target may end with
+-- null, because its last part is null or is empty, . or ..
 abbrev pub may_end_with_null : List ℕ → Bool
 may_end_with_null target = not (is_part (name_at target)) || bytes_eq (name_at target) (codes "null")

@@ -1,4 +1,4 @@
--- What the kind of a slot decides, kind by kind: a new kind has to be decided in each of these.
+-- What depends on the kind of a slot, kind by kind: a new kind must be added to each of these.
 use Rattle.std.specs.Prelude.{Bool, true, false, Option, Some, None, is_some}
 use Rattle.unit_paths.specs.Places.{scope_of_place}
 use Rattle.unit_paths.specs.declared.place.Scope.{Scope}
@@ -25,7 +25,8 @@ is_preset (Some (Requires place)) = false
 is_preset (Some (Upholds place)) = false
 is_preset (Some (Preset place)) = true
 
--- of which dependency it is the slot, if it is one of a dependency: systemd.unit(5), "Wants=", "Requires=" and "Upholds="
+-- of which kind of dependency it is the slot, if it is one of a dependency: systemd.unit(5),
+-- "Wants=", "Requires=" and "Upholds="
 abbrev pub dependency_of : Option Slot → Option Dependency
 dependency_of None = None
 dependency_of (Some (Unit place)) = None

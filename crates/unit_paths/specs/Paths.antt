@@ -7,7 +7,7 @@ use Prim.Native.Char.{code}
 unfoldable pub is_text_byte : ℕ → Bool
 is_text_byte b = not (b == code "\0" || b == code "\t" || b == code "\n")
 
--- neither empty nor . nor ..
+-- a text that is neither empty nor . nor ..
 unfoldable pub is_part : List ℕ → Bool
 is_part [] = false
 is_part (a ∷ []) = not (a == code ".")
@@ -32,11 +32,11 @@ abbrev pub is_root : List ℕ → Bool
 is_root [] = true
 is_root (b ∷ bs) = false
 
--- what stands before the last slash: the directory of a path; nothing where there is no slash
+-- what comes before the last slash, the directory of a path; nothing if there is no slash
 unfoldable pub parent : List ℕ → List ℕ
 parent = before_last is_slash
 
--- what stands after the last slash: the name of a path
+-- what comes after the last slash: the name of a path
 unfoldable pub name_at : List ℕ → List ℕ
 name_at = after_last is_slash
 

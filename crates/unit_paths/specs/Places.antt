@@ -22,7 +22,7 @@ places = Etc ∷ Run ∷ Local ∷ Vendor ∷ []
 abbrev pub preset_directory : Place → List ℕ
 preset_directory place = unit_directory place ++ codes "-preset"
 
--- beside which of them presets are read
+-- the directories of units that have a directory of presets next to them
 abbrev pub preset_places : List Place
 preset_places = Etc ∷ Run ∷ Vendor ∷ []
 

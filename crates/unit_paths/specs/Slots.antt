@@ -22,7 +22,8 @@ dependency_ending dependencies.Wants = codes ".wants"
 dependency_ending dependencies.Requires = codes ".requires"
 dependency_ending dependencies.Upholds = codes ".upholds"
 
--- DIR/OF.wants/NAME, DIR/OF.requires/NAME or DIR/OF.upholds/NAME: the path of the link by which a unit depends on another
+-- DIR/OF.wants/NAME, DIR/OF.requires/NAME or DIR/OF.upholds/NAME: the path of the link by which a
+-- unit depends on another
 abbrev pub dependency_slot : Place → Dependency → (of name : List ℕ) → List ℕ
 dependency_slot place dependency of name = unit_slot place (of ++ dependency_ending dependency) ++ code "/" ∷ name
 
@@ -76,8 +77,8 @@ abbrev pub named_slot : Option Slot → List ℕ → Option Slot
 named_slot None name = None
 named_slot (Some slot) name = if is_name_for slot name then Some slot else None
 
--- Which slot a path is: DIR/NAME, DIR/OF.wants/NAME, DIR/OF.requires/NAME and DIR/OF.upholds/NAME with the names of units,
--- or FILE.preset in a directory of presets.
+-- Which slot a path is: DIR/NAME, DIR/OF.wants/NAME, DIR/OF.requires/NAME and DIR/OF.upholds/NAME
+-- with the names of units, or FILE.preset in a directory of presets.
 unfoldable pub slot_of : List ℕ → Option Slot
 slot_of path = named_slot (slots_in (parent path)) (name_at path)
 

@@ -1,4 +1,5 @@
-//! Where a link leads: path_resolution(7) without a file system, so links among the directories aren't followed.
+//! Where a link leads: path_resolution(7) without a file system, so links that are directories on
+//! the way aren't followed.
 ghost use Rattle.std.specs.Prelude.{◌≡◌, ◌+◌, ◌≤◌, ◌<◌, length, OnOk, IfOk, IsOk};
 ghost use Rattle.std.specs.List.{slice_split};
 ghost use Rattle.smallvec.specs.SmallVec.{small_vec_len};
@@ -13,18 +14,20 @@ use crate::text::{cut_at_last_slash, cut_at_slash, parent_len};
 use smallvec::SmallVec;
 use std::alloc::{AllocError, Global};
 
-/// Room for a path, a slash and a target, each of at most 4,095 bytes: within it a walk allocates nothing.
+/// Capacity for a path, a slash and a target, each of at most 4,095 bytes: within it a walk
+/// allocates nothing.
 const WALK_BYTES: usize = 8192;
 
-/// The text that a walk has come to.
+/// The text that a walk has reached.
 type Walk = SmallVec<u8, WALK_BYTES>;
 
-/// Where a link at this path with this target leads: path_resolution(7). An absolute target is taken alone, another from
-/// the link's directory; empty parts and `.` are left out, `..` takes away the part before it, if there is one; and then
-/// `/lib/systemd/` in front is read as `/usr/lib/systemd/`. The target may be any text, of any length.
+/// Where a link at this path with this target leads: path_resolution(7). An absolute target is
+/// resolved on its own, another from the link's directory. Empty parts and `.` are skipped, and
+/// `..` removes the part before it, if there is one. Then `/lib/systemd/` at the beginning is read
+/// as `/usr/lib/systemd/`. The target may be any text, of any length.
 ///
-/// `None` where this comes to the root, or to a text with over 4,095 bytes, a NUL, TAB or LF. The only error is that there
-/// is no memory for the path.
+/// `None` if the result is the root, has over 4,095 bytes, or has a NUL, TAB or LF. Fails only if
+/// memory runs out.
 pub fn canonical(
     alloc: Global,
     link: &TreePath,
@@ -36,17 +39,18 @@ pub fn canonical(
     Ok(TreePath::of_text(merged(alloc, text.as_slice())?))
 }
 
-/// Whether a link at this path with this target leads to `/dev/null`, which masks a unit: systemctl(1), `mask`. It
-/// allocates nothing.
+/// Whether a link at this path with this target leads to `/dev/null`, which masks a unit:
+/// systemctl(1), `mask`. It allocates nothing.
 pub fn is_null_target(link: &TreePath, target: &Target) -> bool
     ensures { result ≡ is_null_target link.now target.now }
 {
-    // (most links lead elsewhere, and their last part tells; most masks are spelled so)
+    // (most links lead elsewhere, as their last part shows; most masks are written exactly so)
     let text = target.text();
     text == b"/dev/null".as_slice() || may_end_with_null(text) && walks_to_null(link, target)
 }
 
-/// Whether a walk over the target may end with `null`: where its last part is that, or is passed over or `..`.
+/// Whether a walk over the target may end with `null`: its last part is `null`, is skipped, or is
+/// `..`.
 fn may_end_with_null(target: &[u8]) -> bool
     ensures { result ≡ may_end_with_null target.now }
 {
@@ -54,7 +58,7 @@ fn may_end_with_null(target: &[u8]) -> bool
     !is_part(end) || end == b"null".as_slice()
 }
 
-/// Whether the walk over the target comes to `/dev/null`.
+/// Whether the walk over the target ends at `/dev/null`.
 fn walks_to_null(link: &TreePath, target: &Target) -> bool
     ensures { result ≡ is_null_target link.now target.now }
 {
@@ -62,7 +66,7 @@ fn walks_to_null(link: &TreePath, target: &Target) -> bool
     text.as_slice() == b"/dev/null".as_slice()
 }
 
-/// What a walk over the target comes to, from the link's directory or the root.
+/// The result of a walk over the target, from the link's directory or from the root.
 fn walk_from(alloc: Global, link: &[u8], target: &[u8]) -> Result<Walk, AllocError>
     ensures text { IfOk result (λ text. text.items ≡ walked (start_of link.now target.now) (slice_split is_slash target.now)) }
     ensures inline { length link.now ≤ MAX_PATH → length target.now ≤ MAX_PATH → IsOk result }
@@ -72,7 +76,7 @@ fn walk_from(alloc: Global, link: &[u8], target: &[u8]) -> Result<Walk, AllocErr
     Ok(text)
 }
 
-/// Where the walk begins: at the root for an absolute target, else in the link's directory.
+/// Where the walk begins: at the root for an absolute target, otherwise in the link's directory.
 #[tactic(auto, unfolding(crate::specs::Canonical::start_of, crate::specs::Canonical::begins_with_slash))]
 fn start_of(alloc: Global, link: &[u8], target: &[u8]) -> Result<Walk, AllocError>
     ensures text { IfOk result (λ start. start.items ≡ start_of link.now target.now) }
@@ -89,7 +93,7 @@ fn start_of(alloc: Global, link: &[u8], target: &[u8]) -> Result<Walk, AllocErro
     }
 }
 
-/// Takes the last part away; the root stays.
+/// Removes the last part; the root stays.
 fn leave_part(text: &mut Walk)
     ensures text { text.new.items ≡ parent text.old.items }
     ensures shorter { small_vec_len text.new ≤ small_vec_len text.old }
@@ -128,7 +132,8 @@ fn take_part(text: &mut Walk, part: &[u8]) -> Result<(), AllocError>
     Ok(())
 }
 
-/// The text with `/lib/systemd/` in front read as `/usr/lib/systemd/`: `/lib` is a link to `/usr/lib`, file-hierarchy(7).
+/// The text with `/lib/systemd/` at its beginning read as `/usr/lib/systemd/`: `/lib` is a link to
+/// `/usr/lib`, file-hierarchy(7).
 #[tactic(auto, unfolding(crate::specs::Canonical::merged))]
 fn merged(alloc: Global, text: &[u8]) -> Result<Vec<u8>, AllocError>
     ensures { IfOk result (λ whole. whole.items ≡ merged text.now) }

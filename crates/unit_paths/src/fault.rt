@@ -8,13 +8,14 @@ use thiserror::Error;
 /// The longest path or target, in bytes: `PATH_MAX` of limits.h without the NUL at the end.
 pub const MAX_PATH: usize = 4095;
 
-/// Why a text gives no path.
+/// Why a text isn't a path.
 #[derive(Clone, Copy, Debug, PartialEq, Eq, Hash, Error)]
 pub enum PathError {
-    /// It isn't absolute, is the root, has an empty part, a part `.` or `..`, a NUL, TAB or LF, or over 4,095 bytes.
+    /// It isn't absolute, is the root, has an empty part, a part `.` or `..`, a NUL, TAB or LF, or
+    /// over 4,095 bytes.
     #[error("bad path")]
     BadPath,
-    /// There is no memory for a copy of the text.
+    /// Memory ran out.
     #[error("out of memory")]
     OutOfMemory,
 }
@@ -27,13 +28,13 @@ impl From<AllocError> for PathError {
     }
 }
 
-/// Why a text gives no target.
+/// Why a text isn't a target.
 #[derive(Clone, Copy, Debug, PartialEq, Eq, Hash, Error)]
 pub enum TargetError {
     /// It is empty, has a NUL, TAB or LF, or over 4,095 bytes.
     #[error("bad target")]
     BadTarget,
-    /// There is no memory for a copy of the text.
+    /// Memory ran out.
     #[error("out of memory")]
     OutOfMemory,
 }

@@ -1,5 +1,5 @@
-//! The paths of unit files and links: which texts are paths and targets, where a link leads, and which paths are slots,
-//! where commands place entries. systemd.unit(5), "Unit File Load Path".
+//! The paths of unit files and links: which texts are paths and targets, where a link leads, and
+//! which paths are slots, at which commands place entries. systemd.unit(5), "Unit File Load Path".
 #![tactic(auto)]
 
 mod canonical_form;

@@ -18,7 +18,7 @@ fn has_text_bytes(text: &[u8]) -> bool
     text.iter().all(|b| is_text_byte(*b))
 }
 
-/// Whether a text may stand between two slashes of a path.
+/// Whether a text may be a part between two slashes of a path.
 #[tactic(auto, unfolding(crate::specs::Paths::is_part))]
 pub(crate) fn is_part(part: &[u8]) -> bool
     ensures { result ≡ is_part part.now }

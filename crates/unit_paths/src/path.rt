@@ -10,9 +10,10 @@ use std::marker::Model;
 /// The least byte that a part of a path may begin with.
 const LEAST_BYTE: u8 = 1;
 
-/// Where an entry stands in a tree, as `/etc/systemd/system/ssh.service`: an absolute path of at most 4,095 bytes, without
-/// NUL, TAB and LF, and without empty parts, `.` and `..`; the root is none. Paths are compared, ordered and hashed by
-/// the bytes of their text. Contracts see the text.
+/// The path of an entry in a tree, as `/etc/systemd/system/ssh.service`: an absolute path of at
+/// most 4,095 bytes, without NUL, TAB and LF, and without empty parts, `.` and `..`; the root is
+/// not allowed. Paths are compared, ordered and hashed by the bytes of their text. Contracts see
+/// the text.
 #[derive(Debug, Drop)]
 pub struct TreePath {
     text: Vec<u8>,
@@ -32,9 +33,11 @@ impl Model for TreePath {
 impl TreePath {
     /// Reads a path, and copies the text.
     ///
-    /// - `BadPath`: the text has over 4,095 bytes, has a NUL, TAB or LF, doesn't begin with a slash, is the root, or has a
-    ///   part between its slashes that is empty, `.` or `..`; a slash at the end counts as an empty part.
-    /// - `OutOfMemory`: there is no memory for the copy. The text is checked first, so a bad one is always `BadPath`.
+    /// - `BadPath`: the text has over 4,095 bytes, has a NUL, TAB or LF, doesn't begin with a
+    ///   slash, is the root, or has a part between its slashes that is empty, `.` or `..`; a slash
+    ///   at the end counts as an empty part.
+    /// - `OutOfMemory`: memory runs out. The text is checked first, so a bad one is always
+    ///   `BadPath`.
     pub fn parse(alloc: Global, text: &[u8]) -> Result<TreePath, PathError>
         ensures path { IfOk result (λ path. (path ≡ text.now) × (is_path text.now ≡ true)) }
         ensures bad { result ≡ Err PathError.BadPath → is_path text.now ≡ false }
@@ -46,7 +49,7 @@ impl TreePath {
         Ok(TreePath { text })
     }
 
-    /// Takes a text as a path; `None` where it is none.
+    /// Takes a text as a path; `None` if it isn't one.
     pub(crate) fn of_text(text: Vec<u8>) -> Option<TreePath>
         ensures { result ≡ (if is_path text.items then Some text.items else None) }
     {
@@ -70,21 +73,21 @@ impl TreePath {
         &self.text
     }
 
-    /// What stands after the last slash: `ssh.service`.
+    /// What comes after the last slash: `ssh.service`.
     pub fn file_name(&self) -> &[u8]
         ensures { result.now ≡ name_at self.now }
     {
         cut_at_last_slash(self.text()).1
     }
 
-    /// What stands before the last slash: `/etc/systemd/system`; the empty text where that is the root.
+    /// What comes before the last slash: `/etc/systemd/system`; the empty text if that is the root.
     pub fn directory(&self) -> &[u8]
         ensures { result.now ≡ parent self.now }
     {
         cut_at_last_slash(self.text()).0
     }
 
-    /// An equal path. The only error is that there is no memory for it.
+    /// An equal path. Fails only if memory runs out.
     pub fn copy(&self) -> Result<TreePath, AllocError>
         ensures { IfOk result (λ path. path ≡ self.now) }
     {
@@ -93,7 +96,7 @@ impl TreePath {
         })
     }
 
-    /// The directory of the path, in the memory of the path; `None` where that is the root.
+    /// The directory of the path, in the memory of the path; `None` if that is the root.
     pub fn into_parent(self) -> Option<TreePath>
         ensures parent { result ≡ parent_of self }
         ensures path { is_path self ≡ true }
@@ -109,8 +112,9 @@ impl TreePath {
         }
     }
 
-    /// The first path in byte order that can lie beneath this one, from which a sorted map is searched for such paths;
-    /// `None` where none can, since it would have over 4,095 bytes. The only error is that there is no memory for it.
+    /// The first path in byte order that can lie beneath this one, so that a sorted map can be
+    /// searched for such paths; `None` if no path can, since it would have over 4,095 bytes. Fails
+    /// only if memory runs out.
     pub fn first_beneath(&self) -> Result<Option<TreePath>, AllocError>
         ensures first { IfOk result (λ first. first ≡ first_beneath self.now) }
         ensures path { is_path self.now ≡ true }

@@ -2,10 +2,11 @@
 ghost use Rattle.std.specs.Prelude.{◌≡◌};
 ghost use Rattle.unit_paths.specs.Places.{unit_directory, preset_directory, place_of, preset_place_of, scope_place, scope_of_place};
 
-/// Where a command places its entries: below `/etc`, or with `--runtime` below `/run`. systemctl(1), `--runtime`.
+/// Where a command places its entries: below `/etc`, or with `--runtime` below `/run`.
+/// systemctl(1), `--runtime`.
 #[derive(Clone, Copy, Debug, PartialEq, Eq, Hash, PartialOrd, Ord)]
 pub enum Scope {
-    /// For good.
+    /// Permanently.
     Etc,
     /// Until the next boot.
     Run,
@@ -23,23 +24,24 @@ impl Scope {
     }
 }
 
-/// A directory of units, in the order in which they are searched. systemd.unit(5), "Unit File Load Path".
+/// The directories of units, in the order in which they are searched: systemd.unit(5), "Unit File
+/// Load Path".
 #[derive(Clone, Copy, Debug, PartialEq, Eq, Hash, PartialOrd, Ord)]
 pub enum Place {
     /// `/etc/systemd/system`, the administrator's.
     Etc,
     /// `/run/systemd/system`, until the next boot.
     Run,
-    /// `/usr/local/lib/systemd/system`, what was installed locally.
+    /// `/usr/local/lib/systemd/system`, for units that were installed locally.
     Local,
-    /// `/usr/lib/systemd/system`, what was installed by packages.
+    /// `/usr/lib/systemd/system`, for units that packages installed.
     Vendor,
 }
 
 /// The directories of units, in the order in which they are searched.
 pub(crate) const PLACES: [Place; 4] = [Place::Etc, Place::Run, Place::Local, Place::Vendor];
 
-/// Beside which of them presets are read.
+/// The directories of units that have a directory of presets next to them.
 pub(crate) const PRESET_PLACES: [Place; 3] = [Place::Etc, Place::Run, Place::Vendor];
 
 impl Place {
@@ -56,7 +58,7 @@ impl Place {
         }
     }
 
-    /// The path of the directory of presets next to it, systemd.preset(5). That of `Local` is not
+    /// The path of the directory of presets next to it: systemd.preset(5). That of `Local` is not
     /// read.
     #[tactic(auto, unfolding(crate::specs::Places::unit_directory))]
     pub fn preset_directory(self) -> &'static str

@@ -1,4 +1,4 @@
-//! Where entries may stand.
+//! At which paths a tree may have entries.
 ghost use Rattle.std.specs.Prelude.{◌≡◌, []};
 ghost use Rattle.unit_paths.specs.Shape.{is_beneath, is_under_slot, is_over_units, is_over_presets, is_bad_shape};
 
@@ -8,15 +8,15 @@ use crate::slot::{slot_of, slots_in};
 use crate::text::begins_with_slash;
 
 impl TreePath {
-    /// Whether this path lies beneath the other: it goes on after the whole of it, with a slash between.
+    /// Whether this path lies beneath the other: it begins with the whole of the other and a slash.
     pub fn is_beneath(&self, above: &TreePath) -> bool
         ensures { result ≡ is_beneath self.now above.now }
     {
         is_beneath(self.text(), above.text())
     }
 
-    /// Whether no entry may stand at the path in any tree: it lies beneath a slot, is a directory in which slots stand, or
-    /// one above a directory of units or presets.
+    /// Whether no tree may have an entry at the path: it lies beneath a slot, or is a directory
+    /// that contains slots, or one above a directory of units or presets.
     pub fn is_bad_shape(&self) -> bool
         ensures { result ≡ is_bad_shape self.now }
     {

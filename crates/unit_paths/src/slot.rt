@@ -37,7 +37,8 @@ impl Dependency {
     }
 }
 
-/// What kind of slot a path is. A slot is a path at which commands create, replace or remove an entry.
+/// What kind of slot a path is. A slot is a path at which commands create, replace or remove an
+/// entry.
 #[derive(Clone, Copy, Debug, PartialEq, Eq, Hash)]
 pub enum Slot {
     /// `DIR/NAME`: a unit's file, or a link in its place.
@@ -60,7 +61,8 @@ impl Slot {
         slot_of(path.text())
     }
 
-    /// Whether the path is the slot of a unit: a unit's name in one of the four directories of units.
+    /// Whether the path is the slot of a unit: a unit's name in one of the four directories of
+    /// units.
     pub fn is_of_unit(path: &TreePath) -> bool
         ensures { result ≡ is_unit_slot (slot_of path.now) }
     {
@@ -82,8 +84,8 @@ impl Slot {
         }
     }
 
-    /// How the unit of the directory depends on the unit of the slot: at `DIR/OF.wants/NAME` the unit
-    /// `OF` wants the unit `NAME`. `None` if the path is no slot in a dependency directory.
+    /// How the unit of the directory depends on the unit of the slot: at `DIR/OF.wants/NAME` the
+    /// unit `OF` wants the unit `NAME`. `None` if the path is no slot in a dependency directory.
     pub fn dependency_of(path: &TreePath) -> Option<Dependency>
         ensures { result ≡ dependency_of (slot_of path.now) }
     {

@@ -6,8 +6,8 @@ use crate::part::is_target;
 use std::alloc::{AllocError, Global};
 use std::marker::Model;
 
-/// What a link holds: a path, absolute or from the link's directory, as it was written, of 1 to 4,095 bytes without NUL,
-/// TAB and LF. symlink(7). Contracts see its text.
+/// The target of a link as it was written: an absolute path, or one relative to the link's
+/// directory, of 1 to 4,095 bytes without NUL, TAB and LF. symlink(7). Contracts see its text.
 #[derive(Debug, Drop)]
 pub struct Target {
     text: Vec<u8>,
@@ -28,7 +28,8 @@ impl Target {
     /// Reads a target, and copies the text.
     ///
     /// - `BadTarget`: the text is empty, has over 4,095 bytes, or has a NUL, TAB or LF.
-    /// - `OutOfMemory`: there is no memory for the copy. The text is checked first, so a bad one is always `BadTarget`.
+    /// - `OutOfMemory`: memory runs out. The text is checked first, so a bad one is always
+    ///   `BadTarget`.
     pub fn parse(alloc: Global, text: &[u8]) -> Result<Target, TargetError>
         ensures target { IfOk result (λ target. (target ≡ text.now) × (is_target text.now ≡ true)) }
         ensures bad { result ≡ Err TargetError.BadTarget → is_target text.now ≡ false }
@@ -48,7 +49,7 @@ impl Target {
         &self.text
     }
 
-    /// An equal target. The only error is that there is no memory for it.
+    /// An equal target. Fails only if memory runs out.
     pub fn copy(&self) -> Result<Target, AllocError>
         ensures { IfOk result (λ target. target ≡ self.now) }
     {

@@ -1,4 +1,4 @@
-//! The commands that install units, of their lines.
+//! The commands that install units, from their lines.
 use crate::lines::{arguments, has_verb, have_verbs, scope_and_units, units};
 use crate::questions::{OfLine, asked, no_such_verb};
 use footprint::Then;

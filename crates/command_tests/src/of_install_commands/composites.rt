@@ -5,7 +5,8 @@ use sample_rows::Row;
 use std::alloc::{AllocError, Global};
 use std::test::Fail;
 
-/// `a` had another alias and names `b`, which is enabled; the file of `app` lies outside the directories of units.
+/// `a` had another alias and names `b`, which is enabled; the file of `app` is outside the
+/// directories of units.
 const LINKED: &[u8] = b"unitadm-inventory 1\n\
     L\t/etc/systemd/system/app.service\t/opt/app.service\n\
     L\t/etc/systemd/system/m.target.wants/app.service\t/opt/app.service\n\
@@ -16,7 +17,8 @@ const LINKED: &[u8] = b"unitadm-inventory 1\n\
     F\t28\t/usr/lib/systemd/system/b.service\n[Install]\nWantedBy=m.target\n\n\
     end\n";
 
-/// `a` and instances of `t` are to be enabled, and all others disabled; `x` is another name of `a`, and `s` asks for nothing.
+/// `a` and instances of `t` must be enabled, and all others disabled; `x` is another name of `a`,
+/// and `s` asks for nothing.
 const PRESET: &[u8] = b"unitadm-inventory 1\n\
     L\t/etc/systemd/system/m.target.wants/b.service\t/usr/lib/systemd/system/b.service\n\
     L\t/etc/systemd/system/x.service\t/usr/lib/systemd/system/a.service\n\

@@ -5,7 +5,8 @@ use sample_rows::Row;
 use std::alloc::{AllocError, Global};
 use std::test::Fail;
 
-/// `a` names `b`, both are enabled, `a` by hand too; `null` is masked, and `gone` has links but no file.
+/// `a` names `b`, both are enabled, `a` by hand too; `null` is masked, and `gone` has links but no
+/// file.
 const TREE: &[u8] = b"unitadm-inventory 1\n\
     L\t/etc/systemd/system/alias.service\t/usr/lib/systemd/system/a.service\n\
     L\t/etc/systemd/system/m.target.wants/a.service\t/usr/lib/systemd/system/a.service\n\

@@ -5,8 +5,8 @@ use sample_rows::Row;
 use std::alloc::{AllocError, Global};
 use std::test::Fail;
 
-/// `ssh` is enabled by its alias alone, `getty@` has a default instance and `web@` has none, `a` and `b` name one another, and each
-/// wants to be the alias `c`; `app` is linked from elsewhere.
+/// `ssh` is enabled by its alias alone, `getty@` has a default instance and `web@` has none, `a`
+/// and `b` name one another, and each wants to be the alias `c`; `app` is linked from elsewhere.
 const TREE: &[u8] = b"unitadm-inventory 1\n\
     L\t/etc/systemd/system/app.service\t/opt/app.service\n\
     L\t/etc/systemd/system/sshd.service\t/usr/lib/systemd/system/ssh.service\n\
@@ -19,7 +19,7 @@ const TREE: &[u8] = b"unitadm-inventory 1\n\
     F\t28\t/usr/lib/systemd/system/web@.service\n[Install]\nWantedBy=m.target\n\n\
     end\n";
 
-/// Two other links are where those of `a` are to be made.
+/// Two other links are where those of `a` must be made.
 const IN_THE_WAY: &[u8] = b"unitadm-inventory 1\n\
     L\t/etc/systemd/system/m.target.requires/a.service\t/b\n\
     L\t/etc/systemd/system/m.target.wants/a.service\t/b\n\

@@ -1,4 +1,4 @@
-//! As many units as there may be, and one more.
+//! The maximum number of units, and one more.
 use crate::questions::{assert_rows, checked_result};
 use footprint::{Operation, Units};
 use install_commands::{Disable, Enable};
@@ -25,7 +25,7 @@ fn push_numbered(alloc: Global, units: &mut Units, prefix: u8, n: usize) -> Resu
     units.push(name)
 }
 
-/// So many different units.
+/// This number of different units.
 fn numbered(alloc: Global, prefix: u8, count: usize) -> Result<Units, AllocError> {
     let mut units = Units::none(alloc);
     for n in 0..count {
@@ -39,7 +39,8 @@ const TREE: &[u8] = b"unitadm-inventory 1\n\
     F\t1\t/usr/lib/systemd/system/u@.service\n#\n\
     end\n";
 
-/// The command, the prefix of the units' names, how many units there are, and what the command results in.
+/// The command, the prefix of the units' names, how many units there are, and what the command
+/// results in.
 const ROWS: &[u8] = b"\
     enable\tu\t1024\tdone\n\
     enable\tu\t1025\ttoo many\n\

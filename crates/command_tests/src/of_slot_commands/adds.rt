@@ -7,7 +7,8 @@ use slot_commands::{AddTo, AddedDependency};
 use std::alloc::{AllocError, Global};
 use std::test::Fail;
 
-/// `getty@` has a default instance, `bare@` has none, and `bad@` one that makes no name; `c` is listed elsewhere.
+/// `getty@` has a default instance, `bare@` has none, and `bad@` one that doesn't make a valid
+/// name; `c` is listed elsewhere.
 const TREE: &[u8] = b"unitadm-inventory 1\n\
     F\t30\t/usr/lib/systemd/system/bad@.service\n[Install]\nDefaultInstance=a/b\n\n\
     F\t6\t/usr/lib/systemd/system/bare@.service\n[Unit]\n\

@@ -7,7 +7,7 @@ use slot_commands::SetDefault;
 use std::alloc::{AllocError, Global};
 use std::test::Fail;
 
-/// What each tree has beside the default target.
+/// What each tree has in addition to the default target.
 const REST: &[u8] = b"F\t1\t/usr/lib/systemd/system/multi-user.target\nm\n\
     L\t/usr/lib/systemd/system/runlevel3.target\tmulti-user.target\n\
     F\t1\t/usr/lib/systemd/system/ssh.service\ns\n\

@@ -10,8 +10,8 @@ use slot_commands::{Mask, Unmask};
 use std::alloc::{AllocError, Global};
 use std::test::Fail;
 
-/// `a` and `d` are masked, the second in another spelling, `e` is an empty file, `f` is a file, `x` a link, and `r` is
-/// masked until the next start.
+/// `a` and `d` are masked, the second in another spelling, `e` is an empty file, `f` is a file, `x`
+/// a link, and `r` is masked until the next start.
 const TREE: &[u8] = b"unitadm-inventory 1\n\
     L\t/etc/systemd/system/a.service\t/dev/null\n\
     L\t/etc/systemd/system/d.service\t../../../dev/./null\n\
@@ -28,8 +28,9 @@ const MASKED: &[u8] = b"unitadm-inventory 1\n\
     L\t/etc/systemd/system/x.service\t/dev/null\n\
     end\n";
 
-/// Two more kinds: `agrees` answers whether TREE agrees with what a mask of the empty tree has looked at, or at which key
-/// it does not, and `touches` whether the one change of that mask touches the key that is there instead of TREE.
+/// Two more kinds: `agrees` says whether TREE agrees with what a mask of the empty tree has looked
+/// at, or at which key it doesn't, and `touches` whether the one change of that mask touches the
+/// key that is there instead of TREE.
 const ROWS: &[u8] = b"\
     # Empty slots are filled\n\
     run\tmask z.service a.service b@.socket z.service d.service\t\tdone\\n\

@@ -1,4 +1,4 @@
-//! Dependencies, either way.
+//! Dependencies, in both directions.
 use crate::lines::arguments;
 use crate::questions::{OfLine, asked, assert_rows};
 use sample_rows::Row;
@@ -7,7 +7,8 @@ use states::Dependencies;
 use std::alloc::{AllocError, Global};
 use std::test::Fail;
 
-/// Links in all four directories, one to `/dev/null`, a file, a unit that depends on itself, and a circle.
+/// Links in all four directories, one to `/dev/null`, a file, a unit that depends on itself, and a
+/// circle.
 const PLAIN: &[u8] = b"unitadm-inventory 1\n\
     L\t/etc/systemd/system/a.target.wants/b.service\t/usr/lib/systemd/system/b.service\n\
     L\t/etc/systemd/system/a.target.wants/n.service\t/dev/null\n\
@@ -36,7 +37,7 @@ const LONG: &[u8] = b"unitadm-inventory 1\n\
     llllllllllllllllllllllllllllllllllllllllllllllllllllllllllllllllllllllllllllllllllllllllllllllllllll@.service\t/x\n\
     end\n";
 
-/// Names are answered each on a line.
+/// Names in answers are each on a line.
 const ROWS: &[u8] = b"\
     # Units depend on others by links\n\
     ask\tdependencies a.target\t\tb.service\\nc.service\\nd.service\n\

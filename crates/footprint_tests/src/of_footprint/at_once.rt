@@ -55,7 +55,7 @@ const ROWS: &[u8] = b"\
     # reads: what the keys ONE read. No presets are an empty set.\n\
     reads\tpresets\t\tpresets\\nunitadm-inventory 1\\nend\\n\n";
 
-/// Wants a link at a slot by `+`, and otherwise none there.
+/// Wants a link at a slot if there is a `+`, and otherwise none there.
 fn put(
     wanted: &mut WantedLinks,
     sign: u8,
@@ -111,15 +111,15 @@ fn push_entry(text: &mut Vec<u8>, sign: &[u8], entry: &Option<Entry>) -> Result<
     Ok(())
 }
 
-fn push_change(text: &mut Vec<u8>, change: &Change) -> Result<(), AllocError> {
+pub(crate) fn push_change(text: &mut Vec<u8>, change: &Change) -> Result<(), AllocError> {
     text.extend_from_slice(change.path.file_name())?;
     push_entry(text, b" - ", &change.before)?;
     push_entry(text, b" + ", &change.after)?;
     text.extend_from_slice(b"\n")
 }
 
-/// The names at which something was changed, with the entry before and the one after, or the refusal; and then the names of the cells
-/// that were read.
+/// The names at which something was changed, with the entry before and the one after, or the
+/// refusal; and then the names of the cells that were read.
 fn push_outcome(text: &mut Vec<u8>, outcome: &Outcome) -> Result<(), AllocError> {
     if let Answer::Refused(Refusal::Exists(path)) = &outcome.answer {
         text.extend_from_slice(b"exists ")?;
@@ -144,7 +144,7 @@ fn text_of(alloc: Global, outcome: &Outcome) -> Result<Vec<u8>, AllocError> {
     Ok(text)
 }
 
-/// What is reported of links that are wanted, if these keys were looked at before.
+/// What is reported about links that are wanted, if these keys were looked at before.
 fn made(
     alloc: Global,
     tree: &Tree,
@@ -159,7 +159,7 @@ fn made(
     text_of(alloc, &outcome)
 }
 
-/// What is reported of the links that are wanted by these words.
+/// What is reported about the links that are wanted by these words.
 fn told(alloc: Global, words: &[u8]) -> Result<Vec<u8>, AllocError> {
     let tree = tree(alloc, TREE)?;
     let wanted = wanted(alloc, words)?;

@@ -1,7 +1,10 @@
-//! Copies, and what is the same as its copy.
-use crate::keys::{key, reading};
+//! Copies, and what is equal to its copy.
+use super::at_once::push_change;
+use super::texts::inventory_of;
+use crate::keys::{key, keys, reading};
 use footprint::{
-    Answer, Changes, Edit, Notice, NoticeKey, Notices, Reason, Refusal, StateWord, Units,
+    Answer, Changes, Edit, Key, Notice, NoticeKey, Notices, Reading, Reason, Refusal, StateWord,
+    Units, agrees,
 };
 use link_tree::{Slot, Tree, TreePath};
 use sample_rows::{Row, unlike};
@@ -26,23 +29,46 @@ const ROWS: &[u8] = b"\
     key\trun:b.service\t\tthe same\n\
     key\tpresets\t\tthe same\n\
     key\tlinks\t\tthe same\n\
+    # A tree is read by the keys ONE: how many observations there are, each key once.\n\
+    observed\t/etc/systemd/system/a.service /a etc:a.service links presets /a\t\t5, agreed: yes\n\
     # A reading by the keys ONE, and how many observations its copy has.\n\
     reading\t/etc/systemd/system/a.service /a etc:a.service links\t\t4, shown alike\n\
     # The changes of TREE if ONE is linked elsewhere and TWO is removed, and how many their copy\n\
     # has.\n\
     changes\t/etc/systemd/system/a.service\t/etc/systemd/system/b.service\t2, shown alike\n\
+    # The same changes taken back: for each the entry before (-) and the one after (+).\n\
+    inverse\t/etc/systemd/system/a.service\t/etc/systemd/system/b.service\t\
+        a.service - b.service + c.service\\nb.service + b\\n\n\
     answer\tdone\t\tthe same, shown alike\n\
     answer\tstate\t\tthe same, shown alike\n\
     answer\tname\t\tthe same, shown alike\n\
     answer\tnames\t\tthe same, shown alike\n\
     answer\trefused\t\tthe same, shown alike\n";
 
-fn key_copied(alloc: Global, text: &[u8]) -> Result<Vec<u8>, AllocError> {
-    let key = key(alloc, text)?;
-    match key.copy()? == key {
+/// What is reported for a call that ran out of memory, if what it was given isn't as it was.
+const CHANGED: &[u8] = b"what was given is changed";
+
+/// Whether a copy of a key is equal to another key of the same text.
+fn told_of_key(alloc: Global, copy: &Key, same: &Key) -> Result<Vec<u8>, AllocError> {
+    match copy == same {
         true => Vec::from_slice(alloc, b"the same"),
         false => Vec::from_slice(alloc, b"another"),
     }
+}
+
+/// What a copy of a key is. If memory runs out, the key is equal to another of its text, and is
+/// copied again.
+fn key_copied(alloc: Global, text: &[u8]) -> Result<Vec<u8>, AllocError> {
+    let original = key(alloc, text)?;
+    let same = key(alloc, text)?;
+    if let Ok(copy) = original.copy() {
+        return told_of_key(alloc, &copy, &same);
+    }
+    if original != same {
+        return Vec::from_slice(alloc, CHANGED);
+    }
+    let copy = original.copy()?;
+    told_of_key(alloc, &copy, &same)
 }
 
 /// Whether two values are shown by the same text.
@@ -55,6 +81,41 @@ fn are_shown_alike<T: Debug>(alloc: Global, one: &T, other: &T) -> Result<bool, 
 fn count_text(alloc: Global, count: usize, are_alike: bool) -> Result<Vec<u8>, AllocError> {
     let shown = if are_alike { "alike" } else { "otherwise" };
     Ok(format!(in alloc; "{count}, shown {shown}")?.into_bytes())
+}
+
+/// What keys read in a tree. If memory runs out, the tree is as it was, and is read again.
+fn read_or_kept(
+    alloc: Global,
+    tree: &Tree,
+    texts: &[u8],
+) -> Result<Option<Box<Reading>>, AllocError> {
+    let first = keys(alloc, texts)?;
+    let second = keys(alloc, texts)?;
+    let before = inventory_of(alloc, tree)?;
+    if let Ok(reading) = Reading::of(alloc, tree, first) {
+        return Ok(Some(Box::new(alloc, reading)?));
+    }
+    if inventory_of(alloc, tree)? != before {
+        return Ok(None);
+    }
+    Ok(Some(Box::new(alloc, Reading::of(alloc, tree, second)?)?))
+}
+
+/// How many observations a reading of a tree has, and whether the tree agrees with it.
+fn observed(alloc: Global, inventory: &[u8], texts: &[u8]) -> Result<Vec<u8>, AllocError> {
+    let tree = tree(alloc, inventory)?;
+    match read_or_kept(alloc, &tree, texts)? {
+        Some(reading) => {
+            let count = reading.as_slice().len();
+            let agreed = if agrees(&tree, &reading).is_ok() {
+                "yes"
+            } else {
+                "no"
+            };
+            Ok(format!(in alloc; "{count}, agreed: {agreed}")?.into_bytes())
+        }
+        None => Vec::from_slice(alloc, CHANGED),
+    }
 }
 
 fn reading_copied(alloc: Global, keys: &[u8]) -> Result<Vec<u8>, AllocError> {
@@ -92,6 +153,30 @@ fn changes_copied(alloc: Global, relinked: &[u8], cleared: &[u8]) -> Result<Vec<
     let copy = changes.copy()?;
     let are_alike = are_shown_alike(alloc, &copy, &changes)?;
     count_text(alloc, copy.as_slice().len(), are_alike)
+}
+
+/// The changes that undo changes. If memory runs out, the changes are as they were, and they are
+/// undone then.
+fn taken_back(alloc: Global, changes: &Changes) -> Result<Changes, AllocError> {
+    let before = changes.copy()?;
+    if let Ok(inverse) = changes.inverse() {
+        return Ok(inverse);
+    }
+    if are_shown_alike(alloc, changes, &before)? {
+        changes.inverse()
+    } else {
+        Ok(before)
+    }
+}
+
+fn inverse_text(alloc: Global, relinked: &[u8], cleared: &[u8]) -> Result<Vec<u8>, AllocError> {
+    let changes = changes(alloc, relinked, cleared)?;
+    let inverse = taken_back(alloc, &changes)?;
+    let mut text = Vec::new(alloc);
+    for change in inverse.as_slice() {
+        push_change(&mut text, change)?;
+    }
+    Ok(text)
 }
 
 fn notice(alloc: Global) -> Result<Notice, AllocError> {
@@ -133,15 +218,34 @@ fn answer_named(alloc: Global, word: &[u8]) -> Result<Box<Answer>, AllocError> {
     Ok(Box::new(alloc, answer)?)
 }
 
-fn answer_copied(alloc: Global, word: &[u8]) -> Result<Vec<u8>, AllocError> {
-    let answer = answer_named(alloc, word)?;
-    let copy = Box::new(alloc, answer.copy()?)?;
-    let are_alike = are_shown_alike(alloc, &*copy, &*answer)?;
-    match (copy.same(&answer), are_alike) {
+/// A copy of an answer.
+fn boxed_copy(alloc: Global, answer: &Answer) -> Result<Box<Answer>, AllocError> {
+    Ok(Box::new(alloc, answer.copy()?)?)
+}
+
+/// What a copy is of an answer that has the same word.
+fn told_of_answer(alloc: Global, copy: &Answer, same: &Answer) -> Result<Vec<u8>, AllocError> {
+    let are_alike = are_shown_alike(alloc, copy, same)?;
+    match (copy.same(same), are_alike) {
         (true, true) => Vec::from_slice(alloc, b"the same, shown alike"),
         (true, false) => Vec::from_slice(alloc, b"the same, shown otherwise"),
         (false, _) => Vec::from_slice(alloc, b"another"),
     }
+}
+
+/// What a copy of an answer is. If memory runs out, the answer is the same as another of its word,
+/// and is copied again.
+fn answer_copied(alloc: Global, word: &[u8]) -> Result<Vec<u8>, AllocError> {
+    let answer = answer_named(alloc, word)?;
+    let same = answer_named(alloc, word)?;
+    if let Ok(copy) = boxed_copy(alloc, &answer) {
+        return told_of_answer(alloc, &copy, &same);
+    }
+    if !answer.same(&same) {
+        return Vec::from_slice(alloc, CHANGED);
+    }
+    let copy = boxed_copy(alloc, &answer)?;
+    told_of_answer(alloc, &copy, &same)
 }
 
 fn answer(alloc: Global, row: &Row) -> Result<Vec<u8>, AllocError> {
@@ -149,11 +253,17 @@ fn answer(alloc: Global, row: &Row) -> Result<Vec<u8>, AllocError> {
     if kind == b"key".as_slice() {
         return key_copied(alloc, &row.one);
     }
+    if kind == b"observed".as_slice() {
+        return observed(alloc, TREE, &row.one);
+    }
     if kind == b"reading".as_slice() {
         return reading_copied(alloc, &row.one);
     }
     if kind == b"changes".as_slice() {
         return changes_copied(alloc, &row.one, &row.two);
+    }
+    if kind == b"inverse".as_slice() {
+        return inverse_text(alloc, &row.one, &row.two);
     }
     if kind == b"answer".as_slice() {
         return answer_copied(alloc, &row.one);

@@ -119,7 +119,7 @@ fn inventory_of(alloc: Global, links: &[u8]) -> Result<Vec<u8>, AllocError> {
     Ok(inventory)
 }
 
-/// The tree `small`, or one of links that have `|` between them.
+/// The tree `small`, or one of links separated by `|`.
 fn tree_of(alloc: Global, text: &[u8]) -> Result<Box<Tree>, AllocError> {
     if text == b"small".as_slice() {
         return tree(alloc, SMALL);
@@ -128,7 +128,8 @@ fn tree_of(alloc: Global, text: &[u8]) -> Result<Box<Tree>, AllocError> {
     tree(alloc, &inventory)
 }
 
-/// The first of these keys, by which the tree of an inventory is read, that says something else of another tree.
+/// The first of these keys, by which the tree of an inventory is read, that reads something else in
+/// another tree.
 fn conflict(
     alloc: Global,
     inventory: &[u8],

@@ -32,6 +32,13 @@ fn push_inventory(alloc: Global, text: &mut Vec<u8>, tree: &Tree) -> Result<(), 
     }
 }
 
+/// The inventory of a tree.
+pub(crate) fn inventory_of(alloc: Global, tree: &Tree) -> Result<Vec<u8>, AllocError> {
+    let mut text = Vec::new(alloc);
+    push_inventory(alloc, &mut text, tree)?;
+    Ok(text)
+}
+
 fn push_entries(alloc: Global, text: &mut Vec<u8>, entries: &TreePart) -> Result<(), AllocError> {
     text.push(b'\n')?;
     let tree = Tree::of(alloc, entries.share()?)?;
@@ -63,8 +70,8 @@ fn told(alloc: Global, reading: &Reading) -> Result<Vec<u8>, AllocError> {
     Ok(text)
 }
 
-/// What a tree is read as by keys that have spaces between them: a line for each key, behind that of a cell `absent` or the bytes of the
-/// entry, and behind another the inventory of what it saw.
+/// What keys, separated by spaces, read in a tree: a line for each key, followed by `absent` or the
+/// bytes of the entry if it is a cell, and otherwise by the inventory of what it saw.
 pub(crate) fn read_as(alloc: Global, inventory: &[u8], keys: &[u8]) -> Result<Vec<u8>, AllocError> {
     let reading = reading(alloc, inventory, keys)?;
     told(alloc, &reading)

@@ -1,4 +1,4 @@
-//! Rows that are listed, and listed no longer.
+//! Rows that are listed, and rows that no longer are.
 use super::indexes::{found, list, listed};
 use crate::changes::change;
 use crate::keys::{EMPTY, reading};
@@ -26,7 +26,7 @@ const ROWS: &[u8] = b"\
     found\t-6 etc:a.service|-6 etc:a.service run:b.service presets links|\
         -1 etc:a.service run:b.service presets links|+9 links\t\t239\n";
 
-/// Lists a row under the keys of a text no longer.
+/// Removes a row from the lists of the keys of a text.
 fn unlist(alloc: Global, readers: &mut Readers, n: u32, texts: &[u8]) -> Result<(), AllocError> {
     let reading = reading(alloc, EMPTY, texts)?;
     readers.remove(&reading, n);

@@ -43,7 +43,7 @@ const ROWS: &[u8] = b"\
         bbbbbbbbbbbbbbbbbbbbbbbbbbbbbbbbbbbbbbbbbbbbbbbbbbbbbbbbbbbbbbbbbbbbbbbbbbbbbbbbbbbbbbbbbbbbbbbbbbbbbbbbbbbbbbbbbbbbbbbbbbbbbbbbbbbbbbbbbbbbbbbbbbbbbbbbbbbbbbbbbbbbbbbbbbbbbbbbbbbbbbbbbbbbbbb@.service\t  \
         ! a@iiiiiiiiiiiiiiiiiiiiiiiiiiiiiiiiiiiiiiiiiiiiiiiiiiiiiiiiiiii.service: Alias bbbbbbbbbbbbbbbbbbbbbbbbbbbbbbbbbbbbbbbbbbbbbbbbbbbbbbbbbbbbbbbbbbbbbbbbbbbbbbbbbbbbbbbbbbbbbbbbbbbbbbbbbbbbbbbbbbbbbbbbbbbbbbbbbbbbbbbbbbbbbbbbbbbbbbbbbbbbbbbbbbbbbbbbbbbbbbbbbbbbbbbbbbbbbbb@.service: bad name\\n\n";
 
-/// What a unit wants, where a file says this of its aliases.
+/// What a unit wants, if a file says this about its aliases.
 fn alias(alloc: Global, file: &[u8], unit: &[u8], words: &[u8]) -> Result<Vec<u8>, AllocError> {
     let mut tree = Vec::from_slice(alloc, file)?;
     tree.extend_from_slice(b" [Install]\nAlias=")?;

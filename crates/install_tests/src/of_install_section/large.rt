@@ -1,4 +1,4 @@
-//! As many units as there may be, and one more.
+//! The maximum number of units, and one more.
 use crate::of_install_section::units::{names, push_name};
 use crate::trees::tree;
 use install_section::{ClosureError, closure};
@@ -27,7 +27,7 @@ fn push_given(alloc: Global, given: &mut Vec<UnitName>, n: usize) -> Result<(), 
     push_name(alloc, given, &text)
 }
 
-/// So many different units.
+/// This number of different units.
 fn numbered(alloc: Global, count: usize) -> Result<Vec<UnitName>, AllocError> {
     let mut given = Vec::new(alloc);
     for n in 0..count {
@@ -36,7 +36,7 @@ fn numbered(alloc: Global, count: usize) -> Result<Vec<UnitName>, AllocError> {
     Ok(given)
 }
 
-/// A tree with a unit whose section names so many different units.
+/// A tree with a unit whose section names this number of different units.
 fn naming(alloc: Global, count: usize) -> Result<Vec<u8>, AllocError> {
     let mut text = Vec::from_slice(alloc, b"u@.service [Install]\n|a.service [Install]\nAlso=")?;
     for n in 0..count {
@@ -46,7 +46,8 @@ fn naming(alloc: Global, count: usize) -> Result<Vec<u8>, AllocError> {
     Ok(text)
 }
 
-/// How many units a closure has, and how many notices; or that they are too many, and how many paths were looked at until then.
+/// How many units a closure has, and how many notices; or that they are too many, and how many
+/// paths were looked at until then.
 type Counts = Result<(usize, usize), usize>;
 
 fn counts(alloc: Global, tree: &Tree, given: &[UnitName]) -> Result<Counts, AllocError> {
@@ -63,7 +64,7 @@ fn given_counted(alloc: Global, count: usize) -> Result<Counts, AllocError> {
     counts(alloc, &tree, &given)
 }
 
-/// The counts of units that are given, so many and all different.
+/// The counts of units that are given, of which there is this number, all different.
 fn counts_given(alloc: Global, count: usize) -> Result<Counts, AllocError> {
     ample!(given_counted(alloc, count), AllocError)
 }
@@ -72,7 +73,7 @@ fn counts_given(alloc: Global, count: usize) -> Result<Counts, AllocError> {
 fn a_thousand_given_units(rt: HostRuntime) -> Result<(), Fail> {
     let most = counts_given(rt.alloc(), 1024)?;
     assert_eq!(rt; most, Ok((1024, 0)));
-    // None is looked up where they are too many.
+    // None is looked up if they are too many.
     let more = counts_given(rt.alloc(), 1025)?;
     assert_eq!(rt; more, Err(0));
     Ok(())
@@ -89,7 +90,20 @@ fn counts_of(alloc: Global, tree_text: &[u8], unit: &[u8]) -> Result<Counts, All
     ample!(unit_counted(alloc, tree_text, unit), AllocError)
 }
 
-/// The counts of a unit whose section names so many different units.
+/// A tree with a unit whose section names this many different units, and one that isn't found.
+fn naming_one_more(alloc: Global, count: usize) -> Result<Vec<u8>, AllocError> {
+    let mut text = naming(alloc, count)?;
+    text.extend_from_slice(b"none.service")?;
+    Ok(text)
+}
+
+/// The counts of a unit whose section names this many different units, and one that isn't found.
+fn counts_skipping(alloc: Global, count: usize) -> Result<Counts, AllocError> {
+    let tree_text = ample!(naming_one_more(alloc, count), AllocError)?;
+    counts_of(alloc, &tree_text, b"a.service")
+}
+
+/// The counts of a unit whose section names this number of different units.
 fn counts_named(alloc: Global, count: usize) -> Result<Counts, AllocError> {
     let tree_text = ample!(naming(alloc, count), AllocError)?;
     counts_of(alloc, &tree_text, b"a.service")
@@ -99,19 +113,52 @@ fn counts_named(alloc: Global, count: usize) -> Result<Counts, AllocError> {
 fn a_thousand_named_units(rt: HostRuntime) -> Result<(), Fail> {
     let most = counts_named(rt.alloc(), 1023)?;
     assert_eq!(rt; most, Ok((1024, 0)));
-    // Four paths for the first unit; for each word its own four; the template's are the same four each time.
+    // Four paths for the first unit; for each word its own four; the template's are the same four
+    // each time.
     let more = counts_named(rt.alloc(), 1024)?;
     assert_eq!(rt; more, Err(4 + 4 * 1024 + 4));
     let many = counts_named(rt.alloc(), 2000)?;
     assert_eq!(rt; many, Err(4 + 4 * 1024 + 4));
+    // A word that names no unit is skipped, with a notice.
+    let skipping = counts_skipping(rt.alloc(), 699)?;
+    assert_eq!(rt; skipping, Ok((700, 1)));
     Ok(())
+}
+
+/// How many units a closure has, and how long the name of the last one is.
+fn last_length(
+    alloc: Global,
+    tree: &Tree,
+    given: &[UnitName],
+) -> Result<(usize, usize), AllocError> {
+    let Ok(closure) = closure(alloc, tree, given) else {
+        return Err(AllocError);
+    };
+    let length = match closure.units.as_slice().last() {
+        Some(unit) => unit.text().len(),
+        None => 0,
+    };
+    Ok((closure.units.len(), length))
+}
+
+/// The same for a unit that is given, in a tree of this text.
+fn last_length_of(
+    alloc: Global,
+    tree_text: &[u8],
+    unit: &[u8],
+) -> Result<(usize, usize), AllocError> {
+    let tree = tree(alloc, tree_text)?;
+    let given = names(alloc, unit)?;
+    last_length(alloc, &tree, &given)
 }
 
 #[test]
 fn names_grow_until_they_are_too_long(rt: HostRuntime) -> Result<(), Fail> {
-    let tree = b"t@.service [Install]\nAlso=t@%ia.service\n";
-    let counts = counts_of(rt.alloc(), tree, b"t@a.service")?;
+    let tree = b"g@.service [Install]\nAlso=g@x%i.service\n";
+    let counts = counts_of(rt.alloc(), tree, b"g@a.service")?;
     assert_eq!(rt; counts, Ok((245, 1)));
+    let last = ample!(last_length_of(rt.alloc(), tree, b"g@a.service"), AllocError)?;
+    assert_eq!(rt; last, (245, 255));
     Ok(())
 }
 
@@ -119,7 +166,7 @@ fn names_grow_until_they_are_too_long(rt: HostRuntime) -> Result<(), Fail> {
 fn units_that_double_are_too_many(rt: HostRuntime) -> Result<(), Fail> {
     let tree = b"d@.service [Install]\nAlso=d@%i0.service d@%i1.service\n";
     let counts = counts_of(rt.alloc(), tree, b"d@x.service")?;
-    // Each word looks at four paths of its own, and all at the template's four.
+    // Each word looks at four paths of its own, and all look at the four of the template.
     assert_eq!(rt; counts, Err(4 * 1025 + 4));
     Ok(())
 }

@@ -1,4 +1,4 @@
-//! What is reported of units in trees, as texts.
+//! What is reported about units in trees, as texts.
 use crate::trees::tree;
 use install_section::{
     Closure, ClosureError, Links, Members, Wanted, WantedError, closure, wanted,
@@ -18,7 +18,7 @@ pub(crate) fn push_name(
     Ok(names.push(name)?)
 }
 
-/// The names in a text, with a space between each two.
+/// The names in a text, separated by spaces.
 pub(crate) fn names(alloc: Global, text: &[u8]) -> Result<Vec<UnitName>, AllocError> {
     let mut names = Vec::new(alloc);
     for word in text.split(|b| *b == b' ') {
@@ -27,7 +27,7 @@ pub(crate) fn names(alloc: Global, text: &[u8]) -> Result<Vec<UnitName>, AllocEr
     Ok(names)
 }
 
-/// A count, or `none` where there is said to be none.
+/// A count, or `none` if `is_none`.
 pub(crate) fn text_of_count(
     alloc: Global,
     count: usize,

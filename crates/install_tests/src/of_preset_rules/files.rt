@@ -1,4 +1,4 @@
-//! Which preset files count.
+//! Which preset files are used.
 use super::verdicts::{policy, policy_of_file, verdict, verdict_text};
 use crate::trees::tree;
 use link_tree::Tree;
@@ -9,7 +9,7 @@ use sample_values::name;
 use std::alloc::{AllocError, Global};
 use std::test::Fail;
 
-/// A file behind seven links from `a2.service` on, and eight from `a1.service` on.
+/// A file after seven links from `a2.service` on, and after eight from `a1.service` on.
 const CHAIN: &[u8] = b"\
     /etc/systemd/system/a9.service disable *\n|\
     /etc/systemd/system/a8.service -> a9.service|\
@@ -21,7 +21,8 @@ const CHAIN: &[u8] = b"\
     /etc/systemd/system/a2.service -> a3.service|\
     /etc/systemd/system/a1.service -> a2.service";
 
-/// The only file in `/lib/systemd/system-preset` of Debian's package `systemd` 252.39-1~deb12u2, `90-systemd.preset`.
+/// The only file in `/lib/systemd/system-preset` of Debian's package `systemd` 252.39-1~deb12u2,
+/// `90-systemd.preset`.
 const DEBIAN: &[u8] = b"\
 #  SPDX-License-Identifier: LGPL-2.1-or-later
 #
@@ -193,7 +194,7 @@ fn read(alloc: Global, presets: &[u8]) -> Result<Vec<u8>, AllocError> {
     Ok(text)
 }
 
-/// How many rules there are, behind how many paths, and what they say.
+/// How many rules there are, how many paths were looked at for them, and the verdict.
 fn told(
     alloc: Global,
     rules: &Rules,

@@ -54,7 +54,7 @@ const ROWS: &[u8] = b"\
     # copy: the same, with a copy of the instances.\n\
     copy\tenable web@.service a b\\n\tweb@.service\tenable a b\n";
 
-/// What a preset file with these lines says of a unit.
+/// What a preset file with these lines says about a unit.
 fn said(alloc: Global, lines: &[u8], unit: &[u8]) -> Result<Verdict, AllocError> {
     let at = b"/usr/lib/systemd/system-preset/50-a.preset";
     let policy = policy_of_file(alloc, at, lines)?;

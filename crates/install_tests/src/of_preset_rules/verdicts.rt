@@ -1,4 +1,4 @@
-//! What preset files say of units.
+//! What preset files say about units.
 use crate::trees::tree;
 use link_tree::Tree;
 use preset_rules::{Instances, Policy, Verdict};
@@ -27,7 +27,7 @@ pub(crate) fn policy_of_file(
     policy(alloc, &presets)
 }
 
-/// What a policy says of a unit.
+/// What a policy says about a unit.
 pub(crate) fn verdict(alloc: Global, policy: &Policy, unit: &[u8]) -> Result<Verdict, AllocError> {
     let unit = name(alloc, unit)?;
     policy.verdict(alloc, &unit)

@@ -12,7 +12,7 @@ use std::io;
 use std::io::{BufRead, Error, ErrorKind, Read, Write};
 use std::test::Fail;
 
-/// What is read or written if so many errors of a kind come behind 0, 1, 2, 3 bytes.
+/// What is read or written if this number of errors of a kind come after 0, 1, 2, 3 bytes.
 const ROWS: &[u8] = b"\
     # 999 interruptions in a row are passed over behind any byte, the 1,000th is a fault, and any\n\
     # other error is one at once.\n\
@@ -29,8 +29,8 @@ const ROWS: &[u8] = b"\
     write\t1000\tInterrupted\tfault behind 0, fault behind 1, fault behind 2, fault behind 3\n\
     write\t1\tOther\tfault behind 0, fault behind 1, fault behind 2, fault behind 3\n";
 
-/// Gives a byte at a time, and fails so often with an error of some kind when so many bytes are
-/// given.
+/// Gives a byte at a time, and fails this number of times with an error of some kind after `until`
+/// bytes are given.
 #[derive(Drop)]
 struct Halting<'a> {
     left: &'a [u8],
@@ -129,7 +129,7 @@ fn push_read(
     }
 }
 
-/// What is read if a reader fails so often behind none of the bytes, behind one, and so on.
+/// What is read if a reader fails this number of times after no byte, after one, and so on.
 fn read_anywhere(
     alloc: Global,
     reading: &[u8],
@@ -153,8 +153,8 @@ fn read_anywhere(
     Ok(out)
 }
 
-/// Takes a byte at a time, and fails so often with an error of some kind when so many bytes are
-/// taken. Flushing counts as one more.
+/// Takes a byte at a time, and fails this number of times with an error of some kind after `until`
+/// bytes are taken. Flushing counts as one more.
 #[derive(Drop)]
 struct Narrow {
     until: usize,
@@ -210,7 +210,7 @@ fn push_written(alloc: Global, narrow: &mut Narrow, out: &mut Vec<u8>) -> Result
     }
 }
 
-/// What is written if a writer fails so often behind none of the bytes, behind one, and so on.
+/// What is written if a writer fails this number of times after no byte, after one, and so on.
 fn write_anywhere(alloc: Global, times: u32, kind: ErrorKind) -> Result<Vec<u8>, AllocError> {
     let mut out = Vec::new(alloc);
     for until in 0..4 {

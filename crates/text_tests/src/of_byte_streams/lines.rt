@@ -53,7 +53,7 @@ const ROWS: &[u8] = b"\
     # Bytes end with the input.\n\
     three bytes\tab\t\tnone\n";
 
-/// Gives bytes one at a time alone.
+/// Gives only one byte at a time.
 #[derive(Drop)]
 struct OneByOne<'a> {
     left: &'a [u8],
@@ -75,7 +75,7 @@ impl<'a> Source for OneByOne<'a> {
     }
 }
 
-/// What a line that is too long is reported as.
+/// How a line that is too long is reported.
 const TOO_LONG: u8 = 7;
 
 /// What was read instead of a line that should have this text.
@@ -117,7 +117,7 @@ fn line_in(
     Ok(in_pieces)
 }
 
-/// What a line of so many bytes is, with a LF and more after it, and as the last.
+/// What a line of this number of bytes is, with a LF and more after it, and as the last.
 fn line_of(alloc: Global, len: usize, limit: usize) -> Result<Vec<u8>, AllocError> {
     let mut input = Vec::from_elem(alloc, b'x', 304)?;
     if let Some(end) = input.get_mut(len) {
@@ -129,7 +129,7 @@ fn line_of(alloc: Global, len: usize, limit: usize) -> Result<Vec<u8>, AllocErro
     [whole, b", ", last].concat(alloc)
 }
 
-/// Whether a source has so many lines of this text, and no byte more.
+/// Whether a source has this number of lines of this text, and no byte more.
 fn has_lines<S: Source>(
     alloc: Global,
     source: &mut S,
@@ -144,7 +144,7 @@ fn has_lines<S: Source>(
     Ok(line_from(alloc, source, text.len(), b"")? == b"last".as_slice())
 }
 
-/// Whether an input has so many lines of this text, read in pieces and byte by byte.
+/// Whether an input has this number of lines of this text, read in pieces and byte by byte.
 fn are_lines(alloc: Global, input: &[u8], count: usize, text: &[u8]) -> Result<bool, AllocError> {
     Ok(
         has_lines(alloc, &mut FromRead::new(input), count, text)?
@@ -152,7 +152,7 @@ fn are_lines(alloc: Global, input: &[u8], count: usize, text: &[u8]) -> Result<b
     )
 }
 
-/// Whether so many lines of so many bytes follow one another.
+/// Whether this number of lines of this number of bytes follow one another.
 fn follow_one_another(alloc: Global, count: usize, len: usize) -> Result<Vec<u8>, AllocError> {
     let mut line = Vec::from_elem(alloc, b'x', len)?;
     line.push(b'\n')?;
@@ -202,7 +202,7 @@ fn read_front(
     Ok((found, bytes.map_or(0, |bytes| bytes.len()), line))
 }
 
-/// What is read from a reader that is lent, and what is left in it.
+/// What is read from a borrowed reader, and what is left in it.
 fn front_of(alloc: Global, input: &[u8], prefix: &[u8]) -> Result<Vec<u8>, AllocError> {
     let mut left = input;
     let (found, bytes, line) = match read_front(alloc, &mut left, prefix) {

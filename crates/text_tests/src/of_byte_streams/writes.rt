@@ -18,8 +18,8 @@ const ROWS: &[u8] = b"\
     # A writer is flushed once.\n\
     flush\t\t\t1\n";
 
-/// Writes lines of so many bytes, and answers why the writing stopped, if it did. The room for all
-/// that goes out is taken first, since a `Vec` that can't grow is a write fault.
+/// Writes lines of this number of bytes, and returns why the writing stopped, if it did. The room
+/// for all the output is allocated first, since a `Vec` that can't grow is a write fault.
 fn write_lines(
     alloc: Global,
     sizes: &[usize],
@@ -38,7 +38,7 @@ fn write_lines(
     Ok(writer.finish(&mut sink))
 }
 
-/// Whether a text has lines of so many bytes, and no byte more.
+/// Whether a text has lines of this number of bytes, and no byte more.
 fn has_lines(text: &[u8], sizes: &[usize]) -> bool {
     let mut rest = text;
     for size in sizes {
@@ -60,7 +60,7 @@ fn written(alloc: Global, sizes: &[usize]) -> Result<Vec<u8>, AllocError> {
     Vec::from_slice(alloc, told)
 }
 
-/// Takes all bytes, and counts how often it is flushed.
+/// Accepts all bytes, and counts how often it is flushed.
 #[derive(Drop)]
 struct Flushed {
     times: u32,

@@ -1,10 +1,10 @@
-//! Lines that are about as long as they may be.
+//! Lines of about the maximum length.
 use std::alloc::{AllocError, Global};
 use std::test::Fail;
 use unit_file::{InstallError, InstallFault, MAX_LINE, install_of};
 use unit_name::ample;
 
-/// The bytes so many times, and then the end.
+/// The bytes, repeated this number of times, and then the end.
 fn repeated(alloc: Global, bytes: &[u8], times: usize, end: &[u8]) -> Result<Vec<u8>, AllocError> {
     let mut file = Vec::with_capacity(alloc, 2 * MAX_LINE)?;
     for _time in 0..times {
@@ -14,7 +14,8 @@ fn repeated(alloc: Global, bytes: &[u8], times: usize, end: &[u8]) -> Result<Vec
     Ok(file)
 }
 
-/// Whether a file of these bytes so many times, and then the end, is wanted by something.
+/// Whether a file of these bytes, repeated this number of times, and then the end, is wanted by
+/// something.
 fn is_wanted(alloc: Global, bytes: &[u8], times: usize, end: &[u8]) -> Result<bool, InstallError> {
     let file = repeated(alloc, bytes, times, end)?;
     let text = install_of(alloc, &file)?;

@@ -130,8 +130,8 @@ fn add(alloc: Global, notices: &mut Notices, digit: u8) -> Result<(), AllocError
     }
 }
 
-/// The notices of these digits, added in this order. If memory runs out, the notices are as before,
-/// and the one is added again.
+/// The notices of these digits, added in this order. If memory runs out for one, the notices are as
+/// before, and it is added again.
 fn notices_of(alloc: Global, digits: &[u8]) -> Result<Notices, AllocError> {
     let mut notices = Notices::none(alloc);
     for digit in digits {
@@ -140,17 +140,23 @@ fn notices_of(alloc: Global, digits: &[u8]) -> Result<Notices, AllocError> {
     Ok(notices)
 }
 
-/// The lines of all.
+/// The lines of all, after a word. If memory runs out, only the word is there, and they are
+/// appended again.
 fn text_of(alloc: Global, notices: &Notices) -> Result<Vec<u8>, AllocError> {
-    let mut text = Vec::new(alloc);
-    notices.push_lines(&mut text)?;
+    let mut text = Vec::from_slice(alloc, b"lines\n")?;
+    if notices.push_lines(&mut text).is_err() {
+        if text.as_slice() != b"lines\n".as_slice() {
+            return Vec::from_slice(alloc, b"lines were left");
+        }
+        notices.push_lines(&mut text)?;
+    }
     Ok(text)
 }
 
-/// The digits of the notices that `iter` gives. Their lines together are the lines of all.
+/// The digits of the notices that `iter` returns. Their lines together are the lines of all.
 fn digits_of(alloc: Global, notices: &Notices) -> Result<Vec<u8>, AllocError> {
     let mut digits = Vec::new(alloc);
-    let mut lines = Vec::new(alloc);
+    let mut lines = Vec::from_slice(alloc, b"lines\n")?;
     for notice in notices.iter() {
         digits.push(digit_of(notice))?;
         lines.extend_from_slice(&notice.line(alloc)?)?;
@@ -183,8 +189,14 @@ fn added(alloc: Global, digits: &[u8]) -> Result<Vec<u8>, AllocError> {
 /// joined again.
 fn joined(alloc: Global, digits: &[u8], others: &[u8]) -> Result<Vec<u8>, AllocError> {
     let mut notices = notices_of(alloc, digits)?;
+    let before = shared_digits(alloc, &notices)?;
     let others = notices_of(alloc, others)?;
-    ample!(notices.add_all(&others), AllocError)?;
+    if notices.add_all(&others).is_err() {
+        if shared_digits(alloc, &notices)? != before {
+            return Vec::from_slice(alloc, b"notices were left");
+        }
+        notices.add_all(&others)?;
+    }
     shared_digits(alloc, &notices)
 }
 

@@ -79,14 +79,15 @@ const ROWS: &[u8] = b"\
     bad shape\t/etc/systemd/user\t\tno\n\
     bad shape\t/lib\t\tno\n";
 
-/// Whether the tests for kinds of slots say of a path what its slot is.
+/// Whether the tests for kinds of slots agree with the slot of a path.
 fn are_alike(slot: Option<Slot>, path: &TreePath) -> bool {
     Slot::is_of_unit(path) == matches!(slot, Some(Slot::Unit(_)))
         && Slot::is_of_preset(path) == matches!(slot, Some(Slot::Preset(_)))
         && Slot::is_of_dependency(path) == Slot::dependency_of(path).is_some()
 }
 
-/// Of which dependency a path is the slot, and in which scope it is one of a unit or a dependency.
+/// The dependency whose slot a path is, and the scope in which it is the slot of a unit or a
+/// dependency.
 fn push_kinds(out: &mut Vec<u8>, path: &TreePath) -> Result<(), AllocError> {
     match Slot::dependency_of(path) {
         Some(Dependency::Wants) => out.extend_from_slice(b", wants")?,
@@ -101,7 +102,7 @@ fn push_kinds(out: &mut Vec<u8>, path: &TreePath) -> Result<(), AllocError> {
     }
 }
 
-/// Of what a path is the slot.
+/// What a path is the slot of.
 fn kind_of(alloc: Global, path: &TreePath) -> Result<Vec<u8>, AllocError> {
     let slot = Slot::of(path);
     if !are_alike(slot, path) {
@@ -139,7 +140,7 @@ fn scope_directory(word: &[u8]) -> &'static str {
     }
 }
 
-/// The path of a slot, and of what it is the slot.
+/// The path of a slot, and what it is the slot of.
 fn described(alloc: Global, slot: &TreePath) -> Result<Vec<u8>, AllocError> {
     let kind = kind_of(alloc, slot)?;
     [slot.text(), b" is ", kind.as_slice()].concat(alloc)

@@ -1,4 +1,4 @@
-//! Trees, and what is changed in them.
+//! Trees, and changes of them.
 ghost use Rattle.std.specs.Prelude.{◌≡◌, All, true};
 ghost use Rattle.std.specs.FinMap as map;
 ghost use Rattle.unit_paths.specs.Slots.{is_slot};
@@ -7,12 +7,12 @@ ghost use Rattle.link_tree.specs.Trees.{AreFrom};
 use link_tree::{Change, Entry, Slot, TargetError, Tree, TreePath};
 use std::alloc::{AllocError, Global};
 
-/// The tree of no entry.
+/// The empty tree.
 pub(crate) fn empty(alloc: Global) -> Result<Box<Tree>, AllocError> {
     Ok(Box::new(alloc, Tree::empty(alloc)?)?)
 }
 
-/// A link with this target, or nothing where that is empty.
+/// A link with this target, or nothing if that is empty.
 fn link(alloc: Global, target: &[u8]) -> Result<Option<Entry>, AllocError> {
     match Entry::link(alloc, target) {
         Ok(entry) => Ok(Some(entry)),
@@ -21,7 +21,7 @@ fn link(alloc: Global, target: &[u8]) -> Result<Option<Entry>, AllocError> {
     }
 }
 
-/// Makes what stands at a slot such a link, or takes it away.
+/// Makes the entry at a slot such a link, or removes it.
 pub(crate) fn set_link(
     alloc: Global,
     tree: &mut Tree,
@@ -34,7 +34,7 @@ pub(crate) fn set_link(
     tree.set(slot, link(alloc, target)?)
 }
 
-/// The change of what stands at a path to such a link, or to nothing.
+/// The change of the entry at a path to such a link, or to nothing.
 pub(crate) fn change(
     alloc: Global,
     tree: &Tree,
@@ -52,7 +52,7 @@ pub(crate) fn change(
     })
 }
 
-/// Whether the change is at a slot, and from what stands there.
+/// Whether the change is at a slot, and from the entry that is there.
 fn is_from(tree: &Tree, change: &Change) -> bool
     ensures slot { result ≡ true → is_slot change.now.path ≡ true }
     ensures from { result ≡ true → map.get tree.now change.now.path ≡ change.now.before }
@@ -65,8 +65,9 @@ fn is_from(tree: &Tree, change: &Change) -> bool
         }
 }
 
-/// Whether the changes are at most three at slots, each at another, and from what stands there.
-fn are_from(tree: &Tree, changes: &[Change]) -> bool
+/// Whether the changes are at most three at slots, each at another, and from the entries that are
+/// there.
+pub(crate) fn are_from(tree: &Tree, changes: &[Change]) -> bool
     ensures slots { result ≡ true → All (λ change. is_slot change.path ≡ true) changes.now }
     ensures from { result ≡ true → AreFrom tree.now changes.now }
 {

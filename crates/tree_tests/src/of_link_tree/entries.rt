@@ -1,4 +1,4 @@
-//! Files, links and changes of them.
+//! Files, links and their changes.
 use crate::rows::{assert_rows, is, number_of, yes_or_no};
 use link_tree::{Change, Entry, FileError, is_null_link};
 use sample_rows::Row;
@@ -41,7 +41,7 @@ fn are_files(entry: &Entry, bytes: &[u8]) -> Result<bool, AllocError> {
     Ok(entry.bytes() == bytes && matches!(copy, Entry::File(_)) && copy.bytes() == bytes)
 }
 
-/// Whether so many bytes make a file, and all are in it and in its copy.
+/// Whether this number of bytes makes a file, and all are in it and in its copy.
 fn make_file(alloc: Global, size: usize) -> Result<bool, FileError> {
     let bytes = Vec::from_elem(alloc, b'x', size)?;
     let entry = Entry::file(alloc, &bytes)?;
@@ -73,7 +73,7 @@ const ENTRIES: [&[u8]; 5] = [
 ];
 
 /// A file of these bytes, or a link to this target.
-fn entry_of(alloc: Global, words: &[u8]) -> Result<Entry, AllocError> {
+pub(crate) fn entry_of(alloc: Global, words: &[u8]) -> Result<Entry, AllocError> {
     match (
         words.strip_prefix(b"file of "),
         words.strip_prefix(b"link to "),
@@ -119,7 +119,7 @@ fn change_in_words(alloc: Global, change: &Change) -> Result<Vec<u8>, AllocError
     }
 }
 
-/// The change of a link at a slot to another, taken back.
+/// The change of a link at a slot to another, undone.
 fn taken_back(alloc: Global, before: &[u8], after: &[u8]) -> Result<Vec<u8>, AllocError> {
     let change = Change {
         path: path(alloc, b"/etc/systemd/system/a.service")?,

@@ -1,5 +1,5 @@
-//! Trees of over 100,000 entries and texts of over 1 GiB. No contract says when memory runs out, so a call that gave up on
-//! such a tree or text would be proved.
+//! Trees of over 100,000 entries and texts of over 1 GiB. No contract says when memory runs out, so
+//! code that reported this for such a tree or text could still be proved correct.
 ghost use Rattle.std.specs.Prelude.{None};
 
 use crate::of_link_tree::changes::{change, changed, empty, set_link};
@@ -16,7 +16,10 @@ use std::process::Abort;
 use std::test::Fail;
 use unit_name::ample;
 
-/// The units of the large tree are named by numbers of six digits, so that the paths have the order of the numbers.
+mod sharing;
+
+/// The units of the large tree are named by numbers of six digits, so that the paths have the order
+/// of the numbers.
 const FIRST: u32 = 100_000;
 
 const MIDDLE: u32 = 150_000;
@@ -28,7 +31,8 @@ const COUNT: u32 = 100_100;
 
 const ENTRIES: usize = COUNT as usize;
 
-/// Numbers with other digits: their paths come before all others, behind the middle one, and behind all others.
+/// Numbers with other digits: their paths come before all others, after the middle one, and after
+/// all others.
 const NEW_FIRST: u32 = 0;
 
 const NEW_MIDDLE: u32 = 1_500_005;
@@ -41,12 +45,12 @@ fn slot(alloc: Global, number: u32) -> Result<TreePath, AllocError> {
     path(alloc, text.as_bytes())
 }
 
-/// Makes the unit of this number such a link, or takes it away.
+/// Makes the unit of this number such a link, or removes it.
 fn set(alloc: Global, tree: &mut Tree, number: u32, target: &[u8]) -> Result<(), AllocError> {
     set_link(alloc, tree, &slot(alloc, number)?, target)
 }
 
-/// A tree of so many units, all masked: a piece has at most 128 of them.
+/// A tree of this number of units, all masked: a piece has at most 128 of them.
 fn tree_of(alloc: Global, count: u32) -> Result<Box<Tree>, AllocError> {
     let mut tree = empty(alloc)?;
     for place in 0..count {
@@ -56,7 +60,7 @@ fn tree_of(alloc: Global, count: u32) -> Result<Box<Tree>, AllocError> {
     Ok(tree)
 }
 
-/// Whether the unit of this number is a link with this target, or nothing where that is empty.
+/// Whether the unit of this number is a link with this target, or nothing if that is empty.
 fn is_link(alloc: Global, tree: &Tree, number: u32, target: &[u8]) -> Result<bool, AllocError> {
     match tree.get(&slot(alloc, number)?) {
         Some(entry) => Ok(entry.bytes() == target),
@@ -64,7 +68,7 @@ fn is_link(alloc: Global, tree: &Tree, number: u32, target: &[u8]) -> Result<boo
     }
 }
 
-/// Numbers of units, the targets to which they become links, and how many entries there are then.
+/// Numbers of units, the targets to which they become links, and the number of entries then.
 const SETS: [(u32, &[u8], usize); 9] = [
     (NEW_FIRST, b"a.service", ENTRIES + 1),
     (NEW_MIDDLE, b"a.service", ENTRIES + 2),
@@ -77,7 +81,8 @@ const SETS: [(u32, &[u8], usize); 9] = [
     (LAST, b"", ENTRIES),
 ];
 
-/// Makes the unit of this number such a link, or takes it away: whether it is so then, of so many entries.
+/// Makes the unit of this number such a link, or removes it. Returns whether it is so then, and the
+/// tree has this number of entries.
 fn sets(
     alloc: Global,
     tree: &mut Tree,
@@ -124,7 +129,7 @@ fn changes(
     Ok(changes)
 }
 
-/// The tree with these units changed to such links, or taken away.
+/// The tree with these units changed to such links, or removed.
 fn with_links(
     alloc: Global,
     tree: &Tree,
@@ -136,7 +141,7 @@ fn with_links(
     changed(alloc, tree, &changes, in_place)
 }
 
-/// Whether all of these units are such links, or none is there.
+/// Whether all of these units are such links, or none exists.
 fn are_links(
     alloc: Global,
     tree: &Tree,
@@ -151,7 +156,8 @@ fn are_links(
     Ok(true)
 }
 
-/// Whether the tree with these units changed to such links, or taken away, is of so many entries, and they are there.
+/// Whether the tree with these units changed to such links, or removed, has this number of entries,
+/// and they are there.
 fn changes_to(
     alloc: Global,
     tree: &Tree,
@@ -164,7 +170,7 @@ fn changes_to(
     Ok(made.len() == len && are_links(alloc, &made, numbers, target)?)
 }
 
-/// Numbers of units, the target of the links to which they change, and how many entries there are then.
+/// Numbers of units, the target of the links to which they change, and the number of entries then.
 type Changes = (&'static [u32], &'static [u8], usize);
 
 const CHANGES: [Changes; 7] = [
@@ -181,7 +187,7 @@ const CHANGES: [Changes; 7] = [
     (&[FIRST, MIDDLE, LAST], b"", ENTRIES - 3),
 ];
 
-/// Makes each of these changes of a tree, which stays as it is.
+/// Makes each of these changes of a tree, which isn't changed itself.
 fn assert_changed(
     rt: &impl Abort,
     alloc: Global,
@@ -207,10 +213,10 @@ fn a_large_tree_is_changed(rt: HostRuntime) -> Result<(), Fail> {
     assert_changed(&rt, rt.alloc(), &tree, &CHANGES)
 }
 
-/// How many units the tree has that is shared.
+/// The number of units in the tree that is shared.
 const SHARED: u32 = 1_000;
 
-/// Whether the units up to this one are links, and all others masked still.
+/// Whether the units up to this one are links, and all others are still masked.
 fn are_changed_up_to(alloc: Global, tree: &Tree, last: u32) -> Result<bool, AllocError> {
     for number in FIRST..FIRST + SHARED {
         let target = if number <= last {
@@ -240,7 +246,8 @@ fn shared(alloc: Global, tree: &Tree) -> Result<Box<Tree>, AllocError> {
     Ok(Box::new(alloc, tree.share()?)?)
 }
 
-/// Makes the next unit a link in a tree: it changes there alone, and not in one that shares the entries.
+/// Makes the next unit a link in a tree: only that tree changes, and not one that shares the
+/// entries.
 fn assert_next_changes(
     rt: &impl Abort,
     alloc: Global,
@@ -272,10 +279,10 @@ fn a_shared_tree_is_changed_at_each_entry(rt: HostRuntime) -> Result<(), Fail> {
     Ok(())
 }
 
-/// Its path comes behind that of the unit 100064, and before that of 100065.
+/// Its path comes after that of the unit 100064, and before that of 100065.
 const NEW_INSIDE: u32 = 1_000_640;
 
-/// Whether the paths rise, and there are so many.
+/// Whether the paths are in ascending order, and there is this number of them.
 fn are_in_order(tree: &Tree, count: usize) -> bool {
     let mut before: Option<&TreePath> = None;
     for (path, _) in tree.iter() {
@@ -287,7 +294,8 @@ fn are_in_order(tree: &Tree, count: usize) -> bool {
     tree.len() == count
 }
 
-/// Takes a unit away: whether it is gone then, and so many are left, in order, among which there is this one.
+/// Removes a unit. Returns whether it is gone then, and this number of units is left, in order,
+/// including this one.
 fn takes(
     alloc: Global,
     tree: &mut Tree,
@@ -303,7 +311,7 @@ fn takes(
     )
 }
 
-/// Takes so many units away, one after another, and at last the one that is left.
+/// Removes this number of units, one after another, and finally the one that is left.
 fn assert_emptied(
     rt: &impl Abort,
     alloc: Global,
@@ -322,7 +330,8 @@ fn assert_emptied(
     Ok(())
 }
 
-/// A tree of so many units, with a new one that cuts a piece where it is full, and then taken away again.
+/// A tree of this number of units, to which a new one is added, which splits a full piece, and is
+/// then removed again.
 fn assert_cut_and_emptied(
     rt: &impl Abort,
     alloc: Global,
@@ -346,7 +355,7 @@ fn pieces_are_cut_and_emptied(rt: HostRuntime) -> Result<(), Fail> {
     Ok(())
 }
 
-/// Throws bytes away, and counts them.
+/// Discards bytes, and counts them.
 #[derive(Drop)]
 struct Counted {
     bytes: usize,
@@ -365,7 +374,7 @@ impl Write for Counted {
     }
 }
 
-/// How many bytes are written of a tree, and of a text before it, if there is one.
+/// How many bytes are written for a tree, and for a text before it, if there is one.
 fn written_len(alloc: Global, text: Option<&[u8]>, tree: &Tree) -> Result<usize, AllocError> {
     let mut counted = Counted { bytes: 0 };
     let mut sink = ToWrite::new(&mut counted);
@@ -384,7 +393,8 @@ fn large_written_len(alloc: Global, text: Option<&[u8]>) -> Result<usize, AllocE
     written_len(alloc, text, &tree)
 }
 
-/// A line has 47 bytes: `L`, a path of 34, a target of 9, two tabs and the line end. The first line has 20, and `end` 4.
+/// A line has 47 bytes: `L`, a path of 34, a target of 9, two tabs and the line end. The first line
+/// has 20, and `end` 4.
 #[test]
 fn a_large_tree_is_written(rt: HostRuntime) -> Result<(), Fail> {
     let len = ample!(large_written_len(rt.alloc(), None), AllocError)?;
@@ -424,14 +434,14 @@ fn shared_files(alloc: Global) -> Result<Box<Tree>, AllocError> {
     Ok(tree)
 }
 
-/// How many files there are, and how many bytes are written of them.
+/// How many files there are, and how many bytes are written for them.
 fn shared_files_written(alloc: Global) -> Result<(usize, usize), AllocError> {
     let tree = shared_files(alloc)?;
     Ok((tree.len(), written_len(alloc, None, &tree)?))
 }
 
-/// The line of a file has 43 bytes: `F`, the length in 7 digits, a path of 32 bytes, two tabs and the line end. Another line
-/// end stands behind the file.
+/// The line of a file has 43 bytes: `F`, the length in 7 digits, a path of 32 bytes, two tabs and
+/// the line end. Another line end comes after the file.
 #[test]
 fn files_of_over_a_gibibyte_are_written(rt: HostRuntime) -> Result<(), Fail> {
     let (count, len) = ample!(shared_files_written(rt.alloc()), AllocError)?;
@@ -440,7 +450,7 @@ fn files_of_over_a_gibibyte_are_written(rt: HostRuntime) -> Result<(), Fail> {
     Ok(())
 }
 
-/// A text of a gibibyte and a byte more, with room for another.
+/// A text of one gibibyte and one byte, with room for another byte.
 fn long_text(alloc: Global) -> Result<Vec<u8>, AllocError> {
     let mebibyte = Vec::from_elem(alloc, b'x', 1_048_576)?;
     let mut text = Vec::with_capacity(alloc, 1_073_741_826)?;
@@ -451,14 +461,14 @@ fn long_text(alloc: Global) -> Result<Vec<u8>, AllocError> {
     Ok(text)
 }
 
-/// How many bytes are written of the text, with an empty tree behind it.
+/// How many bytes are written for the text, with an empty tree after it.
 fn long_text_written_len(alloc: Global) -> Result<usize, AllocError> {
     let text = long_text(alloc)?;
     let tree = empty(alloc)?;
     written_len(alloc, Some(&text), &tree)
 }
 
-/// How long the text is with a digit more.
+/// How long the text is with one more digit.
 fn long_text_len_with_digit(alloc: Global) -> Result<usize, AllocError> {
     let mut text = long_text(alloc)?;
     push_decimal(&mut text, 7)?;
@@ -474,7 +484,8 @@ fn a_text_of_over_a_gibibyte_is_written(rt: HostRuntime) -> Result<(), Fail> {
     Ok(())
 }
 
-/// Relinks a unit: whether the lists are right then. They are looked at after every tenth change alone.
+/// Relinks a unit. Returns whether the lists are right then. They are checked only after every
+/// tenth change.
 fn follow(alloc: Global, tree: &mut Tree, number: u32) -> Result<bool, AllocError> {
     relink(alloc, tree, number)?;
     Ok(number % 10 != 9 || are_all_of_each(alloc, tree)?)

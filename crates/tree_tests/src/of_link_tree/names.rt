@@ -1,6 +1,6 @@
-//! The links that belong to a name, as they are looked up. That a tree has nothing listed but its links
-//! is proved; here are the lists themselves, and what a body that gives up if memory runs out would
-//! hide.
+//! The links that belong to a name, as they are looked up. It is proved that a tree lists only its
+//! links; tested here are the lists themselves, and what would be hidden by code that gives up if
+//! memory runs out.
 use crate::of_link_tree::changes::set_link;
 use crate::rows::{assert_rows, is, texts_of, yes_or_no};
 use link_tree::{Scope, Tree, belongs};
@@ -34,7 +34,7 @@ const ROWS: &[u8] = b"\
 
 /// Three links to one unit, one of which gives it another name; an alias of a template's instance; a
 /// link to an instance; masked units; links of the other scope, and one of no scope.
-const LINKS: &[u8] = b"unitadm-inventory 1\n\
+pub(crate) const LINKS: &[u8] = b"unitadm-inventory 1\n\
 L\t/etc/systemd/system/sshd.service\t/lib/systemd/system/ssh.service\n\
 L\t/etc/systemd/system/rescue.target.wants/ssh.service\t/lib/systemd/system/ssh.service\n\
 L\t/etc/systemd/system/multi-user.target.wants/ssh.service\t/lib/systemd/system/ssh.service\n\
@@ -58,7 +58,8 @@ fn belonging(alloc: Global, scope: &[u8], unit: &[u8]) -> Result<Vec<u8>, AllocE
     }
 }
 
-/// Whether what is looked up is what belongs to the name of all entries of the tree, in its order.
+/// Whether the links that are looked up are those of all entries of the tree that belong to the
+/// name, in its order.
 fn are_all(tree: &Tree, scope: Scope, name: &UnitName) -> bool {
     let listed = tree.belonging(scope, name);
     let mut at = 0;
@@ -78,7 +79,7 @@ fn numbered(alloc: Global, number: u32) -> Result<UnitName, AllocError> {
     name(alloc, format!(in alloc; "u{number}.service")?.as_bytes())
 }
 
-/// Whether that is so of each of the units.
+/// Whether this holds for each of the units.
 pub(crate) fn are_all_of_each(alloc: Global, tree: &Tree) -> Result<bool, AllocError> {
     for number in 0..13u32 {
         let name = numbered(alloc, number)?;
@@ -104,7 +105,7 @@ fn place(alloc: Global, number: u32) -> Result<String, AllocError> {
     format!(in alloc; "/{place}/systemd/system/{beneath}u{unit}.service")
 }
 
-/// To what: a link to another unit, to the same, to null, or to nothing.
+/// The new entry: a link to another unit, to the same, to null, or nothing.
 fn target(alloc: Global, number: u32) -> Result<String, AllocError> {
     let unit = (number / 5) % 13;
     match (number / 7) % 6 {

@@ -1,4 +1,4 @@
-//! Inventories, read.
+//! Reading of inventories.
 use crate::rows::{assert_rows, is, number_of};
 use link_tree::{
     Entry, FromRead, InventoryError, InventoryFault, Line, Tree, read_inventory, read_line,
@@ -8,7 +8,7 @@ use sample_values::{path, tree};
 use std::alloc::{AllocError, Global};
 use std::test::Fail;
 
-/// What is read of an inventory: `entries` are those behind its first line.
+/// What is read from an inventory: `entries` are those after its first line.
 const ROWS: &[u8] = b"\
     # The first fault is reported, and the number of its entry.\n\
     inventory\t\t\tinventory entry 0: bad header\n\

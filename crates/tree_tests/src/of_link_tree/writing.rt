@@ -1,4 +1,4 @@
-//! Trees, written, changed and shared.
+//! Trees that are written, changed and shared.
 use crate::of_link_tree::changes::{change, changed, empty};
 use crate::rows::{assert_rows, is, number_of, yes_or_no};
 use link_tree::{Change, Slot, ToWrite, Tree, write_before_inventory, write_inventory};
@@ -40,7 +40,7 @@ const ONE: &[u8] = b"unitadm-inventory 1\n\
 F\t37\t/usr/lib/systemd/system/ssh.service\n[Install]\nWantedBy=multi-user.target\n\n\
 end\n";
 
-fn inventory_of(alloc: Global, tree: &Tree) -> Result<Vec<u8>, AllocError> {
+pub(crate) fn inventory_of(alloc: Global, tree: &Tree) -> Result<Vec<u8>, AllocError> {
     let mut out = Vec::new(alloc);
     match write_inventory(alloc, tree, &mut ToWrite::new(&mut out)) {
         Ok(()) => Ok(out),
@@ -48,7 +48,7 @@ fn inventory_of(alloc: Global, tree: &Tree) -> Result<Vec<u8>, AllocError> {
     }
 }
 
-/// What is written of the tree of `ENTRIES`, or of one with none.
+/// What is written for the tree of `ENTRIES`, or for one without entries.
 fn written_of(alloc: Global, words: &[u8]) -> Result<Vec<u8>, AllocError> {
     let tree = if words == b"three entries".as_slice() {
         tree(alloc, ENTRIES)?
@@ -66,7 +66,7 @@ fn file_inventory(alloc: Global, size: usize) -> Result<Vec<u8>, AllocError> {
     Ok(text)
 }
 
-/// What is written into a list, which takes all unless memory runs out.
+/// What is written into a list, which accepts everything unless memory runs out.
 fn written(alloc: Global, before: &[u8], tree: &Tree) -> Result<Vec<u8>, AllocError> {
     let mut out = Vec::new(alloc);
     match write_before_inventory(alloc, before, tree, &mut ToWrite::new(&mut out)) {
@@ -75,7 +75,7 @@ fn written(alloc: Global, before: &[u8], tree: &Tree) -> Result<Vec<u8>, AllocEr
     }
 }
 
-/// Whether an inventory is written as it was read, behind another text.
+/// Whether an inventory is written as it was read, after another text.
 fn is_written_behind(alloc: Global, before: &[u8], text: &[u8]) -> Result<bool, AllocError> {
     let tree = tree(alloc, text)?;
     let written = written(alloc, before, &tree)?;
@@ -128,7 +128,7 @@ fn filled(alloc: Global, slot: &[u8], target: &[u8]) -> Result<Vec<u8>, AllocErr
     Ok(words.into_bytes())
 }
 
-/// What is written of the tree with these changes.
+/// What is written for the tree with these changes.
 fn written_changed(
     alloc: Global,
     tree: &Tree,
@@ -139,13 +139,13 @@ fn written_changed(
     written(alloc, b"", &changed)
 }
 
-/// Whether the changes result in the same in place as on a copy.
+/// Whether the changes give the same result in place as on a copy.
 fn are_made_alike(alloc: Global, tree: &Tree, changes: &[Change]) -> Result<bool, AllocError> {
     let in_place = written_changed(alloc, tree, changes, true)?;
     Ok(in_place == written_changed(alloc, tree, changes, false)?)
 }
 
-/// The changes that mask these units, as far as they are named.
+/// The changes that mask these units, except those with an empty path.
 fn masks(alloc: Global, tree: &Tree, slots: &[&[u8]]) -> Result<Vec<Change>, AllocError> {
     let mut changes = Vec::new(alloc);
     for slot in slots {
@@ -156,7 +156,7 @@ fn masks(alloc: Global, tree: &Tree, slots: &[&[u8]]) -> Result<Vec<Change>, All
     Ok(changes)
 }
 
-/// Whether changes that mask these units result in the same in place as on a copy.
+/// Whether changes that mask these units give the same result in place as on a copy.
 fn masks_are_made_alike(alloc: Global, slots: &[&[u8]]) -> Result<Vec<u8>, AllocError> {
     let tree = tree(alloc, ENTRIES)?;
     let changes = masks(alloc, &tree, slots)?;
@@ -170,7 +170,8 @@ fn takes_nothing(alloc: Global, is_copy: bool) -> Result<Vec<u8>, AllocError> {
     yes_or_no(alloc, done.is_ok())
 }
 
-/// Puts the one entry of a tree into another: whether it is there then, and is the last to come.
+/// Puts the one entry of a tree into another. Returns whether it is there then, and is the last
+/// one.
 fn shares_in(one: &Tree, other: &mut Tree) -> Result<bool, AllocError> {
     let mut entries = one.iter();
     let Some(placed) = entries.next_placed() else {
@@ -187,7 +188,7 @@ fn shares_in(one: &Tree, other: &mut Tree) -> Result<bool, AllocError> {
     Ok(is_there && entries.next_placed().is_none())
 }
 
-/// A tree with no entry, and then one that has the file: both take the file in.
+/// A tree without entries, and then one that has the file: both accept the file.
 fn others_share_in(alloc: Global) -> Result<bool, AllocError> {
     let one = tree(alloc, ONE)?;
     let mut other = empty(alloc)?;

@@ -80,13 +80,13 @@ L\t/etc/systemd/system/a8.service\ta9.service\n\
 L\t/etc/systemd/system/a9.service\t/dev/null\n\
 end\n";
 
-/// Two links that lead to one another.
+/// Two links that lead to each other.
 const ROUND: &[u8] = b"unitadm-inventory 1\n\
 L\t/etc/systemd/system/a.service\tb.service\n\
 L\t/etc/systemd/system/b.service\ta.service\n\
 end\n";
 
-/// Links at paths that are no unit's, to a unit's file.
+/// Links at paths that don't belong to a unit, to a unit's file.
 const ANYWHERE: &[u8] = b"unitadm-inventory 1\n\
 L\t/lib/systemd/system/b.service\ta.service\n\
 L\t/opt/a\t/lib/systemd/system/a.service\n\

@@ -1,4 +1,4 @@
-//! Aliases, and the files that are no unit's.
+//! Aliases, and the files that belong to no unit.
 use super::trees::{Named, answer_in, answer_of};
 use crate::rows::{assert_rows, is, number_of};
 use load_path::put_in;
@@ -75,7 +75,7 @@ L\t/etc/systemd/system/u@.service\t\
 aaaaaaaaaaaaaaaaaaaaaaaaaaaaaaaaaaaaaaaaaaaaaaaaaaaaaaaaaaaaaaaaaaaaaaaaaaaaaaaaaaaaaaaaaaa@.service\n\
 end\n";
 
-/// A name with an instance of so many bytes.
+/// A name with an instance of this number of bytes.
 fn long_name(alloc: Global, len: usize) -> Result<Vec<u8>, AllocError> {
     let instance = Vec::from_elem(alloc, b'b', len)?;
     [b"u@", instance.as_slice(), b".service"].concat(alloc)
@@ -87,7 +87,7 @@ fn answer_of_long(alloc: Global, row: &Row) -> Result<Vec<u8>, AllocError> {
     answer_of(alloc, &tree, row, &name)
 }
 
-/// The instance of a template; of another name none.
+/// The instance of a template; none for any other name.
 fn instance_of(
     alloc: Global,
     template: &UnitName,
@@ -99,7 +99,7 @@ fn instance_of(
     }
 }
 
-/// The template `t@.service` with this put in.
+/// The template `t@.service` with this instance.
 fn with_instance(alloc: Global, instance: Option<&[u8]>) -> Result<Vec<u8>, AllocError> {
     let template = name(alloc, b"t@.service")?;
     match instance_of(alloc, &template, instance)? {

@@ -1,4 +1,4 @@
-//! What is asked of a tree of units.
+//! Queries of a tree of units.
 use crate::rows::{is, texts_of};
 use link_tree::Tree;
 use load_path::{Cells, End, Found, Trail, find, follow, follow_entry_into};
@@ -9,7 +9,7 @@ use std::alloc::{AllocError, Global};
 /// A word of rows, and the inventory that it names.
 pub(crate) type Named = (&'static [u8], &'static [u8]);
 
-/// The inventory that a word names. Of another word it is none.
+/// The inventory that a word names. Any other word has none.
 fn inventory_named(trees: &[Named], word: &[u8]) -> &'static [u8] {
     for (other, inventory) in trees {
         if *other == word {
@@ -97,7 +97,7 @@ fn entry_followed(alloc: Global, tree: &Tree, at: &[u8]) -> Result<Vec<u8>, Allo
     }
 }
 
-/// What a row asks of a tree about a name or a path.
+/// What a row looks up in a tree for a name or a path.
 pub(crate) fn answer_of(
     alloc: Global,
     tree: &Tree,
@@ -119,7 +119,7 @@ pub(crate) fn answer_of(
     }
 }
 
-/// What a row asks of one of these trees.
+/// What a row looks up in one of these trees.
 pub(crate) fn answer_in(alloc: Global, row: &Row, trees: &[Named]) -> Result<Vec<u8>, AllocError> {
     let tree = tree(alloc, inventory_named(trees, &row.one))?;
     answer_of(alloc, &tree, row, &row.two)

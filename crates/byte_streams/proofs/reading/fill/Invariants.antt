@@ -3,7 +3,7 @@ use Rattle.byte_streams.specs.Streams.{IsCalm}
 use Rattle.byte_streams.proofs.Blocks.{Reached}
 use Rattle.byte_streams.proofs.reading.fill.Given as goal
 
--- the front of the room, before what is left
+-- the front of the room is filled, before the remaining bytes
 abbrev pub invariant-pieces : goal.invariant-pieces
 invariant-pieces g l = record {
   calm : IsCalm (g.S.Source.counters l.fn.source) (g.S.Source.counters l.source);

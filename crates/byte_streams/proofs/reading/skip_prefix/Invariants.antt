@@ -4,7 +4,7 @@ use Rattle.byte_streams.specs.Streams.{IsCalm}
 use Rattle.byte_streams.proofs.Blocks.{Reached}
 use Rattle.byte_streams.proofs.reading.skip_prefix.Given as goal
 
--- what is left of the prefix is expected of what is left of the bytes
+-- the rest of the prefix is expected at the front of the remaining bytes
 abbrev pub invariant-loop-expected : goal.invariant-loop-expected
 invariant-loop-expected g l = record {
   calm : IsCalm (g.S.Source.counters l.fn.source) (g.S.Source.counters l.source);

@@ -4,7 +4,7 @@ use Rattle.footprint.specs.Merging.{IsReading}
 use Rattle.footprint.specs.Readings.{keys_of, reading_of}
 use Rattle.footprint.proofs.merging.read_both.Given as goal
 
--- what is read so far, and what is left of both
+-- what has been read so far, and what is left of both
 abbrev pub invariant-keys : goal.invariant-keys
 invariant-keys l =
     (l.reading ++ reading_of (keys_of l.first ++ keys_of l.second) l.tree ≡ l.fn.reading ++ reading_of (keys_of l.fn.first ++ keys_of l.fn.second) l.tree)

@@ -2,7 +2,7 @@ use Rattle.std.proofs.Common.{◌≤◌}
 use Rattle.link_tree.proofs.Lengths.{Goes}
 use Rattle.link_tree.proofs.entry_line.value_of.Given as goal
 
--- the digits to come after the number so far make the number of all
+-- the remaining digits after the number so far give the number of all digits
 abbrev pub invariant-loop-digit : goal.invariant-loop-digit
 invariant-loop-digit l = record {
   few : l.value ≤ 1048577;

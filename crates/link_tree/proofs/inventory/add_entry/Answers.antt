@@ -11,7 +11,7 @@ use Rattle.link_tree.proofs.inventory.add_entry.Goals as goal
 use Rattle.link_tree.proofs.Stops.{place_refused}
 use Rattle.link_tree.proofs.inventory.add_entry.Goals.{then-len-most_pending+in_ok-flush, else-len-most_pending}
 
--- with room for one more, the same is given and is pending
+-- with room for one more, the result is the same and the entry is pending
 same_given : (c : goal.In-Ok) → place_all c.if-len-most_pending.tree c.if-len-most_pending.pending.items ≡ place_all c.args.tree.now c.args.pending.now.items
 same_given c = elim c.if-len-most_pending.branch [
   | then-len-most_pending+in_ok-flush w ↦ ap (λ m. place_all m c.if-len-most_pending.pending.items) w.tree-is ∙ ap (λ v. place_all w.flush.new.tree v.items) w.pending-is ∙ ap (place_all w.flush.new.tree) w.in_ok-flush.ensures.empty ∙ w.in_ok-flush.ensures.tree

@@ -4,7 +4,7 @@ use Rattle.link_tree.specs.Pending.{IsAtSlot}
 use Rattle.link_tree.proofs.Flushing.{inserted}
 use Rattle.link_tree.proofs.pending.insert_all.Given as goal
 
--- what is left leads where all of it does, and is at slots
+-- the remaining entries give the same result as all of them, and are at slots
 abbrev pub invariant-loop-path : goal.invariant-loop-path
 invariant-loop-path l = record {
   leads : inserted l.taken l.tree (into_iter_items l.path-iterator) ≡ inserted l.initial.taken l.initial.tree (into_iter_items l.initial.path-iterator);

@@ -7,7 +7,7 @@ use Rattle.link_tree.specs.Pieces.{joined}
 use Rattle.byte_streams.proofs.Writes.{IsWritten}
 use Rattle.link_tree.proofs.writing.write_lines.Given as goal
 
--- the lines so far were written, and those of the other pieces are left
+-- the lines so far were written, and those of the other pieces remain
 abbrev pub invariant-loop-piece : goal.invariant-loop-piece
 invariant-loop-piece g l = record {
   written : IsWritten (g.K.Sink.written l.fn.sink) (g.K.Sink.written l.sink) l.fn.writer l.writer (flat_map entry_line (map.entries l.tree)) (flat_map entry_line (joined (drop l.piece-index l.piece-items)));

@@ -8,7 +8,7 @@ use Rattle.link_tree.specs.declared.entry.Entry.{Entry}
 use Rattle.link_tree.proofs.Rows.{drop_read}
 use Rattle.link_tree.proofs.writing.write_piece.Goals as goal
 
--- the line of an entry is that of its path and of what stands there
+-- the line of an entry is made from its path and the entry there
 line_of : {path : List ℕ} {entry : Entry} {item : Item} → path ≡ item.0 → entry ≡ item.1 → entry_line (path, entry) ≡ entry_line item
 line_of same stands = λ i. entry_line (same i, stands i)
 

@@ -2,7 +2,7 @@ use Rattle.std.proofs.Common.{◌≡◌, length}
 use Rattle.preset_rules.specs.Walk.{along}
 use Rattle.preset_rules.proofs.pattern.along.Given as goal
 
--- what is left leads where all of it does
+-- walking along the rest has the same result as walking along the whole
 abbrev pub invariant-loop-left : goal.invariant-loop-left
 invariant-loop-left l = along l.text l.pattern ≡ along l.fn.text l.fn.pattern
 

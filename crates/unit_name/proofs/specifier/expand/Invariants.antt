@@ -2,7 +2,7 @@ use Rattle.std.proofs.Common.{◌≡◌, length}
 use Rattle.unit_name.specs.Specifiers.{expansion, onto}
 use Rattle.unit_name.proofs.specifier.expand.Given as goal
 
--- what is expanded so far, and then the rest, is the whole
+-- the part that is expanded so far, followed by the expansion of the rest, is the whole expansion
 abbrev pub invariant-pieces : goal.invariant-pieces
 invariant-pieces l = onto l.text.items (expansion l.name l.rest) ≡ expansion l.name l.word
 

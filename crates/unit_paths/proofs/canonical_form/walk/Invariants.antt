@@ -6,7 +6,7 @@ use Rattle.unit_paths.specs.Paths.{is_slash}
 use Rattle.unit_paths.specs.Canonical.{walked}
 use Rattle.unit_paths.proofs.canonical_form.walk.Given as goal
 
--- walking the rest comes to where walking the whole does, and there is room for it
+-- walking the rest has the same result as walking the whole, and there is enough capacity for it
 abbrev pub invariant-parts : goal.invariant-parts
 invariant-parts l = record {
   walked : walked l.text.items (slice_split is_slash l.rest) ≡ walked l.fn.text.items (slice_split is_slash l.fn.target);

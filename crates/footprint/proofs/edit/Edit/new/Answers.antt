@@ -2,4 +2,4 @@ use Rattle.footprint.proofs.Edited.{begun}
 use Rattle.footprint.proofs.edit.Edit.new.Goals as goal
 
 pub invariant_of-result : goal.invariant_of-result
-invariant_of-result c = rw (c.in_ok-copy.ensures, c.none.ensures) (begun c.args.tree.now)
+invariant_of-result c = rw (c.in_ok-share.ensures, c.none.ensures) (begun c.args.tree.now)

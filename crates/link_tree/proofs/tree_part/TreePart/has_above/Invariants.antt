@@ -6,7 +6,7 @@ use Rattle.unit_paths.specs.Shape.{is_beneath}
 use Rattle.link_tree.proofs.Aboves.{found_above}
 use Rattle.link_tree.proofs.tree_part.TreePart.has_above.Given as goal
 
--- the directory still to be looked up, or one above it, decides
+-- the result depends on the directory still to be looked up, or one above it
 abbrev pub invariant-above : goal.invariant-above
 invariant-above l = found_above l.self l.above ≡ list_any (is_beneath l.fn.path) (map.keys l.self)
 

@@ -9,7 +9,7 @@ loop-n-init c = λ more later.
     let test = is_touched_in c.args.self.now c.args.change.now in
     subst (λ (numbers : List ℕ). AreAllAfter test 0 (numbers ++ more)) (sym c.new-numbers.ensures.items) later
 
--- the number that is found, and what comes behind it, are what was still to come
+-- the number that is found, and the numbers after it, are what was still to come
 pub loop-n-preserved : goal.loop-n-preserved
 loop-n-preserved c = λ more later.
     let test = is_touched_in c.args.self.now c.args.change.now in

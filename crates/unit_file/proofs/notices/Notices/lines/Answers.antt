@@ -3,7 +3,7 @@ use Rattle.std.specs.List.{concat}
 use Rattle.std.specs.FinMap as map
 use Rattle.std.proofs.lemmas.List.{append-nil}
 use Rattle.unit_file.proofs.NoticeMaps.{entries_again}
-use Rattle.unit_file.proofs.notices.Notices.push_lines.Goals as goal
+use Rattle.unit_file.proofs.notices.Notices.lines.Goals as goal
 
 pub returns : goal.returns
 returns c =
@@ -12,4 +12,4 @@ returns c =
     sym (append-nil c.loop-line.out.items)
     ∙ ap (λ left. c.loop-line.out.items ++ concat left) (sym c.in-None.ensures.steps.0)
     ∙ c.loop-line.invariant
-    ∙ ap (λ left. c.args.out.now.items ++ concat left) (c.into_iter-line-iterator.ensures.into_iter_gives ∙ lines)
+    ∙ ap concat (c.into_iter-line-iterator.ensures.into_iter_gives ∙ lines)

@@ -2,7 +2,7 @@ use Rattle.std.proofs.Common.{sym, ap, ◌∙◌, subst}
 use Rattle.std.specs.FinMap as map
 use Rattle.unit_file.specs.Notices.{joined, notice_line, AreAtTheirLines}
 use Rattle.unit_file.proofs.NoticeMaps.{AreToBeAdded, entries_again, all_to_be_added, first_line, one_added, all_added}
-use Rattle.unit_file.proofs.notices.Notices.add_all.Goals as goal
+use Rattle.unit_file.proofs.notices.Notices.insert_all.Goals as goal
 
 pub loop-line-init : goal.loop-line-init
 loop-line-init c =
