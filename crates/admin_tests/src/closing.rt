@@ -18,7 +18,7 @@ use std::sync::Wait;
 use std::test::Fail;
 
 /// Calls on a history that alice and bob share; the logs, each with its operator and for each call
-/// the request, the reply, the row, and how many rows had been seen; and what the close answers,
+/// the request, the reply, the row, and how many rows had been seen; and what the close returns,
 /// with how many logs come back, and the rows of the history that does.
 const ROWS: &[u8] = b"\
     close\talice:put:a bob:put:b\t\
@@ -201,7 +201,7 @@ fn push_back(
     Ok(())
 }
 
-/// What a close with logs answers.
+/// What a close with logs returns.
 type Closed = Result<
     (History<Step>, SessionLogs<Step>),
     Unclosed<History<Step>, SessionLogs<Step>>,
@@ -246,7 +246,7 @@ fn said(alloc: Global, rt: &impl Wait, script: &[u8], text: &[u8]) -> Result<Vec
     Ok(out)
 }
 
-/// What is wrong with a history of the empty tree without rows that was to begin with another tree.
+/// What is wrong with a history of the empty tree without rows that should begin with another tree.
 fn said_of_another_tree(alloc: Global) -> Result<Vec<u8>, AllocError> {
     let mut out = Vec::new(alloc);
     let given = tree(alloc, FIRST)?;

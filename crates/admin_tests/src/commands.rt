@@ -2,15 +2,18 @@
 ghost use Rattle.std.specs.Prelude.{◌<◌, All, IfOk, OnOk};
 ghost use Rattle.shared_admin.specs.Events.{HasSlot};
 
-use footprint::{Key, Units};
-use history::History;
+use crate::sharing::operators;
+use footprint::{Answer, Key, Units};
+use history::{CallError, History, Plan, Uncommitted};
 use link_tree::{Scope, Tree, push_decimal};
 use sample_steps::{begin_word, operator, push_numbered, push_pair};
-use sample_values::name;
-use shared_admin::{Event, EventReply, drive};
-use slot_commands::{Mask, Unmask};
+use sample_values::{name, path, tree};
+use shared_admin::{Event, EventReply, Settled, SharedAdmin, drive, plan};
+use slot_commands::{Mask, RemoveEntry, Unmask};
+use states::Dependencies;
 use std::alloc::{AllocError, Global};
 use std::str;
+use std::sync::Wait;
 use std::test::Fail;
 use unit_name::ample;
 use unit_script::Action;
@@ -35,7 +38,7 @@ fn unmask(alloc: Global) -> Result<Action, AllocError> {
     }))
 }
 
-/// One event more.
+/// One more event.
 fn add(events: &mut Vec<Event<Action>>, event: Event<Action>) -> Result<(), AllocError>
     requires before { All (HasSlot {O = Action}) events.old.items }
     requires slot { HasSlot event }
@@ -136,5 +139,115 @@ const STALE: &[u8] = b"\
 fn a_plan_on_a_snapshot_before_a_mask_is_stale(rt: HostRuntime) -> Result<(), Fail> {
     let said = ample!(said(rt.alloc()), AllocError)?;
     assert!(rt; said.as_slice() == STALE, "{:?}", str::from_utf8(&said));
+    Ok(())
+}
+
+/// A unit that depends on two others.
+const LINKS: &[u8] = b"unitadm-inventory 1\n\
+    L\t/etc/systemd/system/a.target.wants/b.service\t/usr/lib/systemd/system/b.service\n\
+    L\t/etc/systemd/system/a.target.wants/c.service\t/usr/lib/systemd/system/c.service\n\
+    end\n";
+
+/// A history of that tree, shared by alice and bob.
+fn shared(alloc: Global) -> Result<Box<SharedAdmin<Action>>, AllocError> {
+    let first = Box::into_inner(tree(alloc, LINKS)?);
+    match SharedAdmin::new(alloc, first, operators(alloc, b"alice bob")?) {
+        Ok(admin) => Ok(Box::new(alloc, admin)?),
+        Err(_) => Err(AllocError),
+    }
+}
+
+/// The question on which units the target depends. It looks at the links of dependencies, and at
+/// nothing else.
+fn question(alloc: Global) -> Result<Action, AllocError> {
+    Ok(Action::Dependencies(Dependencies {
+        unit: name(alloc, b"a.target")?,
+        reverse: false,
+    }))
+}
+
+/// A plan of the question on the tree as it is.
+fn planned(
+    rt: &impl Wait,
+    alloc: Global,
+    admin: &SharedAdmin<Action>,
+) -> Result<Box<Plan<Action>>, AllocError> {
+    let snapshot = admin.snapshot(rt)?;
+    match plan(alloc, &snapshot, question(alloc)?) {
+        Ok(plan) => Ok(Box::new(alloc, plan)?),
+        Err(_) => Err(AllocError),
+    }
+}
+
+/// Bob removes one of the links.
+fn remove(rt: &impl Wait, alloc: Global, admin: &SharedAdmin<Action>) -> Result<(), AllocError> {
+    let remove = RemoveEntry {
+        path: path(alloc, b"/etc/systemd/system/a.target.wants/b.service")?,
+    };
+    match admin.call(rt, alloc, operator(b"bob")?, Action::RemoveEntry(remove)) {
+        Ok(_) => Ok(()),
+        Err(_) => Err(AllocError),
+    }
+}
+
+/// How many units an answer names.
+fn count_named(answer: &Answer) -> u32 {
+    match answer {
+        Answer::Names(names) => u32::try_from(names.as_slice().len()).unwrap_or(u32::MAX),
+        Answer::Done(_) | Answer::State(_) | Answer::Name(_) | Answer::Refused(_) => 0,
+    }
+}
+
+/// What a commit returns.
+type Settling = Result<Settled<Plan<Action>>, Uncommitted<Plan<Action>>>;
+
+/// Alice's commit of a plan.
+fn committed(
+    rt: &impl Wait,
+    alloc: Global,
+    admin: &SharedAdmin<Action>,
+    plan: Box<Plan<Action>>,
+) -> Result<Box<Settling>, AllocError> {
+    let alice = operator(b"alice")?;
+    let settling = admin.commit(rt, alice, Box::into_inner(plan));
+    Ok(Box::new(alloc, settling)?)
+}
+
+fn word_of(settling: &Settling) -> &'static [u8] {
+    match settling {
+        Ok(Settled::Committed(_)) => b"committed",
+        Ok(
+            Settled::Stale {
+                plan: _,
+                at: Key::Links,
+            },
+        ) => b"stale:links",
+        Ok(Settled::Stale { plan: _, at: _ }) => b"stale",
+        Err(left) if left.why == CallError::Full => b"full",
+        Err(_) => b"out-of-memory",
+    }
+}
+
+/// How many units the question's answer names, and what the commit of its plan returns once bob has
+/// removed a link.
+fn said_of_stale(rt: &impl Wait, alloc: Global) -> Result<Vec<u8>, AllocError> {
+    let admin = shared(alloc)?;
+    let plan = planned(rt, alloc, &admin)?;
+    let mut out = Vec::new(alloc);
+    push_numbered(&mut out, b"named", count_named(plan.answer()))?;
+    remove(rt, alloc, &admin)?;
+    begin_word(&mut out)?;
+    let settling = committed(rt, alloc, &admin, plan)?;
+    out.extend_from_slice(word_of(&settling))?;
+    Ok(out)
+}
+
+/// This takes no memory, since the key has no path and the answer isn't copied. It isn't tried
+/// again, so that it fails if it takes some.
+#[test]
+fn a_commit_of_a_stale_plan_copies_no_answer(rt: HostRuntime) -> Result<(), Fail> {
+    let said = ample!(said_of_stale(&rt, rt.alloc()), AllocError)?;
+    let is_stale = said.as_slice() == b"named:2 stale:links".as_slice();
+    assert!(rt; is_stale, "{:?}", str::from_utf8(&said));
     Ok(())
 }

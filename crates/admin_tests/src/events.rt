@@ -126,7 +126,7 @@ fn planning(alloc: Global, word: &[u8]) -> Result<Event<Step>, AllocError>
 }
 
 /// The event of a word.
-fn event(alloc: Global, word: &[u8]) -> Result<Event<Step>, AllocError>
+pub(crate) fn event(alloc: Global, word: &[u8]) -> Result<Event<Step>, AllocError>
     ensures { IfOk result (HasSlot {O = Step}) }
 {
     let (first, rest) = parts(word);
@@ -147,7 +147,7 @@ fn add(events: &mut Vec<Event<Step>>, event: Event<Step>) -> Result<(), AllocErr
     Ok(events.push(event)?)
 }
 
-fn events(alloc: Global, script: &[u8]) -> Result<Vec<Event<Step>>, AllocError>
+pub(crate) fn events(alloc: Global, script: &[u8]) -> Result<Vec<Event<Step>>, AllocError>
     ensures { IfOk result (λ events. All (HasSlot {O = Step}) events.items) }
 {
     let mut events = Vec::new(alloc);
@@ -158,7 +158,7 @@ fn events(alloc: Global, script: &[u8]) -> Result<Vec<Event<Step>>, AllocError>
 }
 
 /// Adds the word of the reply to an event.
-fn push_event_reply(out: &mut Vec<u8>, reply: &EventReply) -> Result<(), AllocError> {
+pub(crate) fn push_event_reply(out: &mut Vec<u8>, reply: &EventReply) -> Result<(), AllocError> {
     begin_word(out)?;
     match reply {
         EventReply::Taken => out.extend_from_slice(b"taken"),
@@ -170,7 +170,7 @@ fn push_event_reply(out: &mut Vec<u8>, reply: &EventReply) -> Result<(), AllocEr
     }
 }
 
-fn push_replies(out: &mut Vec<u8>, replies: &[EventReply]) -> Result<(), AllocError> {
+pub(crate) fn push_replies(out: &mut Vec<u8>, replies: &[EventReply]) -> Result<(), AllocError> {
     for reply in replies {
         push_event_reply(out, reply)?;
     }

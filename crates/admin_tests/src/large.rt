@@ -7,6 +7,8 @@ use std::alloc::{AllocError, Global};
 use std::process::Abort;
 use std::test::Fail;
 
+mod snapshots;
+
 const SCRIPTS: u32 = 200;
 
 const EVENTS: usize = 48;
@@ -215,7 +217,7 @@ fn said_of_undo(rows: &[PlainRow], n: u32) -> Said {
     }
 }
 
-/// Whether row `n` was undone when row `later` was to be made.
+/// Whether row `n` was undone, and not redone since, when row `later` was made.
 fn was_undone(rows: &[PlainRow], n: u32, later: u32) -> bool {
     let mut is_undone = false;
     let mut number: u32 = 0;

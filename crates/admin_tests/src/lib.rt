@@ -8,6 +8,10 @@ mod commands;
 #[cfg(test)]
 mod events;
 #[cfg(test)]
+mod keeping;
+#[cfg(test)]
 mod large;
+#[cfg(test)]
+mod locked;
 #[cfg(test)]
 mod sharing;

@@ -1,6 +1,6 @@
 //! Calls on a shared history, one after another on one thread.
 //!
-//! | Word | What is done | What it answers |
+//! | Word | What is done | Result |
 //! |---|---|---|
 //! | `snapshot` | a snapshot is taken | `rows:0:entries:1` |
 //! | `plan:put:a` | a plan of the step is made on the snapshot | `planned` |
@@ -23,8 +23,8 @@ use std::str;
 use std::sync::Wait;
 use std::test::Fail;
 
-/// Calls on a history that alice and bob share, and what they answer. Operators, and what results
-/// from opening a history for them.
+/// Calls on a history that alice and bob share, and their results. Operators, and what results
+/// from opening a history for them. Whether a snapshot is taken after calls.
 const ROWS: &[u8] = b"\
     # bob comes first, so alice's plan is stale; made again on a new snapshot it is refused,\n\
     # in row 2; after bob's undo a third is accepted\n\
@@ -72,6 +72,9 @@ const ROWS: &[u8] = b"\
         snapshot\t1\t\
         rows:0:entries:1 planned row:1:ok full full planned stale:a rows:1:entries:2\n\
     \n\
+    # a snapshot takes no memory: it is taken whatever growth is refused\n\
+    snapshot\talice:put:a\t\tis taken\n\
+    \n\
     # at most sixteen operators, each once\n\
     operators\t\t\tis shared\n\
     operators\ta b\t\tis shared\n\
@@ -86,7 +89,7 @@ const ROWS: &[u8] = b"\
 #[derive(Drop)]
 pub(crate) struct Bench {
     pub(crate) admin: Box<SharedAdmin<Step>>,
-    snapshot: Box<Snapshot>,
+    pub(crate) snapshot: Box<Snapshot>,
     plan: Option<Box<Plan<Step>>>,
 }
 
@@ -99,7 +102,7 @@ fn push_full(out: &mut Vec<u8>, why: CallError) -> Result<(), AllocError> {
 }
 
 /// The operators of these names, of which there may be none.
-fn operators(alloc: Global, names: &[u8]) -> Result<Operators, AllocError> {
+pub(crate) fn operators(alloc: Global, names: &[u8]) -> Result<Operators, AllocError> {
     let mut operators = Operators::none(alloc);
     for name in names.split(|b| *b == b' ') {
         if !name.is_empty() {
@@ -109,9 +112,9 @@ fn operators(alloc: Global, names: &[u8]) -> Result<Operators, AllocError> {
     Ok(operators)
 }
 
-/// A tree with one entry, at the slot of c.
+/// A tree with one entry, a link at the slot of c.
 pub(crate) const FIRST: &[u8] =
-    b"unitadm-inventory 1\nF\t0\t/etc/systemd/system/c.service\n\nend\n";
+    b"unitadm-inventory 1\nL\t/etc/systemd/system/c.service\tx.service\nend\n";
 
 /// A history of that tree with at most this many rows, shared by alice and bob.
 fn shared(alloc: Global, limit: usize) -> Result<Box<SharedAdmin<Step>>, AllocError> {
@@ -136,7 +139,7 @@ fn begun(alloc: Global, rt: &impl Wait, limit: usize) -> Result<Bench, AllocErro
 }
 
 /// Adds a row's number and its reply.
-fn push_new_row(out: &mut Vec<u8>, row: &NewRow) -> Result<(), AllocError> {
+pub(crate) fn push_new_row(out: &mut Vec<u8>, row: &NewRow) -> Result<(), AllocError> {
     push_numbered(out, b"row", row.number)?;
     out.extend_from_slice(b":")?;
     push_reply(out, &row.reply)
@@ -144,12 +147,12 @@ fn push_new_row(out: &mut Vec<u8>, row: &NewRow) -> Result<(), AllocError> {
 
 /// An undo or a redo of the row of this number.
 #[derive(Clone, Copy)]
-enum Toggle {
+pub(crate) enum Toggle {
     Undo(u32),
     Redo(u32),
 }
 
-/// Adds what an undo or a redo answers. Returns whether memory was enough for it.
+/// Adds what an undo or a redo returns. Returns whether memory was enough for it.
 fn push_toggled(
     out: &mut Vec<u8>,
     toggled: &Result<NewRow, CallError>,
@@ -163,17 +166,21 @@ fn push_toggled(
 }
 
 /// A plan of a step on a snapshot.
-fn planned(alloc: Global, snapshot: &Snapshot, step: Step) -> Result<Box<Plan<Step>>, AllocError> {
+pub(crate) fn planned(
+    alloc: Global,
+    snapshot: &Snapshot,
+    step: Step,
+) -> Result<Box<Plan<Step>>, AllocError> {
     match plan(alloc, snapshot, step) {
         Ok(plan) => Ok(Box::new(alloc, plan)?),
         Err(_) => Err(AllocError),
     }
 }
 
-/// What a commit answers.
-type Settling = Result<Settled<Plan<Step>>, Uncommitted<Plan<Step>>>;
+/// What a commit returns.
+pub(crate) type Settling = Result<Settled<Plan<Step>>, Uncommitted<Plan<Step>>>;
 
-fn push_settled(out: &mut Vec<u8>, settling: &Settling) -> Result<(), AllocError> {
+pub(crate) fn push_settled(out: &mut Vec<u8>, settling: &Settling) -> Result<(), AllocError> {
     match settling {
         Ok(Settled::Committed(row)) => push_new_row(out, row),
         Ok(Settled::Stale { plan: _, at }) => push_pair(out, b"stale", unit_at(at)),
@@ -182,7 +189,7 @@ fn push_settled(out: &mut Vec<u8>, settling: &Settling) -> Result<(), AllocError
 }
 
 /// The plan, if it made no row.
-fn kept_plan(
+pub(crate) fn kept_plan(
     alloc: Global,
     settling: Box<Settling>,
 ) -> Result<Option<Box<Plan<Step>>>, AllocError> {
@@ -258,8 +265,8 @@ impl Bench {
         }
     }
 
-    /// Adds what an undo or a redo answers, and says whether memory was enough for it.
-    fn push_toggle(
+    /// Adds what an undo or a redo returns, and returns whether memory was enough for it.
+    pub(crate) fn push_toggle(
         &self,
         rt: &impl Wait,
         alloc: Global,
@@ -316,7 +323,7 @@ impl Bench {
         self.call(rt, alloc, operator, step(alloc, word)?, out)
     }
 
-    /// Does what a word says, and adds what it answers.
+    /// Does what a word says, and adds the result.
     fn answer(
         &mut self,
         rt: &impl Wait,
@@ -334,7 +341,7 @@ impl Bench {
         self.answer_to(rt, alloc, operator(first)?, rest, out)
     }
 
-    /// Adds what the words of a script answer.
+    /// Adds the results of the words of a script.
     fn play(
         &mut self,
         rt: &impl Wait,
@@ -350,7 +357,7 @@ impl Bench {
     }
 }
 
-/// What is left of a script on that tree; what its words answer is added.
+/// What is left of a script on that tree; the results of its words are added.
 pub(crate) fn run(
     alloc: Global,
     rt: &impl Wait,
@@ -362,12 +369,23 @@ pub(crate) fn run(
     Ok(bench)
 }
 
-/// What the words of a script answer, on a history with at most this many rows.
+/// The results of the words of a script, on a history with at most this many rows.
 fn said(alloc: Global, rt: &impl Wait, script: &[u8], limit: usize) -> Result<Vec<u8>, AllocError> {
     let mut out = Vec::new(alloc);
     let mut bench = begun(alloc, rt, limit)?;
     bench.play(rt, alloc, script, &mut out)?;
     Ok(out)
+}
+
+/// Whether a snapshot is taken after a script. It isn't tried again, so that it fails if it takes
+/// memory.
+fn snapshot_taken(alloc: Global, rt: &impl Wait, script: &[u8]) -> Result<Vec<u8>, AllocError> {
+    let mut said = Vec::new(alloc);
+    let bench = run(alloc, rt, script, &mut said)?;
+    match bench.admin.snapshot(rt) {
+        Ok(_) => Vec::from_slice(alloc, b"is taken"),
+        Err(AllocError) => Vec::from_slice(alloc, b"out of memory"),
+    }
 }
 
 fn shared_by(alloc: Global, names: &[u8]) -> Result<SharedAdmin<Step>, OpenError> {
@@ -393,6 +411,9 @@ fn answer(rt: &impl Wait, alloc: Global, row: &Row) -> Result<Vec<u8>, AllocErro
     }
     if is(&row.kind, b"limited") {
         return said(alloc, rt, &row.one, number(&row.two) as usize);
+    }
+    if is(&row.kind, b"snapshot") {
+        return snapshot_taken(alloc, rt, &row.one);
     }
     if is(&row.kind, b"operators") {
         return opened(alloc, &row.one);

@@ -1,4 +1,4 @@
--- What clap makes of the words of the program's command.
+-- What clap makes of the arguments of the program's command.
 use Rattle.std.proofs.Common.{◌≡◌, ◌∙◌, ◌==◌, ℕ, Bool, ◌⊎◌, inl, inr, true, false, zero, suc, List, [], ◌∷◌, length, Option, Some, None, codes, refl, sym, ap, ap₂, subst, arith, take, not, ◌+◌}
 use Rattle.std.specs.Prelude.{slice_get, unwrap_or}
 use Rattle.std.specs.Option.{option_map_or}
@@ -33,7 +33,7 @@ is_simple_app = refl
 abbrev shape : Shape
 shape = (built unitadm_app).top
 
--- some kind of error comes
+-- some kind of error occurs
 abbrev fails : Kinds → Bool
 fails [] = false
 fails (k ∷ ks) = true
@@ -42,7 +42,7 @@ fails_first : (a b : Kinds) → fails a ≡ true → fails (or_else a b) ≡ tru
 fails_first [] b h = cc
 fails_first (k ∷ ks) b h = refl
 
--- between two words
+-- between two arguments
 abbrev at : List Row → Bool → Walk
 at rows is_trailing = record {
   held = record { rows = rows; pending = None; skip = 0 };
@@ -83,7 +83,7 @@ plain_name (x ∷ xs) p is none = go (has_byte 61 (x ∷ xs)) refl
         cc
     go false here = sym (before_none 61 (x ∷ xs) here) ∙ ap (λ q. q.0) same
 
--- a long name without a value is the word behind two hyphens
+-- a long name without a value is the argument after two hyphens
 long_text : (word : Text) (p : Text × Option Text) → long_of word ≡ Some p → p.1 ≡ None → word ≡ 45 ∷ 45 ∷ p.0
 long_text [] p is none = cc
 long_text (x ∷ []) p is none = go (x == 45) refl
@@ -103,7 +103,7 @@ long_text (x ∷ y ∷ rest) p is none = go (x == 45) refl (y == 45) refl
     go false first b second = let bad : None ≡ Some p = rw first at is in cc
     go true first false second = let bad : None ≡ Some p = rw (first, second) at is in cc
 
--- ---- a word that is neither `--` nor `--sessions`
+-- ---- an argument that is neither `--` nor `--sessions`
 
 abbrev held : List Row → Held
 held rows = (at rows false).held
@@ -118,7 +118,7 @@ long_fails rows name v other = go (bytes_eq (codes "sessions") name) refl v othe
     go true here None none = absurd (none here refl)
     go true here (Some t) none = rw here refl
 
--- the turn of a word that is not `--`, by what it looks like
+-- the step for an argument that is not `--`, by its form
 abbrev turn_of : List Row → Text → Option (Text × Option Text) → Kinds
 turn_of rows word o =
     let met = long_or_other shape.rules idle word o (held rows) in
@@ -129,7 +129,7 @@ short_turn rows word o =
     let met = short_or_plain shape.rules idle word o (held rows) in
     or_else (option_map_or (λ flags. bundle_fault shape.rules false flags (held rows)) o []) (step_fault shape 1 met.0 met.1)
 
--- the turn of a bundle of flags, by what is made of them
+-- the step for a bundle of short flags, by how it is parsed
 abbrev bundle_turn : Text → Kinds → Held × Outcome → Kinds
 bundle_turn word faults met =
     let after = after_flag shape.rules idle word met.0 met.1 in
@@ -166,7 +166,7 @@ other_fails : (rows : List Row) (word : Text) → bytes_eq word (codes "--") ≡
     → fails (turn_fault shape [] (at rows false) word) ≡ true
 other_fails rows word no_end no_flag = rw no_end (turn_fails rows word (long_of word) refl no_flag)
 
--- ---- the words together
+-- ---- all arguments together
 
 abbrev flag_rows : List Row
 flag_rows = (walked shape.rules [] (at [] false) (codes "--sessions")).held.rows
@@ -175,7 +175,7 @@ abbrev told : Bool → Text
 told true = codes "true"
 told false = codes "false"
 
--- what clap finds where words ask for sessions, or for none
+-- what clap finds if the arguments request sessions, or none
 abbrev Takes : List Text → Bool → Type 0
 Takes words sessions = (fault_of unitadm_app words ≡ [])
     × (one_of (codes "sessions") (matches_of unitadm_app words) ≡ Some (told sessions))
@@ -204,7 +204,7 @@ no_more : (xs : List Text) → (length xs == 0) ≡ true → xs ≡ []
 no_more [] e = refl
 no_more (x ∷ xs) e = absurd (grind (arith, nat_tests))
 
--- the words that are taken
+-- the arguments that are accepted
 end_is : (words : List Text) → is_end words ≡ true → (words ≡ []) ⊎ (words ≡ codes "--" ∷ [])
 end_is [] e = inl refl
 end_is (word ∷ rest) e =
@@ -245,14 +245,14 @@ given_taken given sessions asked = go (is_end given) refl (is_flag given) refl
         let bad : None ≡ Some sessions = rw (end, flag) at asked in
         cc
 
--- words that ask for something are taken, and give what they ask for
+-- arguments that are valid are accepted, with the request that they specify
 pub asked_taken : (words : List Text) (sessions : Bool) → sessions_of words ≡ Some sessions → Takes words sessions
 asked_taken [] sessions asked = subst (Takes []) (from_some false sessions asked) none_taken
 asked_taken (own ∷ given) sessions asked = given_taken given sessions asked
 
--- ---- the words that are refused
+-- ---- the arguments that are rejected
 
--- after `--` no word is taken
+-- after `--` no argument is accepted
 after_end : (rows : List Row) (word : Text) (rest : List Text) → fails (walk_fault shape [] (at rows true) (word ∷ rest)) ≡ true
 unfolding walk_fault
 after_end rows word rest = refl
@@ -274,7 +274,7 @@ twice_fails : (rest : List Text) → fails (walk_fault shape [] (at flag_rows fa
 unfolding walk_fault walked
 twice_fails rest = refl
 
--- past the flag, only the end is taken
+-- after the flag, only the end is accepted
 after_flag_fails : (rest : List Text) → is_end rest ≡ false → fails (walk_fault shape [] (at flag_rows false) rest) ≡ true
 after_flag_fails [] more = cc
 after_flag_fails (word ∷ rest) more = go (bytes_eq word (codes "--")) refl (bytes_eq word (codes "--sessions")) refl
@@ -312,7 +312,7 @@ given_fails given unknown = go (is_end given) refl (is_flag given) refl
     go false end true flag = let bad : Some true ≡ None = rw (end, flag) at unknown in cc
     go false end false flag = fails_first _ _ (walk_fails given end flag)
 
--- words that ask for nothing that is known are refused
+-- invalid arguments are rejected
 pub unknown_refused : (words : List Text) → sessions_of words ≡ None → fault_of unitadm_app words ≡ [] → ⊥
 unknown_refused [] unknown none = cc
 unknown_refused (own ∷ given) unknown none =
@@ -321,7 +321,7 @@ unknown_refused (own ∷ given) unknown none =
 
 -- ---- what the caller concludes
 
--- the flag, as it is read, is what the words ask for
+-- the flag, as it is read, is what the arguments request
 pub flag_asked : (app : App) (words : List Text) (m : ArgMatches) (flag : Bool) → app ≡ unitadm_app
     → HasMatchesOf app words m → (is_simple_and_free app ≡ true → fault_of app words ≡ [])
     → (one_text (found_of m) (codes "sessions") ≡ Some (codes "true") → flag ≡ true)
@@ -346,7 +346,7 @@ flag_asked app words m flag is has passes yes_flag no_flag = go (sessions_of wor
     go None asked = absurd (unknown_refused words asked fault)
     go (Some sessions) asked = asked ∙ ap (λ b. Some b) (sym (is_read sessions (asked_taken words sessions asked)))
 
--- an error that is not want of memory comes only at words that ask for nothing that is known
+-- an error other than out of memory occurs only for invalid arguments
 pub error_unknown : (app : App) (words : List Text) (e : Error) → app ≡ unitadm_app
     → (is_simple_and_free app ≡ true → HasKind (fault_of app words) e) → (kind_of e ≡ OutOfMemory → ⊥)
     → sessions_of words ≡ None

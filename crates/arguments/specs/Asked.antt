@@ -1,9 +1,9 @@
--- What the words of a command line ask for.
+-- What the arguments of a command line request.
 use Rattle.std.specs.Prelude.{◌==◌, ◌&&◌, ℕ, Bool, true, false, List, [], ◌∷◌, Option, Some, None}
 use Rattle.std.specs.Prelude.{length, drop, codes, if◌then◌else◌}
 use Rattle.std.specs.Str.{bytes_eq}
 
--- no more words, or `--` alone, which ends the flags
+-- no more arguments, or only `--`, which ends the flags
 abbrev pub is_end : List (List ℕ) → Bool
 is_end [] = true
 is_end (word ∷ rest) = bytes_eq word (codes "--") && length rest == 0
@@ -13,10 +13,10 @@ abbrev pub is_flag : List (List ℕ) → Bool
 is_flag [] = false
 is_flag (word ∷ rest) = bytes_eq word (codes "--sessions") && is_end rest
 
--- the end alone asks for no sessions, the flag asks for them, and other words are not taken
+-- no flag requests no sessions, the flag requests them, and other arguments are rejected
 abbrev pub asked_by : List (List ℕ) → Option Bool
 asked_by words = if is_end words then Some false else (if is_flag words then Some true else None)
 
--- whether sessions are asked for, where the first word is the program's own
+-- whether sessions are requested; the first argument is the program's own name
 abbrev pub sessions_of : List (List ℕ) → Option Bool
 sessions_of words = asked_by (drop 1 words)

@@ -11,7 +11,7 @@ sessions_flag = record (new_rule (codes "sessions")) {
   action = Some SetTrue;
 }
 
--- a command of that flag alone, without help and version
+-- a command with only this flag, without help and version
 abbrev pub unitadm_app : App
 unitadm_app = with_rule (on_top (λ s. record s {
   disable_help_flag = true;

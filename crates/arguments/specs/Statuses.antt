@@ -1,4 +1,4 @@
--- The status with which a program ends that its words stop.
+-- The exit status of a program if its arguments are rejected.
 use Rattle.std.specs.Prelude.{ℕ}
 use Rattle.arguments.specs.declared.words.ArgumentError.{ArgumentError}
 use Rattle.arguments.specs.declared.words.ArgumentError.TheVariants.{BadArguments, OutOfMemory}

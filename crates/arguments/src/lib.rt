@@ -1,4 +1,4 @@
-//! The words that the program is given.
+//! The program's command-line arguments.
 #![tactic(auto)]
 
 mod words;

@@ -14,7 +14,7 @@ fn read(alloc: Global, texts: &[&str]) -> Result<Arguments, ArgumentError> {
     arguments_of(alloc, &words_of(alloc, texts)?)
 }
 
-/// As `read`, once more where a growth was refused.
+/// Like `read`, but tries once more if an allocation failed.
 fn read_with_memory(alloc: Global, texts: &[&str]) -> Result<Arguments, ArgumentError> {
     match read(alloc, texts) {
         Err(ArgumentError::OutOfMemory) => read(alloc, texts),

@@ -1,4 +1,4 @@
-//! What the words ask for.
+//! What the command-line arguments request.
 ghost use Rattle.std.specs.Prelude.{◌≡◌, IfOk, IsErrOf, None, Some, map};
 ghost use Rattle.std.specs.String.{string_bytes};
 ghost use Rattle.clap.specs.Words.{app_of};
@@ -12,14 +12,14 @@ use clap::{Arg, ArgAction, Command};
 use std::alloc::{AllocError, AllocFailed, Global};
 use thiserror::Error;
 
-/// What the words ask for.
+/// What the command-line arguments request.
 #[derive(Clone, Copy, Debug, PartialEq, Eq)]
 pub struct Arguments {
     /// Whether each operator has a worker.
     pub sessions: bool,
 }
 
-/// Why the words were not read.
+/// Why the arguments could not be read.
 #[derive(Clone, Copy, Debug, PartialEq, Eq, Error)]
 pub enum ArgumentError {
     #[error("bad arguments")]
@@ -45,7 +45,7 @@ impl<T: Drop> From<AllocFailed<T>> for ArgumentError {
 }
 
 impl ArgumentError {
-    /// The status with which the program ends.
+    /// The exit status of the program.
     pub fn status(self) -> u8
         ensures { result ≡ status_of self }
     {
@@ -69,7 +69,7 @@ fn command<'a>(alloc: Global) -> Result<Command<'a>, AllocError>
         .arg(sessions)
 }
 
-/// Whether the words, of which the first is the program's own, ask for sessions.
+/// Whether the arguments, of which the first is the program's own name, request sessions.
 pub fn arguments_of(alloc: Global, words: &[String]) -> Result<Arguments, ArgumentError>
     ensures asked { IfOk result (λ given. sessions_of (map string_bytes words.now) ≡ Some given.sessions) }
     ensures refused { IsErrOf result ArgumentError.BadArguments → sessions_of (map string_bytes words.now) ≡ None }

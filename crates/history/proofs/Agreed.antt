@@ -1,5 +1,5 @@
--- Where a tree agrees with all that a plan looked at, the plan is the one that would be made now,
--- and makes the row of a call.
+-- If a tree agrees with all that a plan looked at, the plan is the one that would be made now, and
+-- makes the row of a call.
 use Rattle.std.proofs.Common.{◌≡◌, ◌↔◌, Result, Ok, Err, IfErr, ℕ, ◌<◌, Bool, true, List, [], ◌∷◌, ◌++◌, map as list_map, All, Contains, length, refl, sym, ap, subst, ◌∙◌}
 use Rattle.std.proofs.lemmas.List.Elements.{All-head, All-tail, All-nil, All-cons, All-contains, All-contains_itself, Contains-append_right}
 use Rattle.unit_paths.specs.Slots.{is_slot}
@@ -38,21 +38,21 @@ holds_itself (key ∷ keys) t = All-cons (Holds t) (observed t key) (list_map (o
 pub own_reading : (keys : List Key) (t : Entries) → HoldsIn t (reading_of keys t)
 own_reading keys t = holds_itself (in_order keys) t
 
--- a tree in which a key sees something else doesn't agree with the reading
+-- a tree in which a key has another value doesn't agree with the reading
 pub other_off : (t : Entries) (reading : List Observation) (key : Key) → IsFirstOther t reading key → HoldsIn t reading → ⊥
 other_off t reading key other holds =
     let before = other.0 in let here = other.1 in let later = other.2 in
     other.5 (All-contains (Holds t) (before ++ here ∷ later) here (subst (HoldsIn t) other.3 holds)
     (Contains-append_right before (here ∷ later) here (All-head (Contains (here ∷ later)) here later (All-contains_itself (here ∷ later)))))
 
--- a plan that is stale isn't refused for want of room
+-- a stale plan isn't refused because the history is full
 pub stale_not_full : {P : Type 0} (t : Entries) (reading : List Observation) (key : Key) (r : Result (Commit P) (Uncommitted P)) (E : Type 0) → IsFirstOther t reading key → IfErr r (λ left. left.why ≡ errors.OutOfMemory)
     → IfErr r (λ left. (left.why ≡ errors.Full) ↔ (HoldsIn t reading × E))
 stale_not_full t reading key (Ok done) E other why = tt
 stale_not_full t reading key (Err left) E other why = (λ full. absurd (cc), λ both. absurd (other_off t reading key other both.0))
 
 module _ {O : Type 0} (meaning : O → Inquiry Effect) where
-  -- the same operation comes to the same where what it looked at is as it was
+  -- the same operation has the same outcome if what it looked at is unchanged
   pub agreed_outcome : (c : O) (t u : Entries) → HoldsIn u (outcome_of meaning c t).reading → outcome_of meaning c t ≡ outcome_of meaning c u
   agreed_outcome c t u holds =
       let keys = (meaning c).keys t in
@@ -91,11 +91,11 @@ module _ {O : Type 0} {asks : O → Bool} {meaning : O → Inquiry Effect} (laws
     there : outcome ≡ outcome_of meaning c (replay asks meaning first rows)
     there = here ∙ ap (outcome_of meaning c) kept.tree_is
 
-    -- its changes are from what stands in the tree
+    -- its changes start from what is in the tree
     pub plan_from : AreFrom tree outcome.changes
     plan_from = subst (λ (o : Outcome). AreFrom tree o.changes) (sym here) (laws.changes c tree).from
 
-    -- the history is kept with its row
+    -- the history's invariant is preserved with its row
     pub plan_kept : (operator : List ℕ) → length rows < limit → IsKept asks meaning first (after_changes outcome.changes tree) (rows ++ answered operator c outcome ∷ []) limit
     plan_kept operator room =
         subst (λ (o : Outcome). IsKept asks meaning first (after_changes o.changes tree) (rows ++ answered operator c o ∷ []) limit) (sym here)

@@ -1,4 +1,4 @@
--- Undos and redos of a row alternate, and the marks of rows are those that they leave.
+-- Undos and redos of a row alternate, and the marks of rows are those that result from them.
 use Rattle.std.proofs.Common.{◌≡◌, ◌+◌, ℕ, zero, suc, Bool, true, List, [], ◌∷◌, ◌++◌, Option, Some, None, is_some, length, refl, sym, ap, subst, ◌∙◌}
 use Rattle.link_tree.specs.Trees.{Entries}
 use Rattle.footprint.specs.Inquiry.{Inquiry}
@@ -27,7 +27,7 @@ module _ {O : Type 0} where
   alternates-mark n (row ∷ rows) zero mark_by at by h = h
   alternates-mark n (row ∷ rows) (suc k) mark_by at by h = (h.0, h.1, alternates-mark n rows k mark_by (at + 1) (undoer_then row.reply at n by) h.2)
 
-  -- a row that undoes and redoes none
+  -- a row that undoes and redoes nothing
   alternates-other : (rows : List (Row O)) (last : Row O) → ((n : ℕ) → last.reply ≡ Undid n → ⊥) → ((n : ℕ) → last.reply ≡ Redid n → ⊥) → AllAlternate rows → AllAlternate (rows ++ last ∷ [])
   alternates-other rows last undoes redoes h = λ n. alternates-push n rows last 1 None (h n) (λ is. absurd (undoes n is)) (λ is. absurd (redoes n is))
 
@@ -66,7 +66,7 @@ module _ {O : Type 0} where
     pub alternates-run : (first : Entries) (calls : List (Call O)) → AllAlternate (run asks meaning first [] calls)
     alternates-run first calls = alternates-from first [] calls (no_rows O) (λ n. tt)
 
-    -- what is so of legal rows
+    -- what holds for legal rows
     pub legal_marks : (first : Entries) (rows : List (Row O)) → rows ≡ run asks meaning first [] (calls_of rows) → MarksAgree rows
     legal_marks first rows legal = subst (λ (rs : List (Row O)). MarksAgree rs) (sym legal) (marks-run asks meaning first (calls_of rows))
 

@@ -1,4 +1,4 @@
--- What is read of rows to see whether one may be undone or redone.
+-- What is read from rows to determine whether one may be undone or redone.
 use Rattle.std.proofs.Common.{◌≡◌, ◌+◌, ◌-◌, ◌≤◌, length, ℕ, Bool, true, false, cond, List, Option, Some, None, is_some, take, drop, refl, sym, ap, ◌∙◌}
 use Rattle.link_tree.specs.declared.change.Change.{Change}
 use Rattle.history.specs.declared.row.UndoRefusal.{UndoRefusal}
@@ -12,7 +12,7 @@ undone_command_is None by u h = cc
 undone_command_is (Some c) by u h = (refl, h)
 
 module _ {O : Type 0} (asks : O → Bool) (rows : List (Row O)) (n : ℕ) (row : Row O) (here : row_at rows n ≡ Some row) where
-  -- a survivor is blocked by the first that is met after it
+  -- the blocker of a survivor is the first later survivor that its changes meet
   pub met_read : (changes : List Change) (found : Option ℕ) → true ≡ is_some (survivor asks row) → changes ≡ row.changes
       → found ≡ first_met asks changes (drop n rows) (n + 1) → found ≡ blocker asks rows n
   met_read changes found stands is met =
@@ -21,7 +21,7 @@ module _ {O : Type 0} (asks : O → Bool) (rows : List (Row O)) (n : ℕ) (row :
       ∙ ap (λ (b : Bool). cond b (first_met asks row.changes (drop n rows) (n + 1)) None) stands
       ∙ sym (ap (blocker_at asks rows n) here)
 
-  -- nothing else is blocked
+  -- a row that isn't a survivor has no blocker
   pub none_read : false ≡ is_some (survivor asks row) → None ≡ blocker asks rows n
   none_read gone = ap (λ (b : Bool). cond b (first_met asks row.changes (drop n rows) (n + 1)) None) gone ∙ sym (ap (blocker_at asks rows n) here)
 
@@ -39,16 +39,16 @@ module _ {O : Type 0} (asks : O → Bool) (rows : List (Row O)) (n : ℕ) (row :
   hindrance_read : (by : Option ℕ) → by ≡ undone_command (accepted asks row.request row.reply) row.undone_by → hindrance_since asks rows n row by ≡ hindrance asks rows n
   hindrance_read by is = ap (hindrance_since asks rows n row) is ∙ sym (ap (hindrance_at asks rows n) here)
 
-  -- nothing hinders what is no undone command
+  -- nothing hinders a row that isn't an undone command
   pub unhindered_read : None ≡ undone_command (accepted asks row.request row.reply) row.undone_by → None ≡ hindrance asks rows n
   unhindered_read is = hindrance_read None is
 
-  -- the first that has flipped
+  -- its hindrance is the first row that has flipped
   pub flipped_read : (by k : ℕ) → Some by ≡ undone_command (accepted asks row.request row.reply) row.undone_by
       → Some k ≡ first_flipped asks (undoer_before rows by) row.reading (take (n - 1) rows) 1 → Some k ≡ hindrance asks rows n
   flipped_read by k is flipped = ap (λ (o : Option ℕ). or_later o (first_met asks row.changes (drop n rows) (n + 1))) flipped ∙ hindrance_read (Some by) is
 
-  -- or else the first that is met after it
+  -- or else the first later survivor that its changes meet
   pub unflipped_read : (by : ℕ) (found : Option ℕ) → Some by ≡ undone_command (accepted asks row.request row.reply) row.undone_by
       → None ≡ first_flipped asks (undoer_before rows by) row.reading (take (n - 1) rows) 1 → found ≡ first_met asks row.changes (drop n rows) (n + 1) → found ≡ hindrance asks rows n
   unflipped_read by found is none met =

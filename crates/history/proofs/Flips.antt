@@ -22,7 +22,7 @@ pub record IsOther (reply : RowReply) (at n : ℕ) (by : Option ℕ) (last : ℕ
 pub record IsToggle (reply : RowReply) (at n : ℕ) (by : Option ℕ) (last : ℕ) : Type 0 where
   pub names_it : toggled reply ≡ Some n
   pub last_is : toggle_then (toggled reply) at n last ≡ at
-  -- it says whether the row was undone before
+  -- it shows whether the row was undone before
   pub tells : (reply ≡ Undid n → by ≡ None) → (reply ≡ Redid n → is_some by ≡ true) → was_undone reply ≡ is_some by
 
 reply_cases : (reply : RowReply) (at n : ℕ) (by : Option ℕ) (last : ℕ) → IsOther reply at n by last ⊎ IsToggle reply at n by last
@@ -83,16 +83,16 @@ sooner_less test u (Some k) was link least = elim (cases_Bool ((nat_lt k least &
     ]
 
 module _ {O : Type 0} where
-  -- One of these rows toggles row k for the first time since row u, and says that it was undone
-  -- before or that it wasn't.
+  -- One of these rows toggles row k for the first time since row u, and shows whether it was undone
+  -- before.
   abbrev pub Finds : (u : ℕ) → List (Row O) → (links : List ℕ) → (k : ℕ) → (was : Bool) → Type 0
   Finds u [] links k was = ⊥
   Finds u (row ∷ rows) [] k was = ⊥
   Finds u (row ∷ rows) (link ∷ links) k was = ((toggled row.reply ≡ Some k) × (link < u) × (was_undone row.reply ≡ was)) ⊎ Finds u rows links k was
 
-  -- ---- what is found was so
+  -- ---- a toggle that is found shows the mark that the row had
   module _ (u k : ℕ) where
-    -- after row k was toggled since row u, it is toggled for the first time no more
+    -- after row k was toggled since row u, it is no longer toggled for the first time
     found_tells : (rows : List (Row O)) (links : List ℕ) (at : ℕ) (by : Option ℕ) (last : ℕ) (was : Bool) → u ≤ at → Alternates k rows at by → LinksBack k rows links at last
         → Finds u rows links k was → (last < u) × (was ≡ is_some by)
     found_tells [] links at by last was from alternate back never = absurd never
@@ -125,7 +125,7 @@ module _ {O : Type 0} where
       | inr toggle ↦ inr (inl (toggle.names_it, omega (arith, new, back.0 toggle.names_it), toggle.tells alternate.0 alternate.1))
     ]
 
-    -- ---- the rows from a place on
+    -- ---- the rows from an index on
     alternates-drop : (v : ℕ) (rows : List (Row O)) (at : ℕ) (by : Option ℕ) → Alternates k rows at by → Alternates k (drop v rows) (at + v) (undoer_from (take v rows) at k by)
     alternates-drop zero rows at by h = let number : at ≡ at + 0 = omega arith in subst (λ (i : ℕ). Alternates k rows i by) number h
     alternates-drop (suc v) [] at by h = tt
@@ -235,7 +235,7 @@ module _ {O : Type 0} (asks : O → Bool) (rows : List (Row O)) (links : List �
         | inr found ↦ found
       ]
 
-  -- what is tested of a row with the mark that it had
+  -- what is tested for a row with the mark that it had
   tested : (k : ℕ) (row : Row O) → row_at rows k ≡ Some row → test (is_some (undoer_before rows u k)) k ≡ row_test k row
   tested k row here =
       ap (flipped_at asks reading (is_some (undoer_before rows u k))) here
@@ -257,7 +257,7 @@ module _ {O : Type 0} (asks : O → Bool) (rows : List (Row O)) (links : List �
       let number : suc j ≡ 1 + j = omega arith in
       (j, number, (row.0, get_take_out (n - 1) rows j row.0 (omega (arith, lt)) row.1, ap (λ i. row_test i row.0) (sym number) ∙ holds))
 
-  -- and the reverse
+  -- and the converse
   of_passes : (j : ℕ) → Passes row_test (take (n - 1) rows) 1 j
       → (test (is_some (undoer_before rows u (1 + j))) (1 + j) ≡ true) × Finds u (drop (u - 1) rows) (drop (u - 1) links) (1 + j) (is_some (undoer_before rows u (1 + j))) × (1 + j < n)
   of_passes j (row, is, holds) =

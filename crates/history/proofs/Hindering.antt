@@ -11,7 +11,7 @@ use Rattle.history.proofs.Blocking.{Met, Outcome, first_met-is, met_of, met_stan
 
 -- ---- the first row that passes a test
 module _ {O : Type 0} (test : ℕ → Row O → Bool) where
-  -- The row at this place passes.
+  -- The row at this index passes.
   abbrev pub Passes : List (Row O) → ℕ → ℕ → Type 0
   Passes rows at j = (row : Row O) × (slice_get rows j ≡ Some row) × (test (at + j) row ≡ true)
 
@@ -100,7 +100,7 @@ module _ {O : Type 0} (asks : O → Bool) (rows : List (Row O)) (n u : ℕ) (row
       let there : row_at rows (1 + j) ≡ Some other = ap (row_at rows) number ∙ place.1 in
       (row, other, u, (here, command), undone, inr ((there, flipped.0), omega (arith, place.0), flipped.1, meets-looked other.changes row.reading parts.1))
 
-  -- and which is one that hinders
+  -- and it is one that hinders
   found_earlier : (m : ℕ) (other : Row O) → IsCommand asks rows m other → m < n → HasFlipped asks rows u m other → LookedAt other row → (j : ℕ) × (m ≡ 1 + j) × Passes in_the_way (take (n - 1) rows) 1 j
   found_earlier zero other is lt flipped looked = cc (is.0)
   found_earlier (suc j) other is lt flipped looked =
@@ -114,7 +114,7 @@ module _ {O : Type 0} (asks : O → Bool) (rows : List (Row O)) (n u : ℕ) (row
       let found = met_stands asks rows n k m row is met in
       (row, found.0, u, (here, command), undone, inl (found.1, omega (arith, is), found.2))
 
-  -- each row that hinders is one of the two kinds, of the very row
+  -- each row that hinders is of one of the two kinds
   kind : (m : ℕ) → Hinders asks rows n m → (other : Row O) × IsInTheWay asks rows n u m row other
   kind m (one, other, w, is, by, way) =
       let same = same_parts one w is.0 by in
@@ -174,7 +174,7 @@ module _ {O : Type 0} (asks : O → Bool) (rows : List (Row O)) where
   pub hindrance_is : (n : ℕ) → IsFirstToHinder asks rows n (hindrance asks rows n)
   hindrance_is n = by_row n (row_at rows n) refl
 
-  -- what is said of each refusal
+  -- what each refusal means
   refused_by : (n : ℕ) (row : Row O) (hindered : Option ℕ) → row_at rows n ≡ Some row → IsFirstToHinder asks rows n hindered
       → (command : Option O) → accepted asks row.request row.reply ≡ command → (by : Option ℕ) → row.undone_by ≡ by
       → IsRedoRefusedBy asks rows n (or_hindered (row_redo_refusal command by) hindered)

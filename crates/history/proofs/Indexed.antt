@@ -1,4 +1,5 @@
--- What the index says of rows: which it finds, and that it agrees with the rows after each call.
+-- What the index contains for rows: which ones it finds, and that it agrees with the rows after
+-- each call.
 use Rattle.std.proofs.Common.{◌≡◌, ◌+◌, ◌-◌, ◌≤◌, ℕ, zero, suc, Bool, true, false, cond, ◌&&◌, ◌||◌, List, [], ◌∷◌, ◌++◌, Option, Some, None, is_some, slice_get, drop, length, refl, sym, ap, subst, ◌∙◌, arith, inl, inr}
 use Rattle.std.specs.Prelude.{not}
 use Rattle.std.specs.BTreeMap.{is_at}
@@ -62,7 +63,7 @@ number_is : (n i : ℕ) → n ≡ i → is_at (nat_cmp n) i ≡ true
 number_is n i same = subst (λ j. is_at (nat_cmp n) j ≡ true) same (ap is_eq (tied_itself nat_cmp_total n))
 
 module _ {O : Type 0} (asks : O → Bool) where
-  -- whether a row is a survivor of whose reading changes touch a key
+  -- whether a row is a survivor with a key in its reading that changes touch
   abbrev pub is_met : List Change → Option (Row O) → Bool
   is_met changes None = false
   is_met changes (Some row) = is_some (survivor asks row) && meets changes row.reading
@@ -90,7 +91,7 @@ module _ {O : Type 0} (asks : O → Bool) where
   none_met None = refl
   none_met (Some row) = sym (ap (λ b. is_some (survivor asks row) && b) (any_none row.reading) ∙ and_false (is_some (survivor asks row)))
 
-  -- and so for several changes
+  -- and the same for several changes
   pub all_met : (r : Readers) (rows : List (Row O)) → Agrees asks r rows → (changes : List Change) (i : ℕ) → list_any (λ change. is_touched_in r change i) changes ≡ is_met changes (row_at rows i)
   all_met r rows agrees [] i = none_met (row_at rows i)
   all_met r rows agrees (c ∷ cs) i =
@@ -128,7 +129,7 @@ module _ {O : Type 0} (asks : O → Bool) where
             (from_is changes rest (at + 1) test (λ j. let next : at + 1 + j ≡ at + suc j = omega arith in ap test next ∙ same (suc j)))
       ]) refl
 
-  -- one number alone is the least
+  -- only one number is the least
   one_least : (test : ℕ → Bool) (n : ℕ) (found other : Option ℕ) → IsNext test n found → IsFrom test (n + 1) other → found ≡ other
   one_least test n None None h k = refl
   one_least test n None (Some m) h k = absurd (false≢true (sym (h m (omega (arith, k.0))) ∙ k.1))
@@ -200,7 +201,7 @@ module _ {O : Type 0} (asks : O → Bool) where
   unchanged true false old = refl
   unchanged false read old = refl
 
-  -- a row more, which is listed if it is a survivor
+  -- one more row, which is listed if it is a survivor
   pub agrees_pushed : (r new : Readers) (rows : List (Row O)) (row : Row O) (n : ℕ) → n ≡ length rows + 1 → Agrees asks r rows
       → ((k : Key) (i : ℕ) → reads new k i ≡ ((is_some (survivor asks row) && (is_read row.reading k && is_at (nat_cmp n) i)) || reads r k i))
       → Agrees asks new (rows ++ row ∷ [])
@@ -218,11 +219,11 @@ module _ {O : Type 0} (asks : O → Bool) where
             ap (λ b. (s && (read && b)) || reads r k i) away ∙ unchanged s read (reads r k i) ∙ agrees k i ∙ sym (ap (λ o. is_reader asks o k) (row_pushed rows row i other))
       ])
 
-  -- the row of an undo more, which is listed nowhere
+  -- one more row, of an undo, which isn't listed
   pub agrees_undo : (r : Readers) (rows : List (Row O)) (operator : List ℕ) (n : ℕ) (reply : RowReply) → Agrees asks r rows → Agrees asks r (rows ++ row_of_undo operator n reply ∷ [])
   agrees_undo r rows operator n reply agrees = agrees_pushed r r rows (row_of_undo operator n reply) (length rows + 1) refl agrees (λ k i. refl)
 
-  -- and that of a redo
+  -- and one of a redo
   pub agrees_redo : (r : Readers) (rows : List (Row O)) (operator : List ℕ) (n : ℕ) (reply : RowReply) → Agrees asks r rows → Agrees asks r (rows ++ row_of_redo operator n reply ∷ [])
   agrees_redo r rows operator n reply agrees = agrees_pushed r r rows (row_of_redo operator n reply) (length rows + 1) refl agrees (λ k i. refl)
 
@@ -239,7 +240,7 @@ module _ {O : Type 0} (asks : O → Bool) where
   left true old = refl
   left false old = refl
 
-  -- a row that is undone, and is listed no longer
+  -- a row that is undone, and is no longer listed
   pub agrees_undone : (r new : Readers) (rows : List (Row O)) (n by : ℕ) (row : Row O) → row_at rows n ≡ Some row → Agrees asks r rows
       → ((k : Key) (i : ℕ) → reads new k i ≡ (not (is_read row.reading k && is_at (nat_cmp n) i) && reads r k i))
       → Agrees asks new (undone rows n by)
@@ -264,7 +265,7 @@ module _ {O : Type 0} (asks : O → Bool) where
   beside true old = refl
   beside false old = refl
 
-  -- a row that is undone no longer, and is listed again
+  -- a row that is no longer undone, and is listed again
   pub agrees_redone : (r new : Readers) (rows : List (Row O)) (n by : ℕ) (row : Row O) (c : O) → row_at rows n ≡ Some row → row.undone_by ≡ Some by → accepted asks row.request row.reply ≡ Some c → Agrees asks r rows
       → ((k : Key) (i : ℕ) → reads new k i ≡ ((is_read row.reading k && is_at (nat_cmp n) i) || reads r k i))
       → Agrees asks new (redone rows n)
@@ -284,7 +285,7 @@ module _ {O : Type 0} (asks : O → Bool) where
             ∙ sym (ap (λ o. is_reader asks o k) (other_redone rows n i (λ at. false≢true (sym away ∙ number_is n i (sym at)))))
       ])
 
--- what was listed of a row that wasn't there is taken back
+-- what was listed for a row that didn't exist yet is removed again
 pub taken_back : (before after_add after_remove stands read at : Bool) → after_add ≡ ((stands && (read && at)) || before) → after_remove ≡ (not (read && at) && after_add) → (at ≡ true → before ≡ false) → after_remove ≡ before
 taken_back before add rem stands read false is gone fresh = gone ∙ ap (λ b. not (b && false) && add) refl ∙ nothing read add ∙ is ∙ ap (λ b. b || before) (both_false stands read)
   where
@@ -299,7 +300,7 @@ taken_back before add rem stands read false is gone fresh = gone ∙ ap (λ b. n
 taken_back before add rem stands true true is gone fresh = gone ∙ sym (fresh refl)
 taken_back before add rem stands false true is gone fresh = gone ∙ is ∙ ap (λ b. b || before) (and_false stands)
 
--- what could not be listed of a row that wasn't there
+-- removing what was not listed for a row that didn't exist yet changes nothing
 pub never_listed : (before after read at : Bool) → after ≡ (not (read && at) && before) → (at ≡ true → before ≡ false) → after ≡ before
 never_listed before after true true gone fresh = gone ∙ sym (fresh refl)
 never_listed before after true false gone fresh = gone

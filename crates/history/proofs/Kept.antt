@@ -1,4 +1,5 @@
--- Calls keep the history: its rows are the machine's, and its tree is the replay.
+-- Calls preserve the history's invariant: its rows are the state machine's, and its tree is the
+-- replay.
 use Rattle.std.proofs.Common.{◌≡◌, ◌+◌, ◌-◌, ◌<◌, ◌≤◌, ℕ, zero, suc, Bool, true, List, [], ◌∷◌, ◌++◌, Option, Some, None, is_some, slice_get, get_or, set, length-append, length, refl, sym, ap, subst, ◌∙◌, arith, All}
 use Rattle.std.proofs.lemmas.Option.{slice_get_within, slice_get_read}
 use Rattle.std.proofs.lemmas.List.Elements.{All-head, All-tail, All-cons, All-nil, All-append}
@@ -21,7 +22,7 @@ module _ {O : Type 0} where
   slots-push : (rows : List (Row O)) (row : Row O) → All (ChangesSlots {O = O}) rows → ChangesSlots row → All (ChangesSlots {O = O}) (rows ++ row ∷ [])
   slots-push rows row all here = All-append (ChangesSlots {O = O}) rows (row ∷ []) all (All-cons (ChangesSlots {O = O}) row [] here (All-nil (ChangesSlots {O = O})))
 
-  -- marking a row changes nothing of what it changed
+  -- marking a row doesn't change its changes
   mark_slots : (rows : List (Row O)) (k : ℕ) (by : Option ℕ) → All (ChangesSlots {O = O}) rows → All (ChangesSlots {O = O}) (mark rows k by)
   mark_slots [] k by all = all
   mark_slots (row ∷ rows) zero by all =
@@ -34,12 +35,12 @@ module _ {O : Type 0} where
   slots_at (r ∷ rows) zero row all h = let same : r ≡ row = cc in subst (ChangesSlots {O = O}) same (All-head (ChangesSlots {O = O}) r rows all)
   slots_at (r ∷ rows) (suc k) row all h = slots_at rows k row (All-tail (ChangesSlots {O = O}) r rows all) h
 
-  -- row n, from 1 on, is the one at place n - 1
+  -- row n, from 1 on, is the one at index n - 1
   row_at_is : (rows : List (Row O)) (n : ℕ) → 0 < n → slice_get rows (n - 1) ≡ row_at rows n
   row_at_is rows zero h = absurd (omega arith)
   row_at_is rows (suc k) h = let one : suc k - 1 ≡ k = omega arith in ap (slice_get rows) one
 
-  -- the row that is read at place n - 1
+  -- the row that is read at index n - 1
   pub row_at_read : (rows : List (Row O)) (n : ℕ) (row : Row O) → 0 < n → n ≤ length rows → row ≡ get_or rows (n - 1) row → row_at rows n ≡ Some row
   row_at_read rows n row pos le is = sym (row_at_is rows n pos) ∙ slice_get_read rows (length rows) (n - 1) row refl (omega arith) is
 
@@ -63,7 +64,7 @@ module _ {O : Type 0} where
   front_of_push (r ∷ rows) zero row last lt h = h
   front_of_push (r ∷ rows) (suc k) row last lt h = front_of_push rows k row last (omega arith) h
 
-  -- the row that is read there after another was added is marked
+  -- the row that is read at an index after another was added and it was marked
   module _ (rows pushed : List (Row O)) (n : ℕ) (row last : Row O) (is : pushed ≡ rows ++ last ∷ []) (pos : 0 < n) (le : n ≤ length rows) (read : row ≡ get_or pushed (n - 1) row) where
     set_read : (by : Option ℕ) → set pushed (n - 1) (record row { undone_by = by }) ≡ mark rows (n - 1) by ++ last ∷ []
     set_read by =
@@ -80,7 +81,7 @@ module _ {O : Type 0} where
     unmarked_read = set_read None ∙ ap (λ (rs : List (Row O)). rs ++ last ∷ []) (redone_is rows n pos)
 
 module _ {O : Type 0} {asks : O → Bool} {meaning : O → Inquiry Effect} where
-  -- a refused undo keeps the history
+  -- a refused undo preserves the invariant
   pub kept-refuse : (operator : List ℕ) (first tree : Entries) (rows : List (Row O)) (limit n : ℕ) (u : UndoRefusal) → length rows < limit → undo_refusal asks rows n ≡ Some u → IsKept asks meaning first tree rows limit
       → IsKept asks meaning first tree (rows ++ row_of_undo operator n (UndoRefused u) ∷ []) limit
   kept-refuse operator first tree rows limit n u room is kept =
@@ -109,11 +110,11 @@ module _ {O : Type 0} {asks : O → Bool} {meaning : O → Inquiry Effect} where
       }
 
 module _ {O : Type 0} {asks : O → Bool} {meaning : O → Inquiry Effect} (laws : OperationLaws asks meaning) where
-  -- what the rows of a history tell
+  -- what the rows of a history imply
   pub alike_kept : (first : Entries) (rows : List (Row O)) → rows ≡ run asks meaning first [] (calls_of rows) → AnswersAlike asks meaning first rows
   alike_kept first rows legal = alike_now asks meaning first rows (remembers-legal laws first rows (calls_of rows) legal)
 
-  -- an operation keeps the history
+  -- an operation preserves the invariant
   pub kept-call : (operator : List ℕ) (c : O) (first tree : Entries) (rows : List (Row O)) (limit : ℕ) → length rows < limit
       → All (λ change. is_slot change.path ≡ true) (outcome_of meaning c tree).changes → IsKept asks meaning first tree rows limit
       → IsKept asks meaning first (after_changes (outcome_of meaning c tree).changes tree) (rows ++ answered operator c (outcome_of meaning c tree) ∷ []) limit
@@ -128,8 +129,8 @@ module _ {O : Type 0} {asks : O → Bool} {meaning : O → Inquiry Effect} (laws
         bounded = kept.bounded;
       }
 
-  -- what an undo that isn't refused may rely on: the changes of its row can be taken back, and that
-  -- keeps the history
+  -- what holds for an undo that isn't refused: the changes of its row can be reverted, and that
+  -- preserves the invariant
   pub record CanBeTakenBack (operator : List ℕ) (first tree : Entries) (rows : List (Row O)) (limit n : ℕ) (row : Row O) : Type 0 where
     pub stands : is_some (survivor asks row) ≡ true
     pub slots : ChangesSlots row
@@ -164,7 +165,7 @@ module _ {O : Type 0} {asks : O → Bool} {meaning : O → Inquiry Effect} (laws
   within rows zero h = cc
   within rows (suc k) h = let found = free_row asks rows k h in (omega arith, omega (arith, slice_get_within rows k found.0 found.1.here))
 
-  -- the same, of the row that is read, where the history is seen as a whole
+  -- the same for the row that is read, with the history as a whole
   pub undo_seen : (operator : List ℕ) (first tree : Entries) (rows : List (Row O)) (limit : ℕ) (seen : Log O) (n : ℕ) (row : Row O) → ◌≡◌ {A = Log O} (record { first = first; rows = rows; limit = limit }) seen
       → length seen.rows < seen.limit → undo_refusal asks seen.rows n ≡ None → IsKept asks meaning first tree rows limit → row ≡ get_or rows (n - 1) row
       → (0 < n) × (n ≤ length rows) × CanBeTakenBack operator first tree rows limit n row
@@ -174,8 +175,8 @@ module _ {O : Type 0} {asks : O → Bool} {meaning : O → Inquiry Effect} (laws
       let there = within rows n may in
       (there.0, there.1, can_be_taken_back operator first tree rows limit n row few kept may (row_at_read rows n row there.0 there.1 read))
 
-  -- what a redo that isn't refused may rely on: the changes of its row can be made again, and that
-  -- keeps the history
+  -- what holds for a redo that isn't refused: the changes of its row can be made again, and that
+  -- preserves the invariant
   pub record CanBeMadeAgain (operator : List ℕ) (first tree : Entries) (rows : List (Row O)) (limit n : ℕ) (row : Row O) : Type 0 where
     pub command : O
     pub by : ℕ
@@ -214,7 +215,7 @@ module _ {O : Type 0} {asks : O → Bool} {meaning : O → Inquiry Effect} (laws
   within_redo rows zero h = cc
   within_redo rows (suc k) h = let free = free_redo asks rows k h in (omega arith, omega (arith, slice_get_within rows k free.0 free.1.here))
 
-  -- the same, of the row that is read, where the history is seen as a whole
+  -- the same for the row that is read, with the history as a whole
   pub redo_seen : (operator : List ℕ) (first tree : Entries) (rows : List (Row O)) (limit : ℕ) (seen : Log O) (n : ℕ) (row : Row O) → ◌≡◌ {A = Log O} (record { first = first; rows = rows; limit = limit }) seen
       → length seen.rows < seen.limit → redo_refusal asks seen.rows n ≡ None → IsKept asks meaning first tree rows limit → row ≡ get_or rows (n - 1) row
       → (0 < n) × (n ≤ length rows) × CanBeMadeAgain operator first tree rows limit n row

@@ -1,4 +1,4 @@
--- The links of rows after a call, and what they say of the rows from a place on.
+-- The links of rows after a call, and what they imply for the rows from an index on.
 use Rattle.std.proofs.Common.{◌≡◌, ◌+◌, ◌-◌, ◌<◌, ◌==◌, ℕ, zero, suc, Bool, true, false, cond, List, [], ◌∷◌, ◌++◌, Option, Some, None, is_some, slice_get, get_or, set, length, length-append, refl, sym, ap, subst, ◌∙◌, arith, inl, inr}
 use Rattle.std.proofs.lemmas.Bool.{cases_Bool, false≢true}
 use Rattle.std.proofs.lemmas.Bool.Decides.{Decides-eqb}
@@ -19,7 +19,7 @@ get_none : (k : ℕ) → get_or {A = ℕ} [] k 0 ≡ 0
 get_none zero = refl
 get_none (suc k) = refl
 
--- a 0 more is the default
+-- one more 0 is the default
 get_push-zero : (links : List ℕ) (k : ℕ) → get_or (links ++ 0 ∷ []) k 0 ≡ get_or links k 0
 get_push-zero [] zero = refl
 get_push-zero [] (suc k) = get_none k
@@ -67,7 +67,7 @@ module _ {O : Type 0} where
   back-mark n (r ∷ rows) (l ∷ links) zero by at last back = back
   back-mark n (r ∷ rows) (l ∷ links) (suc k) by at last back = (back.0, back-mark n rows links k by (at + 1) (toggle_then (toggled r.reply) at n last) back.1)
 
-  -- the link of a row that is no toggle says nothing of them
+  -- the link of a row that isn't a toggle implies nothing about them
   back-set : (n : ℕ) (rows : List (Row O)) (links : List ℕ) (k m at last : ℕ) → toggled_at (slice_get rows k) ≡ None → LinksBack n rows links at last → LinksBack n rows (set links k m) at last
   back-set n [] links k m at last off back = tt
   back-set n (r ∷ rows) [] zero m at last off back = absurd back
@@ -83,7 +83,7 @@ module _ {O : Type 0} where
   toggled-mark (r ∷ rows) (suc k) by zero = refl
   toggled-mark (r ∷ rows) (suc k) by (suc i) = toggled-mark rows k by i
 
-  -- a row more that is none, or before which one looks
+  -- one more row that isn't a toggle, or that is after the rows in question
   toggled-push : (rows : List (Row O)) (row : Row O) (i : ℕ) → (i ≡ length rows → toggled row.reply ≡ None) → toggled_at (slice_get (rows ++ row ∷ []) i) ≡ toggled_at (slice_get rows i)
   toggled-push [] row zero off = off refl
   toggled-push [] row (suc i) off = refl
@@ -98,7 +98,7 @@ module _ {O : Type 0} where
   toggled_row-mark rows k by zero = refl
   toggled_row-mark rows k by (suc i) = toggled-mark rows k by i
 
-  -- ---- a row more that is no toggle
+  -- ---- one more row that isn't a toggle
   pub linked_push : (links : List ℕ) (rows : List (Row O)) (row : Row O) → toggled row.reply ≡ None → AreLinked links rows → AreLinked (links ++ 0 ∷ []) (rows ++ row ∷ [])
   linked_push links rows row off linked = record {
     each = omega (arith, linked.each, length-append links (0 ∷ []), length-append rows (row ∷ []));
@@ -108,7 +108,7 @@ module _ {O : Type 0} where
         ∙ sym (toggle_push rows row 1 n 0 ∙ ap (λ (o : Option ℕ). toggle_then o (1 + length rows) n (last_toggle rows n)) off);
   }
 
-  -- ---- a toggle more, of row suc k
+  -- ---- one more toggle, of row suc k
   module _ (links : List ℕ) (rows : List (Row O)) (k : ℕ) (by : Option ℕ) (row last : Row O) (here : slice_get rows k ≡ Some row) (no_toggle : toggled row.reply ≡ None)
       (names : toggled last.reply ≡ Some (suc k)) (linked : AreLinked links rows) where
     abbrev m : ℕ
@@ -188,7 +188,7 @@ module _ {O : Type 0} where
     }
 
 module _ {O : Type 0} (asks : O → Bool) where
-  -- a command is no toggle
+  -- a command isn't a toggle
   no_toggle : (request : Request O) (reply : RowReply) → is_some (accepted asks request reply) ≡ true → toggled reply ≡ None
   no_toggle (Do c) (Answered answer) h = refl
   no_toggle (Do c) (Undid n) h = absurd (false≢true h)

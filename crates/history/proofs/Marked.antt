@@ -1,4 +1,4 @@
--- What the marks of rows say of their undos and redos, one by one.
+-- What the marks of rows mean for their undos and redos, one by one.
 use Rattle.std.proofs.Common.{◌≡◌, ◌+◌, ◌<◌, ◌==◌, ◌↔◌, ◌⊎◌, ℕ, zero, suc, Bool, true, cond, List, [], ◌∷◌, ◌++◌, Option, Some, None, is_some, slice_get, length, refl, sym, ap, subst, ◌∙◌, arith, inl, inr}
 use Rattle.std.proofs.lemmas.Bool.{cases_Bool, false≢true}
 use Rattle.std.proofs.lemmas.Bool.Decides.{Decides-eqb}
@@ -39,7 +39,7 @@ module _ {O : Type 0} where
   abbrev Untoggled : List (Row O) → ℕ → Type 0
   Untoggled rows n = (i : ℕ) (s : Row O) → slice_get rows i ≡ Some s → toggled s.reply ≡ Some n → ⊥
 
-  -- the one at place j undoes it, and none after it undoes or redoes it
+  -- the one at index j undoes it, and none after it undoes or redoes it
   pub record IsLastUndo (rows : List (Row O)) (n j : ℕ) : Type 0 where
     pub undo : Row O
     pub here : slice_get rows j ≡ Some undo
@@ -59,7 +59,7 @@ module _ {O : Type 0} where
   last_after row rows n j last zero s lt is t = omega (arith, lt)
   last_after row rows n j last (suc i) s lt is t = last i s (omega (arith, lt)) is t
 
-  -- a mark is that of the last undo, or of before
+  -- a mark is that of the last undo, or the earlier one
   undoer_says : (rows : List (Row O)) (at n : ℕ) (by : Option ℕ) (m : ℕ) → undoer_from rows at n by ≡ Some m → ((by ≡ Some m) × Untoggled rows n) ⊎ ((j : ℕ) × (m ≡ at + j) × IsLastUndo rows n j)
   undoer_says [] at n by m h = inl (h, λ i s is t. cc (is))
   undoer_says (row ∷ rows) at n by m h = elim (undoer_says rows (at + 1) n (undoer_then row.reply at n by) m h) [
@@ -134,7 +134,7 @@ module _ {O : Type 0} where
         sym (ap (λ (o : Option (Row O)). undone_by_at o) is) ∙ agree n ∙ undoer_last rows 1 n None found.0 found.2 ∙ ap (λ i. Some i) (sym found.1),
   )
 
-  -- ---- what is undone or redone is one of the rows
+  -- ---- an undone or redone row is one of the rows
   abbrev AreOfRows : List (Row O) → Type 0
   AreOfRows rows = (m n : ℕ) → Toggles rows m n → is_some (row_at rows n) ≡ true
 

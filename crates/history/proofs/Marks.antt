@@ -1,4 +1,4 @@
--- The marks of rows are those that their undos and redos leave.
+-- The marks of rows are those that result from their undos and redos.
 use Rattle.std.proofs.Common.{◌≡◌, ◌+◌, ◌<◌, ◌≤◌, ◌==◌, ◌⊎◌, ℕ, zero, suc, Bool, false, cond, List, [], ◌∷◌, ◌++◌, Option, Some, None, slice_get, length, refl, sym, ap, ◌∙◌, arith, inl, inr}
 use Rattle.std.proofs.lemmas.Bool.{cases_Bool, false≢true}
 use Rattle.std.proofs.lemmas.Bool.Decides.{Decides-eqb}
@@ -26,7 +26,7 @@ other_number k n away = elim (cases_Bool (k == n)) [
   | inr none ↦ none
 ]
 
--- a row is undone by an earlier row or by the one that says so
+-- a row is undone by an earlier row or by this one
 then_range : (reply : RowReply) (at n : ℕ) (by : Option ℕ) (u : ℕ) → undoer_then reply at n by ≡ Some u → (by ≡ Some u) ⊎ (u ≡ at)
 then_range (Answered answer) at n by u h = inl h
 then_range (Undid k) at n by u h = elim (cases_Bool (k == n)) [
@@ -67,7 +67,7 @@ module _ {O : Type 0} where
       undoer-push rows row (at + 1) n (undoer_then r.reply at n by)
       ∙ ap (λ (i : ℕ). undoer_then row.reply i n (undoer_from rows (at + 1) n (undoer_then r.reply at n by))) same
 
-  -- marks say nothing of undos
+  -- marking a row doesn't change the undos and redos
   pub undoer-mark : (rows : List (Row O)) (k : ℕ) (mark_by : Option ℕ) (at n : ℕ) (by : Option ℕ) → undoer_from (mark rows k mark_by) at n by ≡ undoer_from rows at n by
   undoer-mark [] k mark_by at n by = refl
   undoer-mark (r ∷ rows) zero mark_by at n by = refl
@@ -84,7 +84,7 @@ module _ {O : Type 0} where
   pushed rows row unmarked zero = refl
   pushed rows row unmarked (suc k) = pushed_at rows row unmarked k
 
-  -- a mark changes that of its own row alone
+  -- marking a row changes only its own mark
   marked : (rows : List (Row O)) (k : ℕ) (by : Option ℕ) (row : Row O) → slice_get rows k ≡ Some row → (n : ℕ)
       → undone_by_at (row_at (mark rows k by) n) ≡ cond (suc k == n) by (undone_by_at (row_at rows n))
   marked rows k by row is zero = let away : (suc k == zero) ≡ false = other_number (suc k) zero (λ same. omega (arith, same)) in ap (λ b. cond b by None) (sym away)
@@ -104,7 +104,7 @@ module _ {O : Type 0} where
   marks-push rows row unmarked names_none h = λ n.
       pushed rows row unmarked n ∙ h n ∙ sym (undoer-push rows row 1 n None ∙ names_none (1 + length rows) n (undoer rows n))
 
-  -- the undos and redos after a row was marked and one added that names it
+  -- the undos and redos after a row was marked and a row that names it was added
   pub undoer-toggled : (rows : List (Row O)) (k : ℕ) (by : Option ℕ) (last : Row O) → ((n : ℕ) (was : Option ℕ) → undoer_then last.reply (1 + length rows) n was ≡ cond (suc k == n) by was)
       → (n : ℕ) → undoer (mark rows k by ++ last ∷ []) n ≡ cond (suc k == n) by (undoer rows n)
   undoer-toggled rows k by last names n =
@@ -113,14 +113,14 @@ module _ {O : Type 0} where
       ∙ ap (λ (was : Option ℕ). undoer_then last.reply (1 + length rows) n was) (undoer-mark rows k by 1 n None)
       ∙ names n (undoer rows n)
 
-  -- a row is marked as the new row says
+  -- a row is marked as the new row requires
   marks-toggled : (rows : List (Row O)) (k : ℕ) (by : Option ℕ) (row last : Row O) → slice_get rows k ≡ Some row → last.undone_by ≡ None
       → ((n : ℕ) (was : Option ℕ) → undoer_then last.reply (1 + length rows) n was ≡ cond (suc k == n) by was) → MarksAgree rows → MarksAgree (mark rows k by ++ last ∷ [])
   marks-toggled rows k by row last is unmarked names h = λ n.
       pushed (mark rows k by) last unmarked n ∙ marked rows k by row is n ∙ ap (λ (was : Option ℕ). cond (suc k == n) by was) (h n)
       ∙ sym (undoer-toggled rows k by last names n)
 
-  -- what the row of an undo says, and that of a redo
+  -- the effect of the row of an undo, and of a redo
   pub names_undone : (rows : List (Row O)) (operator : List ℕ) (k n : ℕ) (was : Option ℕ)
       → undoer_then (row_of_undo {O = O} operator (suc k) (Undid (suc k))).reply (1 + length rows) n was ≡ cond (suc k == n) (Some (length rows + 1)) was
   names_undone rows operator k n was = let number : 1 + length rows ≡ length rows + 1 = omega arith in ap (λ (i : ℕ). cond (suc k == n) (Some i) was) number

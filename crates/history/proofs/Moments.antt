@@ -1,5 +1,5 @@
--- The rows as they were at earlier moments, and that each of their survivors answers in the replay
--- of that moment as its row says.
+-- The rows as they were at earlier moments, and that each of their survivors has the answer of its
+-- row in the replay of that moment.
 use Rattle.std.proofs.Common.{◌≡◌, ◌+◌, ◌-◌, ◌<◌, ◌≤◌, ◌==◌, ℕ, zero, suc, Bool, true, false, cond, List, [], ◌∷◌, ◌++◌, Option, Some, None, slice_get, take, length, length-append, refl, sym, ap, subst, ◌∙◌, arith, inl, inr}
 use Rattle.std.proofs.Math.Seq.{take-length}
 use Rattle.std.proofs.lemmas.Bool.{cases_lt}
@@ -35,7 +35,7 @@ module _ {O : Type 0} where
   take-mark (suc v) (r ∷ rows) zero by = refl
   take-mark (suc v) (r ∷ rows) (suc k) by = ap (λ (rs : List (Row O)). r ∷ rs) (take-mark v rows k by)
 
-  -- the same undos, the same rows at each moment
+  -- rows with the same undos are the same at each moment
   undoer_marked : (v : ℕ) (rows : List (Row O)) (k : ℕ) (by : Option ℕ) (n : ℕ) → undoer (take v (mark rows k by)) n ≡ undoer (take v rows) n
   undoer_marked v rows k by n = ap (λ (rs : List (Row O)). undoer rs n) (take-mark v rows k by) ∙ undoer-mark (take v rows) k by 1 n None
 
@@ -64,8 +64,8 @@ module _ {O : Type 0} where
       ∙ remark-same (undoer rows) rows 1 (λ k row is. let number : 1 + k ≡ suc k = omega arith in ap (undoer rows) number ∙ sym (marked (suc k)) ∙ ap (λ (o : Option (Row O)). undone_by_at o) is)
 
 module _ {O : Type 0} (asks : O → Bool) (meaning : O → Inquiry Effect) where
-  -- The rows are marked by their undos and redos, at each moment the survivors answered as their
-  -- rows say, and what is undone survived when it was undone.
+  -- The rows are marked by their undos and redos, at each moment the survivors had the answers of
+  -- their rows, and what is undone survived when it was undone.
   pub record Remembers (first : Entries) (rows : List (Row O)) : Type 0 where
     pub marked : MarksAgree rows
     pub alike_at : (v : ℕ) → v ≤ length rows → AnswersAlike asks meaning first (rows_then rows v)
@@ -74,7 +74,7 @@ module _ {O : Type 0} (asks : O → Bool) (meaning : O → Inquiry Effect) where
   pub alike_now : (first : Entries) (rows : List (Row O)) → Remembers first rows → AnswersAlike asks meaning first rows
   alike_now first rows h = subst (AnswersAlike asks meaning first) (then-now rows h.marked) (h.alike_at (length rows) (omega arith))
 
-  -- the rows before the last answered alike, and so do all of them now
+  -- the rows before the last have their answers, and so do all of them now
   alike_so_far : (first : Entries) (rows new : List (Row O)) → length new ≡ length rows + 1 → ((v : ℕ) → v ≤ length rows → rows_then new v ≡ rows_then rows v) → MarksAgree new
       → AnswersAlike asks meaning first new → Remembers first rows → (v : ℕ) → v ≤ length new → AnswersAlike asks meaning first (rows_then new v)
   alike_so_far first rows new count before marked alike h v le = elim (cases_lt (length rows) v) [
@@ -134,7 +134,7 @@ module _ {O : Type 0} (asks : O → Bool) (meaning : O → Inquiry Effect) where
     }
 
 module _ {O : Type 0} {asks : O → Bool} {meaning : O → Inquiry Effect} (laws : OperationLaws asks meaning) where
-  -- a command that may be redone answers at its place as it did
+  -- a command that may be redone has its answer at its place
   pub answers_there : (first : Entries) (rows : List (Row O)) (k : ℕ) (row : Row O) (free : IsRedoable asks rows k row) → Remembers asks meaning first rows
       → AnswersHere asks meaning (Some free.command) (replay asks meaning first (take k rows)) row
   answers_there first rows k row free h =
@@ -145,7 +145,7 @@ module _ {O : Type 0} {asks : O → Bool} {meaning : O → Inquiry Effect} (laws
       answers_again laws (undoer_before rows by) rows first (by - 1) k row free.command (omega (arith, stood.0)) free.here free.is (ap (undoer_before rows by) number ∙ stood.2)
       (alike_now asks meaning first rows h) (h.alike_at (by - 1) (omega (arith, stood.1))) free.unflipped
 
-  -- putting it back makes its changes in the tree, and all survivors answer as they did
+  -- putting it back makes its changes in the tree, and all survivors have their answers
   pub put_back : (first : Entries) (rows : List (Row O)) (k : ℕ) (row : Row O) (free : IsRedoable asks rows k row) → Remembers asks meaning first rows
       → AnswersAlike asks meaning first (mark rows k None)
       × (replay asks meaning first (mark rows k None) ≡ after_changes row.changes (replay asks meaning first rows))
@@ -208,7 +208,7 @@ module _ {O : Type 0} {asks : O → Bool} {meaning : O → Inquiry Effect} (laws
       nothing zero = tt
       nothing (suc v) = tt
 
-  -- so it is of the rows of all calls
+  -- so this holds for the rows after any calls
   pub remembers : (first : Entries) (calls : List (Call O)) → Remembers asks meaning first (run asks meaning first [] calls)
   remembers first calls = remembers-run first [] calls (remembers-none first)
 

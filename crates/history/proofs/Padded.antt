@@ -10,6 +10,6 @@ padded_front text = take-append_seam text (replicate (32 - length text) 0)
 pub length-padded : (text : List ℕ) → length text ≤ 32 → length (padded text) ≡ 32
 length-padded text short = omega (arith, short, length-append text (replicate (32 - length text) 0), length-replicate {A = ℕ} (32 - length text) 0)
 
--- a name that is written over zeros
+-- a name written over zeros
 pub written_over : (text written : List ℕ) → written ≡ text → written ++ drop (length text) (replicate 32 0) ≡ padded text
 written_over text written is = ap (λ (w : List ℕ). w ++ drop (length text) (replicate 32 0)) is ∙ ap (λ (zeros : List ℕ). text ++ zeros) (drop-replicate (length text) 32 0)

@@ -1,4 +1,4 @@
--- What holds of the rows of all calls.
+-- What holds for the rows after any calls.
 use Rattle.std.proofs.Common.{◌≡◌, ◌+◌, ℕ, zero, suc, Bool, true, cond, List, [], Option, Some, None, is_some, slice_get, drop, length, refl, sym, ap, subst, ◌∙◌, ◌∷◌, ◌++◌, arith, inl, inr}
 use Rattle.std.proofs.lemmas.Bool.{false≢true}
 use Rattle.std.proofs.lemmas.Option.{slice_get_within}
@@ -58,7 +58,7 @@ module _ {O : Type 0} {asks : O → Bool} {meaning : O → Inquiry Effect} (laws
       last : Row O
       last = row_of_redo operator n (Redid n)
 
-      -- what must be shown of the new rows
+      -- what must be shown for the new rows
       Is : List (Row O) → Type 0
       Is new = (row_at new n ≡ Some (record row { undone_by = None })) × (replay asks meaning first new ≡ after_changes row.changes (replay asks meaning first rows)) × AnswersAlike asks meaning first new
 
@@ -82,8 +82,8 @@ module _ {O : Type 0} {asks : O → Bool} {meaning : O → Inquiry Effect} (laws
             alike-push asks meaning first (redone rows n) last parts.2 tt,
           )
 
-  -- whether a call or a plan that the tree agrees with, each makes the rows of a call, and a stale
-  -- plan makes none
+  -- whether it is a call or a plan that the tree agrees with, each makes the rows of a call; a
+  -- stale plan makes none
   legal-commit : (first : Entries) (rows new : List (Row O)) (operator : List ℕ) (c : O) (made_on : Entries) → rows ≡ run asks meaning first [] (calls_of rows)
       → CommitLeaves asks meaning first rows operator (planned meaning c made_on) new → new ≡ run asks meaning first [] (calls_of new)
   legal-commit first rows new operator c made_on legal (inl (agrees, is)) =

@@ -1,5 +1,5 @@
--- What becomes of the replay when a row is added, when a survivor that no row blocks is undone, and
--- when changes are made before rows that didn't look at what they touch.
+-- The replay after a row is added, after a survivor that no row blocks is undone, and after changes
+-- are made before rows that didn't look at what they touch.
 use Rattle.std.proofs.Common.{◌≡◌, ◌+◌, ◌&&◌, ◌||◌, ℕ, zero, suc, Bool, true, false, cond, List, [], ◌∷◌, ◌++◌, Option, Some, None, is_some, slice_get, drop, length, refl, sym, ap, subst, ◌∙◌, All, ◌⊎◌, inl, inr}
 use Rattle.std.specs.List.{list_any}
 use Rattle.std.proofs.lemmas.Bool.{cases_Bool, or_parts, false≢true}
@@ -56,7 +56,7 @@ module _ {O : Type 0} where
   length-mark (row ∷ rows) zero by = refl
   length-mark (row ∷ rows) (suc k) by = ap suc (length-mark rows k by)
 
--- what a test that finds no row says
+-- what it means if a test finds no row
 pub not_first : (b : Bool) (at : ℕ) (rest : Option ℕ) → cond b (Some at) rest ≡ None → (b ≡ false) × (rest ≡ None)
 not_first true at rest h = cc
 not_first false at rest h = (refl, h)
@@ -75,7 +75,7 @@ some_of : {A : Type 0} (o : Option A) → is_some o ≡ true → (a : A) × (o �
 some_of None h = absurd (false≢true h)
 some_of (Some a) h = (a, refl)
 
--- what a refusal that is none says
+-- what it means if there is no refusal
 unrefused : (a : Option UndoRefusal) (b : Option ℕ) → or_blocked a b ≡ None → (a ≡ None) × (b ≡ None)
 unrefused (Some u) b h = cc
 unrefused None (Some m) h = cc
@@ -128,7 +128,7 @@ module _ {O : Type 0} (asks : O → Bool) where
     run-push first rows [] call = refl
     run-push first rows (c ∷ calls) call = run-push first (rows_after asks meaning first rows c) calls call
 
-    -- one more call of the machine leaves rows that are the machine's
+    -- after one more call of the state machine, the rows are still the state machine's
     pub legal-after : (first : Entries) (rows : List (Row O)) (call : Call O) → rows ≡ run asks meaning first [] (calls_of rows)
         → rows_after asks meaning first rows call ≡ run asks meaning first [] (calls_of (rows_after asks meaning first rows call))
     legal-after first rows call legal =
@@ -149,14 +149,14 @@ module _ {O : Type 0} {asks : O → Bool} {meaning : O → Inquiry Effect} (laws
   or_cases true b h = inl refl
   or_cases false b h = inr h
 
-  -- what is refused or only asks has no changes
+  -- a refused call or a question has no changes
   pub no_changes : (c : O) (t : Entries) → (asks c || is_refused (outcome_of meaning c t).answer) ≡ true → (outcome_of meaning c t).changes ≡ []
   no_changes c t idle = elim (or_cases (asks c) (is_refused (outcome_of meaning c t).answer) idle) [
     | inl question ↦ laws.question c t question
     | inr refused ↦ laws.refusal c t refused
   ]
 
-  -- the new row survives if it is an accepted command, and else changes nothing
+  -- the new row survives if it is an accepted command, and otherwise changes nothing
   pub new_row : (operator : List ℕ) (c : O) (t : Entries)
       → (after asks meaning (survivor asks (answered operator c (outcome_of meaning c t))) t ≡ after_changes (outcome_of meaning c t).changes t)
       × AnswersHere asks meaning (survivor asks (answered operator c (outcome_of meaning c t))) t (answered operator c (outcome_of meaning c t))
@@ -168,8 +168,8 @@ module _ {O : Type 0} {asks : O → Bool} {meaning : O → Inquiry Effect} (laws
         | inr away ↦ subst Goal (sym away) (refl, (refl, refl, refl))
       ]
 
-  -- Changes before rows that didn't look at what they touch: `ds` is made, and `cs`, which it is or
-  -- which it takes back, touches nothing that is looked at.
+  -- Changes before rows that didn't look at what they touch: `ds` is made, and `cs`, which is `ds`
+  -- or its inverse, touches nothing that is looked at.
   module _ (cs ds : List Change) (same_keys : (keys : List Key) → Untouched cs keys → Untouched ds keys) where
     -- one command does the same after them, and they can be made after it
     row_apart : (o : Option O) (t : Entries) (row : Row O) → AnswersHere asks meaning o t row → AreFrom t ds → (is_some o && meets cs row.reading) ≡ false
@@ -187,7 +187,7 @@ module _ {O : Type 0} {asks : O → Bool} {meaning : O → Inquiry Effect} (laws
           one.2,
         )
 
-    -- the rows answer after them as they did, and the tree in the end is the same with them
+    -- the rows have the same answers after them, and the final tree is the same with them
     pub rows_apart : (rows : List (Row O)) (t : Entries) (at : ℕ) → AnswersAlike asks meaning t rows → AreFrom t ds → first_met asks cs rows at ≡ None
         → AnswersAlike asks meaning (after_changes ds t) rows
         × (replay asks meaning (after_changes ds t) rows ≡ after_changes ds (replay asks meaning t rows))
@@ -216,8 +216,8 @@ module _ {O : Type 0} {asks : O → Bool} {meaning : O → Inquiry Effect} (laws
         subst (λ (x : Entries). AreFrom (replay asks meaning x rows) (inverse_of cs)) (sym u_is) rest.2,
       )
 
-  -- THE REMOVAL: where no later survivor looked at what a survivor changed, taking its changes back
-  -- from the tree gives the replay without it, and every other survivor answers as it did.
+  -- THE REMOVAL: if no later survivor looked at what a survivor changed, reverting its changes in
+  -- the tree gives the replay without it, and every other survivor has its answer.
   pub removed : (rows : List (Row O)) (t : Entries) (k at by : ℕ) (row : Row O) → AnswersAlike asks meaning t rows → slice_get rows k ≡ Some row → is_some (survivor asks row) ≡ true
       → first_met asks row.changes (drop (suc k) rows) at ≡ None
       → AnswersAlike asks meaning t (mark rows k (Some by))

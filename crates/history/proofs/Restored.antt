@@ -1,4 +1,4 @@
--- What becomes of the replay when an undone command that no row hinders is put back at its place.
+-- The replay after an undone command that no row hinders is put back at its place.
 use Rattle.std.proofs.Common.{◌≡◌, ◌+◌, ◌-◌, ◌<◌, ◌&&◌, ℕ, zero, suc, Bool, false, List, [], ◌∷◌, Option, Some, None, is_some, slice_get, take, drop, refl, sym, ap, subst, ◌∙◌, arith}
 use Rattle.std.proofs.lemmas.List.Elements.{All-head, All-tail, All-cons, All-nil}
 use Rattle.link_tree.specs.declared.change.Change.{Change}
@@ -92,7 +92,7 @@ module _ {O : Type 0} (asks : O → Bool) where
   free_redo rows k h = redoable_at rows k (slice_get rows k) refl h
 
 module _ {O : Type 0} {asks : O → Bool} {meaning : O → Inquiry Effect} (laws : OperationLaws asks meaning) where
-  -- what a row says doesn't depend on its mark
+  -- the answer, changes and reading of a row don't depend on its mark
   unmarked_answers : (o : Option O) (t : Entries) (row : Row O) (by : Option ℕ) → AnswersHere asks meaning o t (record row { undone_by = by }) → AnswersHere asks meaning o t row
   unmarked_answers None t row by h = tt
   unmarked_answers (Some c) t row by h = h
@@ -101,13 +101,13 @@ module _ {O : Type 0} {asks : O → Bool} {meaning : O → Inquiry Effect} (laws
   marked_answers None t row by h = tt
   marked_answers (Some c) t row by h = h
 
-  -- the rows before a place answer alike too
+  -- the rows before an index have their answers too
   pub alike_front : (rows : List (Row O)) (t : Entries) (k : ℕ) → AnswersAlike asks meaning t rows → AnswersAlike asks meaning t (take k rows)
   alike_front rows t zero h = tt
   alike_front [] t (suc k) h = tt
   alike_front (r ∷ rows) t (suc k) h = (h.0, alike_front rows (after asks meaning (survivor asks r) t) k h.1)
 
-  -- what a row answered at another moment, and the rows before it
+  -- the answer of a row at another moment, and the rows before it
   pub alike_then : (marks : ℕ → Option ℕ) (rows : List (Row O)) (t : Entries) (at v k : ℕ) (row : Row O) → k < v → slice_get rows k ≡ Some row → AnswersAlike asks meaning t (remark marks (take v rows) at)
       → AnswersAlike asks meaning t (remark marks (take k rows) at)
       × AnswersHere asks meaning (unless_undone (marks (at + k)) (accepted asks row.request row.reply)) (replay asks meaning t (remark marks (take k rows) at)) row
@@ -129,7 +129,7 @@ module _ {O : Type 0} {asks : O → Bool} {meaning : O → Inquiry Effect} (laws
       ((h.0, rest.0), subst (λ (i : ℕ). AnswersHere asks meaning (unless_undone (marks i) (accepted asks row.request row.reply)) (replay asks meaning u (remark marks (take k rows) (at + 1))) row) number rest.1)
 
   module _ (marks : ℕ → Option ℕ) (reading : List Observation) where
-    -- one row leaves what the keys of the reading see alike, now and then
+    -- a row has the same effect on the values of the reading's keys, now and then
     row_alike : (row : Row O) (c : Option O) (now was : Option ℕ) (t u : Entries) → AgreeOn (keys_of reading) t u
         → AnswersHere asks meaning (unless_undone now c) t row → AnswersHere asks meaning (unless_undone was c) u row
         → ((is_some c && differ was now) && meets row.changes reading) ≡ false
@@ -151,8 +151,8 @@ module _ {O : Type 0} {asks : O → Bool} {meaning : O → Inquiry Effect} (laws
         agree_over (keys_of reading) t u (after_changes cs u) agree free
     row_alike row (Some c) (Some m) (Some l) t u agree here there off = agree
 
-    -- The view: what the keys of a reading see in the replay depends only on those commands that
-    -- touch one of them, so where none of these has flipped, they see what they saw.
+    -- The view: the values of a reading's keys in the replay depend only on those commands that
+    -- touch one of them, so if none of these has flipped, the values are the same.
     pub seen_alike : (rows : List (Row O)) (at : ℕ) (t u : Entries) → AgreeOn (keys_of reading) t u → AnswersAlike asks meaning t rows → AnswersAlike asks meaning u (remark marks rows at)
         → first_flipped asks marks reading rows at ≡ None → AgreeOn (keys_of reading) (replay asks meaning t rows) (replay asks meaning u (remark marks rows at))
     seen_alike [] at t u agree now was none = agree
@@ -162,7 +162,7 @@ module _ {O : Type 0} {asks : O → Bool} {meaning : O → Inquiry Effect} (laws
         seen_alike rows (at + 1) (after asks meaning (unless_undone row.undone_by c) t) (after asks meaning (unless_undone (marks at) c) u)
         (row_alike row c row.undone_by (marks at) t u agree now.0 (unmarked_answers (unless_undone (marks at) c) u row (marks at) was.0) parts.0) now.1 was.1 parts.1
 
-  -- So a command answers now as it did then.
+  -- So a command has the same answer now as then.
   pub answers_again : (marks : ℕ → Option ℕ) (rows : List (Row O)) (first : Entries) (v k : ℕ) (row : Row O) (c : O) → k < v → slice_get rows k ≡ Some row
       → accepted asks row.request row.reply ≡ Some c → marks (1 + k) ≡ None → AnswersAlike asks meaning first rows → AnswersAlike asks meaning first (remark marks (take v rows) 1)
       → first_flipped asks marks row.reading (take k rows) 1 ≡ None → AnswersHere asks meaning (Some c) (replay asks meaning first (take k rows)) row
@@ -194,9 +194,9 @@ module _ {O : Type 0} {asks : O → Bool} {meaning : O → Inquiry Effect} (laws
         rest.2,
       )
 
-  -- The return: if a command answers at its place as it did, and no later survivor looked at
-  -- what it changed, making its changes in the tree gives the replay with it, and every survivor
-  -- answers as it did.
+  -- The return: if a command has its answer at its place, and no later survivor looked at what it
+  -- changed, making its changes in the tree gives the replay with it, and every survivor has its
+  -- answer.
   pub restored : (rows : List (Row O)) (t : Entries) (k at : ℕ) (row : Row O) (c : O) (by : ℕ) → AnswersAlike asks meaning t rows → slice_get rows k ≡ Some row
       → accepted asks row.request row.reply ≡ Some c → row.undone_by ≡ Some by → AnswersHere asks meaning (Some c) (replay asks meaning t (take k rows)) row
       → first_met asks row.changes (drop (suc k) rows) at ≡ None

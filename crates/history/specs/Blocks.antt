@@ -1,4 +1,4 @@
--- Which rows block an undo, as a relation between two rows, and what each refusal of an undo says.
+-- Which rows block an undo, as a relation between two rows, and what each refusal of an undo means.
 use Rattle.std.specs.Prelude.{◌≡◌, ◌<◌, ◌≤◌, ℕ, Bool, true, Option, Some, None, is_some, List, length, Any}
 use Rattle.footprint.specs.Keys.{touches}
 use Rattle.history.specs.declared.row.Row.{Row}
@@ -8,7 +8,7 @@ use Rattle.history.specs.declared.row.UndoRefusal.{UndoRefusal}
 use Rattle.history.specs.declared.row.UndoRefusal.TheVariants.{NoSuchRow, NotACommand, AlreadyUndone, Blocked}
 use Rattle.history.specs.Rows.{row_at, accepted, survivor}
 
--- A change of the one row touches a key that the other one looked at.
+-- A change of the first row touches a key that the second one looked at.
 abbrev pub LookedAt : {O : Type 0} → Row O → Row O → Type 0
 LookedAt row later = Any (λ observation. Any (λ change. touches change observation.key ≡ true) row.changes) later.reading
 
@@ -29,12 +29,12 @@ module _ {O : Type 0} (asks : O → Bool) where
   abbrev pub Blocks : List (Row O) → (n m : ℕ) → Type 0
   Blocks rows n m = (row later : Row O) × Survives rows n row × Survives rows m later × (n < m) × LookedAt row later
 
-  -- It is the first of the rows that block row n, or there is none if none does.
+  -- It is the first of the rows that block row n, or none if none does.
   abbrev pub IsFirstToBlock : List (Row O) → ℕ → Option ℕ → Type 0
   IsFirstToBlock rows n (Some m) = Blocks rows n m × ((k : ℕ) → Blocks rows n k → m ≤ k)
   IsFirstToBlock rows n None = (k : ℕ) → Blocks rows n k → ⊥
 
-  -- Why an undo of row n is refused, or that it isn't. Each of these excludes the others.
+  -- Why an undo of row n is refused, or that it isn't. The cases exclude each other.
   abbrev pub IsRefusedBy : List (Row O) → ℕ → Option UndoRefusal → Type 0
   IsRefusedBy rows n (Some NoSuchRow) = row_at rows n ≡ None
   IsRefusedBy rows n (Some NotACommand) = (row : Row O) × (row_at rows n ≡ Some row) × (accepted asks row.request row.reply ≡ None)
@@ -43,6 +43,6 @@ module _ {O : Type 0} (asks : O → Bool) where
   IsRefusedBy rows n (Some (Blocked m)) = IsFirstToBlock rows n (Some m)
   IsRefusedBy rows n None = (row : Row O) × Survives rows n row × IsFirstToBlock rows n None
 
-  -- The last row says so.
+  -- The last row has this refusal.
   abbrev pub TellsRefusal : (old new : List (Row O)) → ℕ → Type 0
   TellsRefusal old new n = (row : Row O) → row_at new (length new) ≡ Some row → IsRefusedBy old n (refusal_told row.reply)

@@ -1,4 +1,4 @@
--- Which rows hinder a redo, as a relation between two rows, and what each refusal of a redo says.
+-- Which rows hinder a redo, as a relation between two rows, and what each refusal of a redo means.
 use Rattle.std.specs.Prelude.{◌≡◌, ◌≢◌, ◌<◌, ◌≤◌, ◌⊎◌, ℕ, Bool, true, Option, Some, None, is_some, List, length}
 use Rattle.history.specs.declared.row.Row.{Row}
 use Rattle.history.specs.declared.row.RowReply.{RowReply}
@@ -21,8 +21,8 @@ module _ {O : Type 0} (asks : O → Bool) where
   abbrev pub IsCommand : List (Row O) → ℕ → Row O → Type 0
   IsCommand rows n row = (row_at rows n ≡ Some row) × (is_some (accepted asks row.request row.reply) ≡ true)
 
-  -- Command k, which this row is, survives now and did not just before row u was made, or did then
-  -- and does not now: it has flipped.
+  -- Command k, the command of this row, survives now and did not just before row u was made, or did
+  -- then and does not now: it has flipped.
   abbrev pub HasFlipped : List (Row O) → (u k : ℕ) → Row O → Type 0
   HasFlipped rows u k row = ((row.undone_by ≡ None) × (undoer_before rows u k ≢ None)) ⊎ ((row.undone_by ≢ None) × (undoer_before rows u k ≡ None))
 
@@ -36,12 +36,12 @@ module _ {O : Type 0} (asks : O → Bool) where
   abbrev pub Hinders : List (Row O) → (n m : ℕ) → Type 0
   Hinders rows n m = (row other : Row O) × (u : ℕ) × IsCommand rows n row × (row.undone_by ≡ Some u) × IsInTheWay rows n u m row other
 
-  -- It is the first of the rows that hinder a redo of row n, or there is none if none does.
+  -- It is the first of the rows that hinder a redo of row n, or none if none does.
   abbrev pub IsFirstToHinder : List (Row O) → ℕ → Option ℕ → Type 0
   IsFirstToHinder rows n (Some m) = Hinders rows n m × ((k : ℕ) → Hinders rows n k → m ≤ k)
   IsFirstToHinder rows n None = (k : ℕ) → Hinders rows n k → ⊥
 
-  -- Why a redo of row n is refused, or that it isn't. Each of these excludes the others.
+  -- Why a redo of row n is refused, or that it isn't. The cases exclude each other.
   abbrev pub IsRedoRefusedBy : List (Row O) → ℕ → Option RedoRefusal → Type 0
   IsRedoRefusedBy rows n (Some NoSuchRow) = row_at rows n ≡ None
   IsRedoRefusedBy rows n (Some NotACommand) = (row : Row O) × (row_at rows n ≡ Some row) × (accepted asks row.request row.reply ≡ None)
@@ -49,6 +49,6 @@ module _ {O : Type 0} (asks : O → Bool) where
   IsRedoRefusedBy rows n (Some (Hindered m)) = IsFirstToHinder rows n (Some m)
   IsRedoRefusedBy rows n None = (row : Row O) × (u : ℕ) × IsCommand rows n row × (row.undone_by ≡ Some u) × IsFirstToHinder rows n None
 
-  -- The last row says so.
+  -- The last row has this refusal.
   abbrev pub TellsRedoRefusal : (old new : List (Row O)) → ℕ → Type 0
   TellsRedoRefusal old new n = (row : Row O) → row_at new (length new) ≡ Some row → IsRedoRefusedBy old n (redo_refusal_told row.reply)

@@ -1,4 +1,4 @@
--- What holds of all histories, each law the contract of a public function.
+-- What holds for all histories; each law is the contract of a public function.
 use Rattle.std.specs.Prelude.{◌≡◌, ◌↔◌, ◌⊎◌, ℕ, Bool, true, List, [], ◌∷◌, ◌++◌, Some, None, is_some}
 use Rattle.link_tree.specs.Trees.{Entries, AreFrom, after_changes, inverse_of}
 use Rattle.footprint.specs.Inquiry.{Inquiry}
@@ -8,16 +8,16 @@ use Rattle.history.specs.declared.row.Row.{Row}
 use Rattle.history.specs.Plans.{Planned, planned}
 use Rattle.history.specs.Rows.{Call, answered, row_at, undone, redone, AreMarked, accepted, survivor, blocker, hindrance, replay, calls_of, AnswersAlike, rows_after, run}
 
--- What is asked of a history: a call, which is an operation, an undo or a redo; or that an
--- operator's plan be committed, which was made of an operation on some tree, this history's at an
--- earlier moment or any other.
+-- A request to a history: a call, which is an operation, an undo or a redo; or the commit of an
+-- operator's plan, which was made of an operation on some tree, this history's at an earlier moment
+-- or any other.
 pub data Asked (O : Type 0) : Type 0 where
   ACall : Call O → Asked O
   ACommit : (operator : List ℕ) → O → (made_on : Entries) → Asked O
 
 module _ {O : Type 0} (asks : O → Bool) (meaning : O → Inquiry Effect) where
-  -- The rows after a commit of a plan: with the plan's row, on whatever tree it was made, if the
-  -- tree agrees with all that it looked at; otherwise as before.
+  -- The rows after a commit of a plan: with the plan's row, whatever tree it was made on, if the
+  -- tree agrees with all that it looked at; otherwise unchanged.
   abbrev pub CommitLeaves : Entries → List (Row O) → List ℕ → Planned O → List (Row O) → Type 0
   CommitLeaves first rows operator plan new =
       (HoldsIn (replay asks meaning first rows) plan.outcome.reading × (new ≡ rows ++ answered operator plan.operation plan.outcome ∷ []))
@@ -32,8 +32,8 @@ module _ {O : Type 0} (asks : O → Bool) (meaning : O → Inquiry Effect) where
   LeaveAll first rows [] new = new ≡ rows
   LeaveAll first rows (asked ∷ later) new = (next : List (Row O)) × Leaves first rows asked next × LeaveAll first next later new
 
-  -- A survivor that no row blocks can be removed: taking its changes back from the replay gives the
-  -- replay without it, and every other survivor answers there as its row says.
+  -- A survivor that no row blocks can be removed: reverting its changes in the replay gives the
+  -- replay without it, and every other survivor has the answer of its row there.
   abbrev pub IsRemovable : Entries → List (Row O) → Type 0
   IsRemovable first rows = (n by : ℕ) (row : Row O) → row_at rows n ≡ Some row → is_some (survivor asks row) ≡ true → blocker asks rows n ≡ None
       → AreFrom (replay asks meaning first rows) (inverse_of row.changes)
@@ -41,18 +41,18 @@ module _ {O : Type 0} (asks : O → Bool) (meaning : O → Inquiry Effect) where
       × AnswersAlike asks meaning first (undone rows n by)
 
   -- An undone command that no row hinders can be put back at its place: the replay with it is the
-  -- replay without it after its changes, and it and every other survivor answer there as their rows
-  -- say.
+  -- replay without it after its changes, and it and every other survivor have the answers of their
+  -- rows there.
   abbrev pub IsRestorable : Entries → List (Row O) → Type 0
   IsRestorable first rows = (n u : ℕ) (row : Row O) → row_at rows n ≡ Some row → is_some (accepted asks row.request row.reply) ≡ true → row.undone_by ≡ Some u → hindrance asks rows n ≡ None
       → AreFrom (replay asks meaning first rows) row.changes
       × (replay asks meaning first (redone rows n) ≡ after_changes row.changes (replay asks meaning first rows))
       × AnswersAlike asks meaning first (redone rows n)
 
-  -- The rows are those of the calls that they name, whichever of them were made as plans; what they
-  -- say is what the replay of the survivors does; a row is undone if the last accepted undo or redo
-  -- of it is an undo; an unblocked survivor can be removed, and an undone command that no row
-  -- hinders can be put back.
+  -- The rows are those of the calls that they name, whether or not they were made as plans; their
+  -- answers, changes and readings are those of the survivors' replay; a row is undone if the last
+  -- accepted undo or redo of it is an undo; an unblocked survivor can be removed, and an undone
+  -- command that no row hinders can be put back.
   pub record Remain (first : Entries) (rows : List (Row O)) : Type 0 where
     pub legal : rows ≡ run asks meaning first [] (calls_of rows)
     pub alike : AnswersAlike asks meaning first rows
@@ -60,7 +60,7 @@ module _ {O : Type 0} (asks : O → Bool) (meaning : O → Inquiry Effect) where
     pub removal : IsRemovable first rows
     pub restoration : IsRestorable first rows
 
-  -- That holds of the rows after all calls and commits on any first tree.
+  -- That holds for the rows after any calls and commits on any first tree.
   abbrev pub SurvivorsAloneRemain : Type 0
   SurvivorsAloneRemain = (first : Entries) (asked : List (Asked O)) (rows : List (Row O)) → LeaveAll first [] asked rows → Remain first rows
 

@@ -11,6 +11,6 @@ is_operator_byte b = (nat_le (code "a") b && nat_le b (code "z")) || (nat_le (co
 unfoldable pub is_operator : List ℕ → Bool
 is_operator text = nat_lt 0 (length text) && nat_le (length text) 32 && list_all is_operator_byte text
 
--- a name in a field of 32 bytes, with zeros after it
+-- a name in a field of 32 bytes, padded with zeros
 abbrev pub padded : List ℕ → List ℕ
 padded text = text ++ replicate (32 - length text) 0

@@ -1,5 +1,5 @@
--- Plans: an operation with its outcome on some tree. What a commit of one does, and when it is
--- stale.
+-- Plans: an operation with its outcome on some tree. The effect of committing a plan, and when it
+-- is stale.
 use Rattle.std.specs.Prelude.{◌≡◌, ℕ, ◌<◌, Bool, true, List, All, length, refl}
 use Rattle.unit_paths.specs.Slots.{is_slot}
 use Rattle.link_tree.specs.Trees.{Entries}
@@ -39,16 +39,16 @@ module _ {O : Type 0} (meaning : O → Inquiry Effect) where
     pub slots : All (λ change. is_slot change.path ≡ true) outcome.changes
 
 module _ {O : Type 0} (asks : O → Bool) (meaning : O → Inquiry Effect) where
-  -- The tree now agrees with all that the plan looked at.
+  -- The current tree agrees with all that the plan looked at.
   abbrev pub AgreesWith : Log O → Planned O → Type 0
   AgreesWith log plan = HoldsIn (replay asks meaning log.first log.rows) plan.outcome.reading
 
-  -- The first key that the plan looked at and that sees something else in the tree now.
+  -- The first key that the plan looked at and whose value in the current tree differs.
   abbrev pub IsStaleAt : Log O → Planned O → Key → Type 0
   IsStaleAt log plan key = IsFirstOther (replay asks meaning log.first log.rows) plan.outcome.reading key
 
-  -- What a commit does. If the tree agrees with all that the plan looked at, the plan is the one
-  -- that would be made now, and the rows are those after a call of its operation. Otherwise the
+  -- The effect of a commit. If the tree agrees with all that the plan looked at, the plan is the
+  -- one that would be made now, and the rows are those after a call of its operation. Otherwise the
   -- plan is stale at the first key that differs, and nothing changes.
   abbrev pub IsCommit : Log O → List ℕ → Planned O → Log O → Commit (Planned O) → Type 0
   IsCommit old operator plan new (Committed n) =

@@ -8,8 +8,8 @@ use Rattle.history.specs.declared.row.RowReply.{RowReply}
 use Rattle.history.specs.declared.row.RowReply.TheVariants.{Answered, Undid, UndoRefused, Redid, RedoRefused}
 use Rattle.history.specs.Rows.{row_at, meets, toggled, undoer_then, accepted}
 
--- whether the row that a toggle names was undone before: not if it was undone then, and so if it
--- was redone
+-- whether the row that a toggle names was undone before it: no if the toggle is an undo, yes if it
+-- is a redo
 abbrev pub was_undone : RowReply → Bool
 was_undone (Answered answer) = false
 was_undone (Undid k) = false
@@ -21,7 +21,7 @@ abbrev pub toggled_at : {O : Type 0} → Option (Row O) → Option ℕ
 toggled_at None = None
 toggled_at (Some row) = toggled row.reply
 
--- the last toggle of row n, if row `at` toggles this row
+-- the last toggle of row n after row `at`, by whether row `at` toggles row n
 abbrev pub toggle_then : Option ℕ → (at n last : ℕ) → ℕ
 toggle_then None at n last = last
 toggle_then (Some k) at n last = if k == n then at else last
@@ -40,16 +40,16 @@ abbrev pub link_at : List ℕ → ℕ → ℕ
 link_at links zero = 0
 link_at links (suc k) = get_or links k 0
 
--- Of these rows, which are numbered from `at` on, each toggle of row n has the one before it as its
--- link; `last` was the last one before them.
+-- Of these rows, which are numbered from `at` on, the link of each toggle of row n is the previous
+-- toggle of row n; `last` was the last one before these rows.
 abbrev pub LinksBack : {O : Type 0} → (n : ℕ) → List (Row O) → List ℕ → (at last : ℕ) → Type 0
 LinksBack n [] links at last = Unit {0}
 LinksBack n (row ∷ rows) [] at last = ⊥
 LinksBack n (row ∷ rows) (link ∷ links) at last =
     (toggled row.reply ≡ Some n → link ≡ last) × LinksBack n rows links (at + 1) (toggle_then (toggled row.reply) at n last)
 
--- Each row has a link: a toggle has the toggle before it of the same row, and any other row has the
--- last toggle of itself.
+-- Each row has a link: that of a toggle is the previous toggle of the same row, and that of any
+-- other row is the last toggle of itself.
 pub record AreLinked {O : Type 0} (links : List ℕ) (rows : List (Row O)) : Type 0 where
   pub each : length links ≡ length rows
   pub back : (n : ℕ) → LinksBack n rows links 1 0
@@ -60,19 +60,19 @@ abbrev pub relinked : List ℕ → (n m : ℕ) → List ℕ
 relinked links n m = set links (n - 1) m ++ link_at links n ∷ []
 
 module _ {O : Type 0} where
-  -- Row n, which row `by` had undone before these rows if any had, was undone only while it was not
-  -- undone, and redone only while it was.
+  -- Row n was undone only while it was not undone, and redone only while it was; row `by` had
+  -- undone it before these rows, if any row had.
   abbrev pub Alternates : ℕ → List (Row O) → (at : ℕ) → (by : Option ℕ) → Type 0
   Alternates n [] at by = Unit {0}
   Alternates n (row ∷ rows) at by =
       (row.reply ≡ Undid n → by ≡ None) × (row.reply ≡ Redid n → is_some by ≡ true) × Alternates n rows (at + 1) (undoer_then row.reply at n by)
 
-  -- So it is with each row.
+  -- This holds for each row.
   abbrev pub AllAlternate : List (Row O) → Type 0
   AllAlternate rows = (n : ℕ) → Alternates n rows 1 None
 
--- Of the row that is toggled and the least number so far: the row, if it is less, is toggled for
--- the first time since row u, and passes the test.
+-- From the toggled row and the least number so far: the row, if it is less, is toggled for the
+-- first time since row u, and passes the test.
 abbrev pub sooner_of : (test : Bool → ℕ → Bool) → (u : ℕ) → (named : Option ℕ) → (was : Bool) → (link least : ℕ) → ℕ
 sooner_of test u None was link least = least
 sooner_of test u (Some k) was link least = if (nat_lt k least && nat_lt link u) && test was k then k else least
@@ -87,11 +87,11 @@ least_flipped test u (row ∷ rows) [] least = least
 least_flipped test u (row ∷ rows) (link ∷ links) least = least_flipped test u rows links (sooner test u row.reply link least)
 
 module _ {O : Type 0} (asks : O → Bool) where
-  -- whether a row is a command that is undone now and was not, or is not now and was
+  -- whether a row is a command that is undone now and was not before, or vice versa
   abbrev pub is_flipped : (was : Bool) → Row O → Bool
   is_flipped was row = is_some (accepted asks row.request row.reply) && not (beq (is_some row.undone_by) was)
 
-  -- whether it is such a command, and a change of it touches a key of the reading
+  -- whether it is such a command, and one of its changes touches a key of the reading
   abbrev pub flipped_at : List Observation → (was : Bool) → Option (Row O) → Bool
   flipped_at reading was None = false
   flipped_at reading was (Some row) = is_flipped was row && meets row.changes reading

@@ -1,4 +1,4 @@
-//! The calls so far, and the tree that they leave.
+//! The calls so far, and the tree that results from them.
 ghost use Rattle.std.specs.Prelude.{◌≡◌, ◌≤◌, ◌<◌, ◌+◌, ◌↔◌, [], None, Some, Ok, length, false, true, All, IfOk, IfErr, OnOk, OnErr, vec_len, vec_capacity};
 ghost use Rattle.unit_paths.specs.Slots.{is_slot};
 ghost use Rattle.link_tree.specs.Trees.{AreFrom, after_changes};
@@ -31,7 +31,7 @@ pub const MAX_ROWS: usize = 1_000_000;
 /// Why a call made no row.
 #[derive(Clone, Copy, Debug, PartialEq, Eq)]
 pub enum CallError {
-    /// There are as many rows as there may be.
+    /// The history is full: it has as many rows as it may have.
     Full,
     OutOfMemory,
 }
@@ -59,8 +59,8 @@ pub struct Unrun<O> {
     pub why: CallError,
 }
 
-/// All calls on a tree, from the first on. Contracts see the first tree, the rows, and the limit on
-/// their number.
+/// All calls on a tree, in order. Contracts see the first tree, the rows, and the limit on their
+/// number.
 #[derive(Drop)]
 pub struct History<O: Operation> {
     first: Tree,
@@ -95,21 +95,21 @@ impl<O: Operation> Model for History<O> {
 }
 
 impl<O: Operation> History<O> {
-    /// A history of no calls, which may have a million rows.
+    /// A history without calls, which may have a million rows.
     pub fn new(alloc: Global, tree: Tree) -> Result<History<O>, AllocError>
         ensures { IfOk result (λ history. history ≡ record { first = tree; rows = []; limit = 1000000 }) }
     {
         History::with_limit(alloc, tree, MAX_ROWS)
     }
 
-    /// A history of no calls, which may have this many rows.
+    /// A history without calls, which may have this many rows.
     pub fn with_limit(alloc: Global, tree: Tree, limit: usize) -> Result<History<O>, AllocError>
         requires some { 1 ≤ limit }
         requires few { limit ≤ 1000000 }
         ensures { IfOk result (λ history. history ≡ record { first = tree; rows = []; limit = limit }) }
     {
         Ok(History {
-            first: tree.copy()?,
+            first: tree.share()?,
             tree,
             rows: Vec::new(alloc),
             readers: Readers::none(alloc),
@@ -125,7 +125,7 @@ impl<O: Operation> History<O> {
         &self.first
     }
 
-    /// The tree as it is: the first tree with the surviving commands alone run on it.
+    /// The current tree: the first tree with only the surviving commands run on it.
     pub fn tree(&self) -> &Tree
         ensures tree { result.now ≡ replay O.asks O.meaning self.now.first self.now.rows }
         ensures survivors { result.now ≡ after_commands O.meaning (survivors O.asks self.now.rows) self.now.first }
@@ -133,9 +133,10 @@ impl<O: Operation> History<O> {
         &self.tree
     }
 
-    /// A row for each call, as made by a machine that runs everything again for each call. In the
-    /// replay a surviving command answers, changes and sees what its row says. A row is undone if
-    /// the last accepted undo or redo that names it is an undo.
+    /// A row for each call, as a state machine makes them that runs everything again for each call.
+    /// In the replay the answer and the changes of a surviving command, and what it looks at, are
+    /// those of its row. A row is undone if the last accepted undo or redo that names it is an
+    /// undo.
     pub fn rows(&self) -> &[Row<O>]
         ensures rows { result.now ≡ self.now.rows }
         ensures legal { self.now.rows ≡ run O.asks O.meaning self.now.first [] (calls_of self.now.rows) }
@@ -157,8 +158,8 @@ impl<O: Operation> History<O> {
 
     /// The first row that hinders a redo of the undone command n: an earlier command that changed
     /// what row n looked at, and survives now but did not when row n was undone, or did then and
-    /// does not now; or a later survivor that looked at what row n changed. None if row n is no
-    /// undone command, or nothing hinders it. Takes no memory.
+    /// does not now; or a later survivor that looked at what row n changed. None if row n isn't an
+    /// undone command, or nothing hinders it. Allocates no memory.
     pub fn hindrance(&self, n: u32) -> Option<u32>
         ensures found { result ≡ hindrance O.asks self.now.rows n }
         ensures first { IsFirstToHinder O.asks self.now.rows n result }
@@ -177,7 +178,7 @@ impl<O: Operation> History<O> {
     /// Runs an operation on the tree, and returns the new row's number.
     ///
     /// The error is `Full` if the history has as many rows as it may have, else `OutOfMemory`. It
-    /// hands the operation back.
+    /// returns the operation.
     pub fn call(&mut self, alloc: Global, operator: Operator, operation: O) -> Result<u32, Unrun<O>>
         ensures first { self.new.first ≡ self.old.first }
         ensures limit { self.new.limit ≡ self.old.limit }
@@ -205,12 +206,24 @@ impl<O: Operation> History<O> {
         }
     }
 
+    /// Whether the tree agrees with all that a plan looked at: a commit of any other plan is stale.
+    /// Allocates no memory.
+    pub fn agrees_with(&self, plan: &Plan<O>) -> bool
+        ensures { (result ≡ true) ↔ AgreesWith O.asks O.meaning self.now plan.now }
+    {
+        let reading = plan.reading();
+        match agrees(self.tree(), reading) {
+            Ok(()) => true,
+            Err(_) => false,
+        }
+    }
+
     /// Commits a plan. If the tree agrees with all that the plan looked at, its row is added, as a
     /// call of its operation would add it, and its number is returned. Otherwise the plan is stale:
-    /// it is handed back with the first key at which the tree differs.
+    /// it is returned with the first key at which the tree differs.
     ///
     /// The error is `Full` if the tree agrees and the history has as many rows as it may have, else
-    /// `OutOfMemory`. It hands the plan back.
+    /// `OutOfMemory`. It returns the plan.
     pub fn commit(
         &mut self,
         operator: Operator,
@@ -259,7 +272,7 @@ impl<O: Operation> History<O> {
         }
     }
 
-    /// Whether there are as many rows as there may be.
+    /// Whether the history has as many rows as it may have.
     pub fn is_full(&self) -> bool
         ensures full { result ≡ true → length self.now.rows ≡ self.now.limit }
         ensures room { result ≡ false → length self.now.rows < self.now.limit }
@@ -268,7 +281,7 @@ impl<O: Operation> History<O> {
     }
 
     /// Adds the row of a plan that the tree agrees with, and makes its changes. If memory runs out,
-    /// it hands the plan back.
+    /// it returns the plan.
     fn add(&mut self, operator: Operator, plan: Plan<O>) -> Result<u32, Plan<O>>
         requires room { length self.old.rows < self.old.limit }
         requires agrees { AgreesWith O.asks O.meaning self.old plan }
@@ -301,7 +314,7 @@ impl<O: Operation> History<O> {
     }
 
     /// Undoes row n (rows count from 1) unless that is refused, and returns the new row's number.
-    /// The new row says why it is refused.
+    /// If it is refused, the new row has the reason.
     ///
     /// The error is `Full` if the history has as many rows as it may have, else `OutOfMemory`.
     pub fn undo(&mut self, alloc: Global, operator: Operator, n: u32) -> Result<u32, CallError>
@@ -322,7 +335,7 @@ impl<O: Operation> History<O> {
         Ok(self.add_undo(alloc, operator, n)?)
     }
 
-    /// Adds the row of an undo, and does what it does.
+    /// Adds the row of an undo, and carries the undo out.
     fn add_undo(&mut self, alloc: Global, operator: Operator, n: u32) -> Result<u32, AllocError>
         requires room { length self.old.rows < self.old.limit }
         ensures first { self.new.first ≡ self.old.first }
@@ -383,8 +396,8 @@ impl<O: Operation> History<O> {
     }
 
     /// Redoes row n (rows count from 1) unless that is refused, and returns the new row's number. A
-    /// command that is redone is in effect again at its own place: it and every other survivor
-    /// answer as they did. The new row says why it is refused.
+    /// redone command is in effect again at its own place: in the replay it and every other
+    /// survivor have the answers of their rows. If the redo is refused, the new row has the reason.
     ///
     /// The error is `Full` if the history has as many rows as it may have, else `OutOfMemory`.
     pub fn redo(&mut self, alloc: Global, operator: Operator, n: u32) -> Result<u32, CallError>
@@ -406,7 +419,7 @@ impl<O: Operation> History<O> {
         }
     }
 
-    /// Adds the row of a redo, and does what it does.
+    /// Adds the row of a redo, and carries the redo out.
     fn add_redo(&mut self, alloc: Global, operator: Operator, n: u32) -> Result<u32, AllocError>
         requires room { length self.old.rows < self.old.limit }
         ensures first { self.new.first ≡ self.old.first }
@@ -489,8 +502,8 @@ fn stale<P: Drop>(plan: P, at: Result<Key, AllocError>) -> Result<Commit<P>, Unc
     }
 }
 
-/// Lists row n in the index under the keys that its operation looked at, if it is a command that
-/// was accepted.
+/// Lists row n in the index under the keys that its operation looked at, if it is an accepted
+/// command.
 fn list<O: Operation>(
     alloc: Global,
     readers: &mut Readers,
@@ -509,7 +522,7 @@ fn list<O: Operation>(
     }
 }
 
-/// Makes room for a row and its link. If memory runs out, all is as before.
+/// Reserves memory for a row and its link. If memory runs out, nothing is changed.
 fn reserve<O: Operation>(rows: &mut Vec<Row<O>>, links: &mut Vec<u32>) -> Result<(), AllocError>
     ensures rows { rows.new.items ≡ rows.old.items }
     ensures links { links.new.items ≡ links.old.items }
@@ -520,8 +533,8 @@ fn reserve<O: Operation>(rows: &mut Vec<Row<O>>, links: &mut Vec<u32>) -> Result
     links.reserve(1)
 }
 
-/// Makes room for a row and its link, lists the row in the index, and makes its changes of the
-/// tree; the row itself is not added yet. If memory runs out, all is as before.
+/// Reserves memory for a row and its link, lists the row in the index, and makes its changes to the
+/// tree; the row itself is not added yet. If memory runs out, nothing is changed.
 fn make_room<O: Operation>(
     rows: &mut Vec<Row<O>>,
     links: &mut Vec<u32>,
@@ -594,7 +607,7 @@ fn blocker<O: Operation>(rows: &[Row<O>], readers: &Readers, n: u32) -> Option<u
 }
 
 /// Lists row n in the index again, and makes its changes again; its row is still marked as undone.
-/// If memory runs out, all is as before.
+/// If memory runs out, nothing is changed.
 fn make_again(
     alloc: Global,
     readers: &mut Readers,

@@ -1,11 +1,11 @@
-//! What holds of all histories: the functions do nothing, and their contracts are the laws.
+//! What holds for all histories: the functions do nothing, and their contracts are the laws.
 ghost use Rattle.history.specs.Laws.{SurvivorsAloneRemain, AgreedPlansAreNew};
 
 use footprint::Operation;
 
-/// Whatever calls and commits are made on whatever tree, the rows say what the surviving commands
-/// alone would do. A survivor that no row blocks can be removed, and an undone command that no row
-/// hinders can be put back.
+/// After any calls and commits on any tree, the rows say what the surviving commands alone would
+/// do. A survivor that no row blocks can be removed, and an undone command that no row hinders can
+/// be put back.
 pub fn survivors_alone_remain<O: Operation>()
     ensures { SurvivorsAloneRemain O.asks O.meaning }
 {}

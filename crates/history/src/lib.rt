@@ -1,5 +1,5 @@
 //! The rows of all calls on a tree, plans that are made on one tree and committed to another, undo
-//! of any row that no later one blocks, and redo of any that no row hinders.
+//! of any row that no later one blocks, and redo of any undone row that no row hinders.
 #![tactic(auto)]
 
 mod history;

@@ -1,4 +1,4 @@
-//! Who makes calls.
+//! The operators, who make calls.
 ghost use Rattle.std.specs.Prelude.{◌≡◌, ◌≤◌, true, false, length, MatchResult};
 ghost use Rattle.std.specs.List.{list_all};
 ghost use Rattle.history.specs.Operators.{is_operator, is_operator_byte, padded};
@@ -34,7 +34,7 @@ impl Model for Operator {
     } };
 }
 
-/// A text that names no operator.
+/// The text isn't an operator's name.
 #[derive(Clone, Copy, Debug, PartialEq, Eq, Error)]
 #[error("bad operator")]
 pub struct BadOperator;
@@ -69,7 +69,7 @@ fn padded(text: &[u8]) -> [u8; MAX_OPERATOR]
     bytes
 }
 
-/// Fills a list's unused room; it is never read.
+/// Padding for a list's unused room; it is never read.
 impl Default for Operator {
     ghost use Rattle.std.specs.Prelude.{◌≡◌, codes};
 

@@ -10,7 +10,7 @@ use std::alloc::{AllocError, Global};
 use std::marker::Model;
 
 /// An operation with its outcome on a tree: its answer, its changes, and what it looked at. It
-/// holds no tree: the one on which it was made may have changed since, or may no longer exist.
+/// contains no tree: the one on which it was made may have changed since, or may no longer exist.
 /// Contracts see the operation and its outcome.
 #[derive(Drop)]
 pub struct Plan<O: Operation> {
@@ -38,8 +38,8 @@ impl<O: Operation> Model for Plan<O> {
 }
 
 impl<O: Operation> Plan<O> {
-    /// Runs an operation on a tree, which stays as it is. Fails only if memory runs out, and then
-    /// hands the operation back.
+    /// Runs an operation on a tree, which is unchanged. Fails only if memory runs out, and then
+    /// returns the operation.
     pub fn make(alloc: Global, operation: O, tree: &Tree) -> Result<Plan<O>, Unrun<O>>
         ensures plan { IfOk result (λ plan. plan ≡ planned O.meaning operation tree.now) }
         ensures handed_back { IfErr result (λ unrun. unrun.operation ≡ operation) }
@@ -54,7 +54,7 @@ impl<O: Operation> Plan<O> {
         }
     }
 
-    /// The operation alone, as it was handed in.
+    /// Only the operation, as it was passed in.
     pub fn into_op(self) -> O
         ensures { result ≡ self.operation }
     {
@@ -88,7 +88,7 @@ pub enum Commit<P> {
 }
 
 /// A plan that made no row although the tree agrees with it, and why; or one whose key could not be
-/// copied since memory ran out.
+/// copied because memory ran out.
 #[derive(Debug, Drop)]
 pub struct Uncommitted<P> {
     pub plan: P,

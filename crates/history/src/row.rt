@@ -42,39 +42,39 @@ impl<O: Operation> Request<O> {
     }
 }
 
-/// Why an undo was refused, in the order in which the reasons are tried.
+/// Why an undo was refused, in the order in which the reasons are checked.
 #[derive(Clone, Copy, Debug, PartialEq, Eq)]
 pub enum UndoRefusal {
-    /// No row has the number.
+    /// No row has this number.
     NoSuchRow,
-    /// The row is no accepted command.
+    /// The row isn't an accepted command.
     NotACommand,
-    /// This row undid it.
+    /// The row is already undone, by this row.
     AlreadyUndone(u32),
     /// This row is a later command that survives and looked at what the row changed.
     Blocked(u32),
 }
 
-/// Why a redo was refused, in the order in which the reasons are tried.
+/// Why a redo was refused, in the order in which the reasons are checked.
 #[derive(Clone, Copy, Debug, PartialEq, Eq)]
 pub enum RedoRefusal {
-    /// No row has the number.
+    /// No row has this number.
     NoSuchRow,
-    /// The row is no accepted command.
+    /// The row isn't an accepted command.
     NotACommand,
-    /// The row survives.
+    /// The row isn't undone.
     NotUndone,
-    /// This row is the first that hinders it: a later command that survives and looked at what the
-    /// row changed; or an earlier command that changed what the row looked at, and survives now but
-    /// did not when the row was undone, or did then and does not now.
+    /// This row is the first that hinders the redo: a later command that survives and looked at
+    /// what the row changed; or an earlier command that changed what the row looked at, and
+    /// survives now but did not when the row was undone, or did then and does not now.
     Hindered(u32),
 }
 
-/// What a call was answered.
+/// The reply to a call.
 #[derive(Debug, Drop)]
 pub enum RowReply {
     Answered(Answer),
-    /// The row of this number was taken back.
+    /// The row of this number was undone: its changes were reverted.
     Undid(u32),
     UndoRefused(UndoRefusal),
     /// The row of this number is in effect again, at its own place.
@@ -145,8 +145,8 @@ impl RowReply {
     }
 }
 
-/// A call, what it was answered, what it changed and looked at, and the row that undid it as long
-/// as it is undone.
+/// A call, its reply, what it changed and looked at, and, while it is undone, the row that undid
+/// it.
 #[derive(Debug, Drop)]
 pub struct Row<O> {
     pub operator: Operator,
@@ -179,7 +179,7 @@ impl<O: Operation> Row<O> {
         }
     }
 
-    /// The row of an undo or a redo, which holds no changes of its own and looked at nothing.
+    /// The row of an undo or a redo, which has no changes of its own and looked at nothing.
     pub(crate) fn bare(
         alloc: Global,
         operator: Operator,
@@ -224,7 +224,7 @@ impl<O: Operation> Row<O> {
         }
     }
 
-    /// Why it can't be undone, whatever rows come after it.
+    /// Why it can't be undone, independently of later rows.
     pub fn refusal(&self) -> Option<UndoRefusal>
         ensures { result ≡ row_refusal (accepted O.asks self.now.request self.now.reply) self.now.undone_by }
     {
@@ -246,7 +246,7 @@ impl<O: Operation> Row<O> {
         }
     }
 
-    /// Why it can't be redone, whatever the other rows are.
+    /// Why it can't be redone, independently of the other rows.
     pub fn redo_refusal(&self) -> Option<RedoRefusal>
         ensures { result ≡ row_redo_refusal (accepted O.asks self.now.request self.now.reply) self.now.undone_by }
     {

@@ -1,9 +1,9 @@
 //! Which commands were undone or redone since a row, and the links by which they are found.
 //!
 //! An accepted undo or redo is a *toggle* of the row that it names. Each row has one number, its
-//! link: a toggle has the toggle before it of the same row, and any other row has the last toggle
-//! of itself, 0 if there is none. So a toggle is the first one of its row since row u if its link
-//! is below u, and then it says whether the row was undone before row u.
+//! link: that of a toggle is the previous toggle of the same row, and that of any other row is the
+//! last toggle of itself, or 0 if there is none. So a toggle is the first one of its row since row
+//! u if its link is below u, and then it shows whether the row was undone before row u.
 ghost use Rattle.std.specs.Prelude.{◌≡◌, ◌≤◌, ◌<◌, ◌-◌, Some, None, length, take, drop, vec_len, vec_capacity};
 ghost use Rattle.std.specs.List.{list_any};
 ghost use Rattle.footprint.specs.Keys.{touches};
@@ -14,7 +14,7 @@ use crate::row::{Row, RowReply};
 use footprint::{Observation, Operation, touches};
 use link_tree::Change;
 
-/// Links row m, a new toggle of row n, which is no toggle.
+/// Links row m, a new toggle of row n, which isn't a toggle itself.
 pub(crate) fn relink(links: &mut Vec<u32>, n: u32, m: u32)
     requires some { 1 ≤ n }
     requires within { n ≤ length links.old.items }
@@ -55,7 +55,7 @@ fn toggled(reply: &RowReply) -> Option<u32>
     }
 }
 
-/// Whether the row that was undone or redone was undone before.
+/// Whether the row that was undone or redone was already undone before.
 fn was_undone(reply: &RowReply) -> bool
     ensures { result ≡ was_undone reply.now }
 {
@@ -68,14 +68,14 @@ fn was_undone(reply: &RowReply) -> bool
     }
 }
 
-/// Whether a row is a command that is undone now and was not, or is not now and was.
+/// Whether a row is a command that is undone now and was not before, or vice versa.
 fn is_flipped<O: Operation>(row: &Row<O>, was_undone: bool) -> bool
     ensures { result ≡ is_flipped O.asks was_undone row.now }
 {
     row.is_command() && row.undone_by.is_some() != was_undone
 }
 
-/// Whether row k is such a command, and a change of it touches a key of the reading.
+/// Whether row k is such a command, and one of its changes touches a key of the reading.
 fn is_in_the_way<O: Operation>(
     rows: &[Row<O>],
     reading: &[Observation],
@@ -92,7 +92,7 @@ fn is_in_the_way<O: Operation>(
     is_flipped(row, was_undone) && meets(row.changes.as_slice(), reading)
 }
 
-/// The row that this reply toggles, if it comes before `least`, is toggled for the first time since
+/// The row that this reply toggles, if it is less than `least`, is toggled for the first time since
 /// row u, and is in the way; else `least`.
 fn sooner<O: Operation>(
     rows: &[Row<O>],
@@ -116,7 +116,7 @@ fn sooner<O: Operation>(
     }
 }
 
-/// The least row before row n that is in the way since row u, or else n.
+/// The least row before row n that is in the way since row u, or n if there is none.
 fn least_flipped<O: Operation>(
     rows: &[Row<O>],
     links: &[u32],
@@ -136,8 +136,8 @@ fn least_flipped<O: Operation>(
 }
 
 /// The first command before row n that survives now and did not just before row u, or did then and
-/// does not now, and a change of which touches a key of the reading. Only toggles since row u are
-/// looked at.
+/// does not now, and one of whose changes touches a key of the reading. Only toggles since row u
+/// are examined.
 pub(crate) fn first_flipped<O: Operation>(
     rows: &[Row<O>],
     links: &[u32],

@@ -1,12 +1,12 @@
 //! A history and a plan, and what words do with them.
 //!
-//! | Word | What is done | What it answers |
+//! | Word | What is done | Result |
 //! |---|---|---|
 //! | `put:a`, `undo:1`, `redo:1` and the like | alice calls it | the reply of the row; `full` |
 //! | `plan:put:a` | a plan of the step is made, on the tree as it is | `planned` |
 //! | `commit` | bob commits the plan | `row:2`; `stale:a`, `full`, `no-plan` |
-//! | `answer` | the plan is asked what it answers | `accepted` or `refused`; `no-plan` |
-//! | `take-apart:put:a` | the plan is taken apart, which is of this step | `put:a`; `no-plan` |
+//! | `answer` | the answer of the plan is read | `accepted` or `refused`; `no-plan` |
+//! | `take-apart:put:a` | the plan, which is of this step, is taken apart | `put:a`; `no-plan` |
 //! | `index` | each row is looked up | `1:read-by:1,2:blocked-by:2 2:unread` (`index.rt`) |
 //!
 //! A plan that is stale is kept, and so is one that is committed to a full history.
@@ -62,7 +62,8 @@ impl Bench {
         }
     }
 
-    /// Whether there are as many rows as before, and the history looks up what a walk finds.
+    /// Whether there are as many rows as before, and what the history looks up is what a walk
+    /// finds.
     fn is_as_before(&self, alloc: Global, rows: usize) -> Result<bool, AllocError> {
         Ok(self.history.rows().len() == rows && agrees(alloc, &self.history)?)
     }
@@ -166,7 +167,7 @@ impl Bench {
         Ok(())
     }
 
-    /// What the plan answers.
+    /// The answer of the plan.
     fn answered(&self) -> &'static [u8] {
         match &self.plan {
             Some(plan) if matches!(plan.answer(), Answer::Refused(_)) => b"refused",
@@ -175,7 +176,7 @@ impl Bench {
         }
     }
 
-    /// Takes the plan apart, which is of the step of a word.
+    /// Takes apart the plan, which is of the step of a word.
     fn take_apart(
         &mut self,
         alloc: Global,
@@ -191,7 +192,7 @@ impl Bench {
         }
     }
 
-    /// Does what a word says, and adds what it answers.
+    /// Does what a word says, and adds the result.
     pub(crate) fn answer(
         &mut self,
         alloc: Global,
@@ -223,7 +224,7 @@ impl Bench {
         self.call(alloc, word, out)
     }
 
-    /// Adds what the words of a script answer.
+    /// Adds the results of the words of a script.
     fn play(&mut self, alloc: Global, script: &[u8], out: &mut Vec<u8>) -> Result<(), AllocError> {
         for word in script.split(|b| *b == b' ') {
             begin_word(out)?;
@@ -253,7 +254,7 @@ fn planned(alloc: Global, tree: &Tree, step: Step) -> Result<Box<Plan<Step>>, Al
     }
 }
 
-/// What a commit answers.
+/// What a commit returns.
 type Committing = Result<Commit<Plan<Step>>, Uncommitted<Plan<Step>>>;
 
 /// Commits a plan. If memory runs out, the plan that came back is committed.
@@ -294,7 +295,7 @@ fn kept_plan(
     }
 }
 
-/// Adds what is said of a step that came back, if it is the step of the word.
+/// Adds a word for a step that came back, if it is the step of the word.
 fn push_if_same(
     alloc: Global,
     operation: &Step,
@@ -309,8 +310,8 @@ fn push_if_same(
     }
 }
 
-/// What the words of a script answer on a history of the empty tree, and how many entries the first
-/// tree and the last one have.
+/// The results of the words of a script on a history of the empty tree, and how many entries the
+/// first tree and the last one have.
 pub(crate) fn said(alloc: Global, is_short: bool, script: &[u8]) -> Result<Vec<u8>, AllocError> {
     let mut out = Vec::new(alloc);
     let mut bench = Bench::new(alloc, is_short)?;

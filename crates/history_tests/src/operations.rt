@@ -11,8 +11,8 @@ use std::str;
 use std::test::Fail;
 
 /// Two operations `UNIT:SLOT`, each of which gives a notice of a unit and links a slot, and the
-/// outcome of both as one: how many keys it looked at, and the lines of its notices. Two steps, and
-/// whether they only ask, as one. What is copied, and what the copy is.
+/// outcome of both as one: how many keys it looked at, and the lines of its notices. Two steps as
+/// one, and whether they are only questions. What is copied, and what the copy is.
 const ROWS: &[u8] = b"\
     # both give their notices, each once\n\
     both\tb.service:/etc/systemd/system/a.service\t\
@@ -96,7 +96,7 @@ fn said_by_both(alloc: Global, first: &[u8], second: &[u8]) -> Result<Vec<u8>, A
     text_of(alloc, &outcome)
 }
 
-/// Whether two steps in one only ask.
+/// Whether two steps in one are only questions.
 fn only_ask(alloc: Global, first: &[u8], second: &[u8]) -> Result<&'static [u8], AllocError> {
     let both = Then {
         first: step(alloc, first)?,
@@ -149,7 +149,7 @@ fn copied_operation(alloc: Global, word: &[u8]) -> Result<&'static [u8], AllocEr
     })
 }
 
-/// Whether two operations as one only ask, or a copy is the same.
+/// Whether two operations as one are only questions, or a copy is the same.
 fn said_of(alloc: Global, row: &Row) -> Result<&'static [u8], AllocError> {
     if is(&row.kind, b"only asks") {
         return only_ask(alloc, &row.one, &row.two);

@@ -1,4 +1,4 @@
-//! Scripts of calls, undos, redos, plans and commits, and what their words answer.
+//! Scripts of calls, undos, redos, plans and commits, and the results of their words.
 
 use crate::bench::said;
 use sample_rows::{Row, unlike};
@@ -7,7 +7,7 @@ use std::alloc::{AllocError, Global};
 use std::str;
 use std::test::Fail;
 
-/// A script on a history of the empty tree, and what its words answer; then how many entries the
+/// A script on a history of the empty tree, and the results of its words; then how many entries the
 /// first tree has, and how many the last one has. A short history has room for one row.
 const ROWS: &[u8] = b"\
     # a command is undone under later ones\n\

@@ -1,4 +1,4 @@
-//! An operation that looks by a key of any kind, tells of a word, and links a file.
+//! An operation that looks by a key of any kind, reports a word, and links a file.
 ghost use Rattle.std.specs.Prelude.{◌≡◌, ◌↔◌, IfOk, IsTrue};
 ghost use Rattle.footprint.specs.Edits.{Carries};
 ghost use Rattle.sample_steps.specs.Samples.{told_of, watch_command};
@@ -13,7 +13,7 @@ use std::alloc::{AllocError, Global};
 use unit_file::Word;
 use unit_name::UnitName;
 
-/// Looks by a key; may tell that a word of a unit was not found; and links a file at a slot.
+/// Looks by a key; may report that a word of a unit was not found; and links a file at a slot.
 #[derive(Debug, Drop)]
 pub(crate) struct Watch {
     pub(crate) key: Key,
@@ -22,7 +22,7 @@ pub(crate) struct Watch {
     pub(crate) slot: TreePath,
 }
 
-/// Whether two keys are one.
+/// Whether two keys are equal.
 fn is_same_key(one: &Key, other: &Key) -> bool
     ensures { IsTrue result ↔ (one.now ≡ other.now) }
 {

@@ -30,7 +30,7 @@ const ROWS: &[u8] = b"\
     copy\ta dependencies x.service\ta dependencies --reverse x.service\ta question, not done\n\
     ";
 
-/// Adds how many changes there are, or that it isn't done.
+/// Adds how many changes there are, or that the answer isn't `Done`.
 fn push_outcome(out: &mut Vec<u8>, outcome: &Outcome) -> Result<(), AllocError> {
     match outcome.answer {
         Answer::Done(_) => {
@@ -41,13 +41,14 @@ fn push_outcome(out: &mut Vec<u8>, outcome: &Outcome) -> Result<(), AllocError> 
     }
 }
 
-/// Adds what an action comes to on the empty tree.
+/// Adds what an action results in on the empty tree.
 fn push_run(alloc: Global, action: &Action, out: &mut Vec<u8>) -> Result<(), AllocError> {
     let tree = Box::new(alloc, Tree::empty(alloc)?)?;
     push_outcome(out, &*Box::new(alloc, action.run(alloc, &tree)?)?)
 }
 
-/// Says whether a copy is the same as its action and not as another one, and whether it only asks.
+/// Says whether a copy is the same as its action and not as another one, and whether it is only a
+/// question.
 fn kind_of(copy: &Action, action: &Action, other: &Action) -> &'static [u8] {
     if !copy.same(action) || copy.same(other) {
         return b"another action, ";

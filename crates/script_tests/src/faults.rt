@@ -47,7 +47,7 @@ fn run_from(
     )
 }
 
-/// A run into the sink ends so, and the sink has taken these bytes then.
+/// A run into the sink ends in this way, and the sink has taken these bytes then.
 fn assert_run(
     rt: &impl Abort,
     alloc: Global,
@@ -73,7 +73,7 @@ fn a_source_may_fail_anywhere(rt: HostRuntime) {
     }
 }
 
-/// A run into the sink fails when it has taken so many bytes.
+/// A run into the sink fails when it has taken this number of bytes.
 fn assert_cut(rt: &impl Abort, alloc: Global, sink: &mut Narrow, sent: usize) {
     let taken = OUTPUT.get(..sent).unwrap_or(&[]);
     let fault = RunFault::WriteFault(sent);
@@ -109,19 +109,22 @@ fn a_run_answers_each_call_and_may_be_held_back(rt: HostRuntime) {
     assert_cut(&rt, rt.alloc(), &mut unflushed, OUTPUT.len());
 }
 
-/// Two links in no order, and the same in byte order of path.
-const LINKS: &[u8] = b"unitadm-inventory 1\nL\t/b\t/x\nL\t/a/c\ty\nend\n";
+/// Two links and a file in no order, and the same in byte order of path.
+const ENTRIES: &[u8] = b"unitadm-inventory 1\nF\t3\t/c\nx y\nL\t/b\t/x\nL\t/a/c\ty\nend\n";
 
-const IN_ORDER: &[u8] = b"unitadm-inventory 1\nL\t/a/c\ty\nL\t/b\t/x\nend\n";
+const IN_ORDER: &[u8] = b"unitadm-inventory 1\nL\t/a/c\ty\nL\t/b\t/x\nF\t3\t/c\nx y\nend\n";
 
-/// The inventory of `LINKS` after some interruptions before each byte, until the source fails.
+/// The inventory of `ENTRIES` after some interruptions before each byte, until the source fails.
 fn read_from(
     alloc: Global,
     until_failure: usize,
     interruptions: u64,
 ) -> Result<Tree, InventoryError> {
     ample!(
-        read_inventory(alloc, &mut Faulty::new(LINKS, until_failure, interruptions)),
+        read_inventory(
+            alloc,
+            &mut Faulty::new(ENTRIES, until_failure, interruptions)
+        ),
         InventoryError::OutOfMemory
     )
 }
@@ -133,21 +136,23 @@ fn fault(alloc: Global, until_failure: usize, interruptions: u64) -> Option<Inve
     }
 }
 
+/// A fault is reported with the number of the entry in which it is, to which the bytes of a file
+/// belong.
 fn assert_faults(rt: &impl Abort, alloc: Global) {
     let mut number = 0;
-    for k in 0..LINKS.len() {
+    for k in 0..ENTRIES.len() {
         assert_eq!(rt;
             fault(alloc, k, 0),
             Some(InventoryError::ReadFault(number)),
             "after {k} bytes"
         );
-        if LINKS.get(k) == Some(&b'\n') {
+        if ENTRIES.get(k) == Some(&b'\n') && !ENTRIES.get(..k).unwrap_or(&[]).ends_with(b"/c") {
             number = number.saturating_add(1);
         }
     }
 }
 
-/// The inventory is written until the sink fails, which has taken so many bytes then.
+/// The inventory is written until the sink fails, which has taken this number of bytes then.
 fn assert_written(rt: &impl Abort, alloc: Global, tree: &Tree, sink: &mut Narrow, sent: usize) {
     let written = ample!(write_inventory(alloc, tree, sink), WriteError::OutOfMemory);
     assert_eq!(rt; written, Err(WriteError::Fault(sent)));
@@ -171,7 +176,7 @@ fn an_inventory_may_be_interrupted_or_held_back(rt: HostRuntime) -> Result<(), F
     let read = fault(rt.alloc(), ALL, most);
     assert_eq!(rt; read, Some(InventoryError::ReadFault(0)));
     let tree = read_from(rt.alloc(), ALL, most - 1)?;
-    assert_eq!(rt; tree.len(), 2);
+    assert_eq!(rt; tree.len(), 3);
     for (at_once, flushes, sent) in [(0, true, 0), (ALL, false, IN_ORDER.len())] {
         let mut sink = Narrow::new(ALL, at_once, flushes);
         assert_written(&rt, rt.alloc(), &tree, &mut sink, sent);

@@ -1,5 +1,6 @@
 //! Tests of `unit_script`, from outside it: with tests of its own it would be proved twice. Those of
-//! failing streams are of `link_tree`'s reader and writer too.
+//! failing streams are of `link_tree`'s reader and writer too, and those of faults of sessions are of
+//! `session_script`.
 #![tactic(auto)]
 
 #[cfg(test)]
@@ -16,6 +17,8 @@ mod plans;
 mod refusals;
 #[cfg(test)]
 mod replies;
+#[cfg(test)]
+mod session_faults;
 #[cfg(test)]
 mod streams;
 #[cfg(test)]

@@ -9,7 +9,7 @@ use unit_script::{Action, Call, ScriptFault, read_script};
 /// More bytes than any of these texts has.
 pub(crate) const ALL: usize = 2000;
 
-/// Whether a word is this one. (A `match` on words is dear: it looks at them byte by byte.)
+/// Whether a word is this one. (A `match` on words is expensive: it compares them byte by byte.)
 pub(crate) fn is(word: &[u8], wanted: &[u8]) -> bool {
     word == wanted
 }

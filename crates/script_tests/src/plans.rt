@@ -69,7 +69,7 @@ const SSH: &[u8] = b"unitadm-inventory 1\n\
     [Install]\nWantedBy=multi-user.target\nAlias=sshd.service\n\n\
     end\n";
 
-/// One event more.
+/// One more event.
 fn add(events: &mut Vec<Event<Action>>, event: Event<Action>) -> Result<(), AllocError>
     requires before { All (HasSlot {O = Action}) events.old.items }
     requires slot { HasSlot event }

@@ -1,4 +1,4 @@
-//! What is said of refusals.
+//! The texts of refusals.
 
 use crate::lines::is;
 use footprint::{Refusal, Subject};
@@ -69,11 +69,16 @@ fn refusal(alloc: Global, row: &Row) -> Result<Refusal, AllocError> {
     of_path(alloc, &row.kind, &row.one)
 }
 
-/// What is said of the copy of a refusal.
+/// The text of the copy of a refusal.
 pub(crate) fn said(alloc: Global, row: &Row) -> Result<Vec<u8>, AllocError> {
     let mut out = Vec::new(alloc);
     let refusal = Box::new(alloc, refusal(alloc, row)?)?;
     let copy = Box::new(alloc, refusal.copy()?)?;
-    push_refusal(&mut out, &copy)?;
+    if push_refusal(&mut out, &copy).is_err() {
+        if !out.is_empty() {
+            return Vec::from_slice(alloc, b"a part was left");
+        }
+        push_refusal(&mut out, &copy)?;
+    }
     Ok(out)
 }

@@ -1,8 +1,10 @@
 //! The lines of changes and rows, and the texts of refusals.
+ghost use Rattle.std.specs.Prelude.{◌≤◌, length};
+ghost use Rattle.history.specs.declared.history.TheConstants.{MAX_ROWS};
 
 use crate::lines::{is, whole_call};
 use crate::refusals;
-use history::{History, MAX_ROWS, Operator, Request};
+use history::{History, MAX_ROWS, Operator, Request, Row as HistoryRow};
 use link_tree::Change;
 use sample_rows::{Row, unlike};
 use sample_values::{file, link, path, tree};
@@ -12,7 +14,7 @@ use std::test::Fail;
 use unit_script::{Action, Call, push_changes, push_rows};
 
 /// The calls of lines on an inventory, and the lines of their rows; a file that is masked, and the
-/// lines of that change; and refusals, and what is said of them.
+/// lines of that change; and refusals, and their texts.
 const ROWS: &[u8] = b"\
     # an empty file is removed, and put back\n\
     calls on e.service\talice unmask e.service\\nalice undo 1\t\t\
@@ -105,7 +107,7 @@ const ROWS: &[u8] = b"\
 
 const EMPTY_FILE: &[u8] = b"unitadm-inventory 1\nF\t0\t/etc/systemd/system/e.service\n\nend\n";
 
-/// A unit with words that ask for nothing, for each reason that a word can have.
+/// A unit with words that are skipped, one for each reason.
 const UNIT: &[u8] = b"unitadm-inventory 1\n\
     L\t/etc/systemd/system/al.service\t/usr/lib/systemd/system/u.service\n\
     L\t/etc/systemd/system/d.service\tgone\n\
@@ -128,7 +130,13 @@ fn mask_of_file(alloc: Global, bytes: &[u8]) -> Result<Box<[Change; 1]>, AllocEr
 /// The text of that change.
 fn text_of_mask(alloc: Global, bytes: &[u8]) -> Result<Vec<u8>, AllocError> {
     let mut out = Vec::new(alloc);
-    push_changes(&mut out, mask_of_file(alloc, bytes)?.as_slice())?;
+    let changes = mask_of_file(alloc, bytes)?;
+    if push_changes(&mut out, changes.as_slice()).is_err() {
+        if !out.is_empty() {
+            return Vec::from_slice(alloc, b"a part was left");
+        }
+        push_changes(&mut out, changes.as_slice())?;
+    }
     Ok(out)
 }
 
@@ -183,6 +191,20 @@ fn make(alloc: Global, history: &mut History<Action>, line: &[u8]) -> Result<u32
     }
 }
 
+/// Appends the lines of all rows. If memory runs out and a part of them is left, a line says so.
+fn push_rows_whole(out: &mut Vec<u8>, rows: &[HistoryRow<Action>]) -> Result<(), AllocError>
+    requires { length rows.now ≤ MAX_ROWS }
+{
+    let before = out.len();
+    if push_rows(out, rows).is_err() {
+        if out.len() != before {
+            out.extend_from_slice(b"a part was left\n")?;
+        }
+        push_rows(out, rows)?;
+    }
+    Ok(())
+}
+
 /// Makes the calls of lines, and adds the lines of all rows.
 fn push_made(
     alloc: Global,
@@ -195,7 +217,7 @@ fn push_made(
     }
     let rows = history.rows();
     if rows.len() <= MAX_ROWS {
-        push_rows(out, rows)?;
+        push_rows_whole(out, rows)?;
     }
     Ok(())
 }

@@ -1,9 +1,9 @@
-//! A source and a sink that fail when they are told to.
+//! A source and a sink that fail at a given point.
 ghost use Rattle.std.specs.Prelude.{None};
 
 use byte_streams::{Counters, Sink, Source, Stop};
 
-/// Gives these bytes, each after so many interruptions, and fails after some of them.
+/// Gives these bytes, each after this number of interruptions, and fails after some of them.
 #[derive(Drop)]
 pub(crate) struct Faulty<'a> {
     left: &'a [u8],
@@ -54,7 +54,7 @@ impl<'a> Source for Faulty<'a> {
     }
 }
 
-/// Takes so many bytes, some at a time, and fails; or takes none, or fails at the end alone.
+/// Takes this number of bytes, some at a time, and fails; or takes none, or fails only at the end.
 #[derive(Drop)]
 pub(crate) struct Narrow {
     taken: [u8; 512],
@@ -84,7 +84,7 @@ impl Narrow {
     }
 }
 
-/// Puts the bytes behind the first `len`, and answers how many there are then.
+/// Puts the bytes after the first `len`, and returns how many there are then.
 fn store(taken: &mut [u8; 512], len: usize, bytes: &[u8]) -> usize {
     let mut len = len;
     for byte in bytes {

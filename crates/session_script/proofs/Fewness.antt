@@ -13,11 +13,11 @@ use Rattle.shared_admin.specs.Sharing.{MayShare, is_among}
 use Rattle.unit_script.specs.declared.call.Call.{Call}
 use Rattle.session_script.specs.Served.{operators_of, AreOfTooMany}
 
--- one is among these
+-- this one is among these
 abbrev pub Among : List (List ℕ) → List ℕ → Type 0
 Among operators operator = is_among operators operator ≡ true
 
--- with one more it is among them still
+-- after adding one, it is still among them
 among_more : (operators : List (List ℕ)) (one operator : List ℕ) → Among operators operator → Among (operators ++ one ∷ []) operator
 among_more [] one operator there = absurd (true≢false (sym there))
 among_more (first ∷ operators) one operator there = elim (cases_Bool (bytes_eq operator first)) [
@@ -25,7 +25,7 @@ among_more (first ∷ operators) one operator there = elim (cases_Bool (bytes_eq
   | inr away ↦ ap (λ b. b || is_among (operators ++ one ∷ []) operator) away ∙ among_more operators one operator (sym (ap (λ b. b || is_among operators operator) away) ∙ there)
 ]
 
--- and so is the one
+-- and so is the added one
 among_last : (operators : List (List ℕ)) (one : List ℕ) → Among (operators ++ one ∷ []) one
 among_last [] one = ap (λ b. b || false) ((bytes_eq-Decides one one).1 refl)
 among_last (first ∷ operators) one = elim (cases_Bool (bytes_eq one first)) [
@@ -37,7 +37,7 @@ all_more : (operators : List (List ℕ)) (one : List ℕ) (some : List (List ℕ
 all_more operators one [] all = All-nil (Among (operators ++ one ∷ []))
 all_more operators one (first ∷ some) all = All-cons (Among (operators ++ one ∷ [])) first some (among_more operators one first (All-head (Among operators) first some all)) (all_more operators one some (All-tail (Among operators) first some all))
 
--- what all of these are among, one of them is among
+-- if all of these are among those, one of them is
 found : (operators some : List (List ℕ)) (operator : List ℕ) → All (Among operators) some → Among some operator → Among operators operator
 found operators [] operator all there = absurd (true≢false (sym there))
 found operators (first ∷ some) operator all there = elim (cases_Bool (bytes_eq operator first)) [
@@ -64,7 +64,7 @@ module _ (calls : List Call) (operators : List (List ℕ)) (call : Call) (before
   own_more : All (Among (operators_of (calls ++ call ∷ []))) operators
   own_more = subst (λ os. All (Among os) operators) (sym (of_more calls call)) (all_more (operators_of calls) call.operator operators before.own)
 
-  -- a call of an operator that has one before
+  -- a call of an operator that has an earlier one
   pub again : Among operators call.operator → AreOf (calls ++ call ∷ []) operators
   again there = record {
     distinct = before.distinct;
@@ -82,7 +82,7 @@ module _ (calls : List Call) (operators : List (List ℕ)) (call : Call) (before
         let P = Among (operators_of (calls ++ call ∷ [])) in
         All-append P operators (call.operator ∷ []) own_more (All-cons P call.operator [] (ap (λ os. is_among os call.operator) (of_more calls call) ∙ among_last (operators_of calls) call.operator) (All-nil P))
 
-    -- a call of another
+    -- a call of another operator
     pub another : length operators < 16 → AreOf (calls ++ call ∷ []) (operators ++ call.operator ∷ [])
     another room =
         let P = Among (operators ++ call.operator ∷ []) in
@@ -108,7 +108,7 @@ module _ (calls : List Call) (operators : List (List ℕ)) (call : Call) (before
     both [] later = refl
     both (first ∷ some) later = ap (λ os. first.operator ∷ os) (both some later)
 
-    -- a call of another, of whom there are sixteen already
+    -- a call of another operator, when there are sixteen already
     pub too_many : (later : List Call) → 16 ≤ length operators → AreOfTooMany ((calls ++ call ∷ []) ++ later)
     too_many later full =
         let more = length-append operators (call.operator ∷ []) in (
@@ -118,13 +118,13 @@ module _ (calls : List Call) (operators : List (List ℕ)) (call : Call) (before
           omega (arith, more, full),
         )
 
--- Distinct operators that are among these are no more than these.
+-- Distinct operators that are among these are at most as many as these.
 pub not_too_many : (calls : List Call) (operators : List (List ℕ)) → AreOf calls operators → ¬ AreOfTooMany calls
 not_too_many calls operators all many =
     let no_more = length-le_from_is_member nat_list_eq_equiv many.0 operators many.1 (λ q there. found operators (operators_of calls) q all.each (found (operators_of calls) many.0 q many.2 there)) in
     omega (arith, no_more, all.few, many.3)
 
--- The same of the calls up to a place.
+-- The same for the calls before an index.
 module _ (calls : List Call) (index : ℕ) (operators : List (List ℕ)) (call : Call) (is : call ≡ get_or calls index call) (within : index < length calls) (before : AreOf (take index calls) operators) where
   one_taken : take (index + 1) calls ≡ take index calls ++ call ∷ []
   one_taken = take_more calls index call within ∙ ap (λ c. take index calls ++ c ∷ []) (sym is)

@@ -1,4 +1,5 @@
--- Rows of sessions that were fed with calls: each operator's are of its calls, also of one that has none.
+-- Rows of sessions that served calls: each operator's rows are those of its calls, even if it has
+-- none.
 use Rattle.std.proofs.Common.{◌≡◌, ℕ, ◌+◌, Bool, true, false, ◌||◌, List, [], ◌∷◌, ◌++◌, map, All, refl, sym, ap, subst, ◌∙◌, cond, inl, inr}
 use Rattle.std.specs.Prelude.{IsTrue}
 use Rattle.std.specs.Str.{bytes_eq}
@@ -18,7 +19,7 @@ use Rattle.unit_script.specs.declared.action.Action.{Action}
 use Rattle.unit_script.specs.declared.call.Call.{Call}
 use Rattle.session_script.specs.Served.{operators_of, asks_of}
 
--- what is so of each operator is so of one that is among them
+-- what holds for each operator holds for one of them
 of_one : (P : List ℕ → Type 0) (operators : List (List ℕ)) (operator : List ℕ) → is_among operators operator ≡ true → All P operators → P operator
 of_one P [] operator there all = absurd (true≢false (sym there))
 of_one P (first ∷ operators) operator there all = elim (cases_Bool (bytes_eq operator first)) [
@@ -53,14 +54,14 @@ each_own tree operators asks history logs own fed operator = elim (cases_Bool (i
   | inr off ↦ ap (map (λ row. row.1.request)) (no_rows operators operator off history.rows 1 fed.closed.no_other_row) ∙ sym (none_asked operators operator off asks own)
 ]
 
--- the requests of calls are of the operators of the calls
+-- the requests of calls belong to the operators of the calls
 pub asks_are_of : (operators : List (List ℕ)) (calls : List Call) → All (λ operator. IsTrue (is_among operators operator)) (operators_of calls) → AreOf operators (asks_of calls)
 asks_are_of operators [] all = All-nil (λ (ask : Ask Action). IsTrue (is_among operators ask.operator))
 asks_are_of operators (call ∷ calls) all =
     let P : List ℕ → Type 0 = (λ operator. IsTrue (is_among operators operator)) in
     All-cons (λ (ask : Ask Action). IsTrue (is_among operators ask.operator)) (record { operator = call.operator; request = call.request }) (asks_of calls) (All-head P call.operator (operators_of calls) all) (asks_are_of operators calls (All-tail P call.operator (operators_of calls) all))
 
--- with one call more
+-- with one more call
 pub one_asked : (calls : List Call) (call : Call) → asks_of (calls ++ call ∷ []) ≡ asks_of calls ++ record { operator = call.operator; request = call.request } ∷ []
 one_asked [] call = refl
 one_asked (first ∷ calls) call = ap (λ asks. record { operator = first.operator; request = first.request } ∷ asks) (one_asked calls call)

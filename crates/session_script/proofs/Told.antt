@@ -1,4 +1,4 @@
--- What faults say, step by step.
+-- What errors mean, step by step.
 use Rattle.std.proofs.Common.{◌≡◌, ℕ, List, Option, Result, Ok, Err, subst, arith}
 use Rattle.std.specs.Prelude.{IfOk, IfErr}
 use Rattle.byte_streams.specs.Streams.{StopsIn}
@@ -36,7 +36,7 @@ never_full_calls : (tree : Entries) (read : Result (List Call) ScriptFault) → 
 never_full_calls tree (Err e) is = cc
 never_full_calls tree (Ok calls) is = cc
 
--- that there are too many calls is no fault of reading
+-- too many calls are not an error of reading
 never_full : (read : Result (Entries × List ℕ) (InventoryFault × ℕ)) → (in_inventory read >>= λ found. in_script (script_of found.1) >>= read_both found.0) ≡ Err inputs.Full → ⊥
 never_full (Err e) is = cc
 never_full (Ok found) is = never_full_calls found.0 (script_of found.1) is
@@ -51,7 +51,7 @@ of_input (errors.InventoryRead n) input is = tt
 of_input errors.ReadFault input is = tt
 of_input errors.OutOfMemory input is = tt
 
--- a fault of serving the calls of an input
+-- an error of serving the calls of an input
 pub of_calls : (tree : Entries) (calls : List Call) (given : Result (Entries × List Call) InputFault) → given ≡ Ok (tree, calls) → (fault : SessionsFault) → ServeFault calls fault → InputFaultOf fault given
 of_calls tree calls given is faults.TooManySessions why = (tree, calls, is, why)
 of_calls tree calls given is faults.NoWorker why = (tree, calls, is, why)
@@ -65,7 +65,7 @@ of_calls tree calls given is (faults.Run (runs.WriteFault n)) why = absurd why
 of_calls tree calls given is (faults.Run (runs.InventoryRead n)) why = absurd why
 of_calls tree calls given is (faults.Run runs.ReadFault) why = absurd why
 
--- a fault of what the desk fed
+-- an error of a run of sessions
 pub of_desk : (calls : List Call) (operators : List (List ℕ)) → MayShare operators → (¬ AreOfTooMany calls) → (e : RunError (Log Action) (List (SessionLog Action))) → IsRunError operators e → ServeFault calls (fault_of e)
 of_desk calls operators share few desks.TooManySessions why = absurd (omega (arith, share.0, why))
 of_desk calls operators share few desks.SameOperator why = absurd (why.1 share.1)
@@ -74,7 +74,7 @@ of_desk calls operators share few desks.Full why = few
 of_desk calls operators share few desks.OutOfMemory why = tt
 of_desk calls operators share few (desks.Close left) why = few
 
--- before anything is written a fault is the input's
+-- before anything is written, an error is the input's
 pub unsent : (fault : SessionsFault) (old new : Option (List ℕ)) (given : Result (Entries × List Call) InputFault) → InputFaultOf fault given → SessionsFaultOf fault old new given
 unsent faults.TooManySessions old new given why = why
 unsent faults.NoWorker old new given why = why
@@ -96,6 +96,6 @@ pub if_err : {A E : Type 0} {P Q : E → Type 0} (r : Result A E) → IfErr r P 
 if_err (Ok x) p f = tt
 if_err (Err e) p f = f e p
 
--- what a write fault says of the text
+-- what a write fault means for the text
 pub sent_before : (r : Result (Unit {0}) WriteError) (n : ℕ) (old new : Option (List ℕ)) (text : List ℕ) → r ≡ Err (writes.Fault n) → IfErr r (λ e. SentBefore e old new text) → StopsIn old new text n
 sent_before r n old new text is fault = subst (λ (r : Result (Unit {0}) WriteError). IfErr r (λ e. SentBefore e old new text)) is fault

@@ -1,4 +1,4 @@
--- What a run with sessions writes for an input, and what its faults say.
+-- What a run with sessions writes for an input, and what its errors mean.
 use Rattle.std.specs.Prelude.{◌≡◌, ℕ, ◌<◌, List, [], ◌∷◌, length, map, All, IsTrue, Option, Result, Ok, Err}
 use Rattle.std.specs.List.{IsDistinct}
 use Rattle.std.specs.Str.{bytes_eq}
@@ -33,12 +33,13 @@ use Rattle.session_script.specs.declared.fault.SessionsFault.TheVariants as faul
 abbrev pub operators_of : List Call → List (List ℕ)
 operators_of = map (λ call. call.operator)
 
--- what calls ask for, as sessions are fed with it
+-- the requests of calls, in the form in which they are passed to sessions
 abbrev pub asks_of : List Call → List (Ask Action)
 asks_of = map (λ call. record { operator = call.operator; request = call.request })
 
--- Rows of calls whose operators worked side by side: they are what one thread makes on the tree of the rows' own requests, in their order; and
--- each operator's rows are of its calls, in their order, and of no others.
+-- Rows of calls whose operators worked concurrently: they are what one thread makes on the tree
+-- from the rows' own requests, in their order; and each operator's rows are exactly those of its
+-- calls, in their order.
 pub record AreServed (tree : Entries) (calls : List Call) (rows : List (Row Action)) : Type 0 where
   pub legal : rows ≡ histories.run asks meaning tree [] (histories.calls_of rows)
   pub own : (operator : List ℕ) → requests_in rows operator ≡ asked operator (asks_of calls)
@@ -55,7 +56,7 @@ pub record IsServedHistory (given : Result (Entries × List Call) InputFault) (h
   pub first : history.first ≡ tree
   pub served : AreServed tree calls history.rows
 
--- The text of a history of the input's calls: its rows, and the inventory of the tree that they leave.
+-- The text of a history of the input's calls: its rows, and the inventory of the resulting tree.
 abbrev pub HasServed : Result (Entries × List Call) InputFault → (List ℕ → Type 0) → Type 0
 HasServed given Text = (history : Log Action) × IsServedHistory given history × Text (text_of history.first history.rows)
 
@@ -63,7 +64,7 @@ HasServed given Text = (history : Log Action) × IsServedHistory given history �
 abbrev pub IsOfFew : Result (Entries × List Call) InputFault → Type 0
 IsOfFew given = (tree : Entries) × (calls : List Call) × (given ≡ Ok (tree, calls)) × (¬ AreOfTooMany calls)
 
--- What a fault says of the input. Faults of the input come first, then that there are too many operators.
+-- What an error means for the input. Faults of the input come first, then too many operators.
 abbrev pub InputFaultOf : SessionsFault → Result (Entries × List Call) InputFault → Type 0
 InputFaultOf (faults.Run (runs.Inventory fault n)) given = given ≡ Err (inputs.Inventory fault n)
 InputFaultOf (faults.Run runs.NoCalls) given = given ≡ Err (inputs.Script NoCalls)
@@ -77,27 +78,27 @@ InputFaultOf faults.TooManySessions given = (tree : Entries) × (calls : List Ca
 InputFaultOf faults.NoWorker given = IsOfFew given
 InputFaultOf (faults.Close fault) given = IsOfFew given
 
--- The same, and that of a write fault just so many bytes of the text were written.
+-- The same; and on a write fault exactly the reported number of bytes of the text were written.
 abbrev pub SessionsFaultOf : SessionsFault → (old new : Option (List ℕ)) → Result (Entries × List Call) InputFault → Type 0
 SessionsFaultOf (faults.Run (runs.WriteFault n)) old new given = HasServed given (λ text. StopsIn old new text n)
 SessionsFaultOf fault old new given = InputFaultOf fault given
 
--- With any other fault than one of the sink, nothing was written.
+-- On any error other than a write fault, nothing was written.
 abbrev pub IsSilent : SessionsFault → (old new : Option (List ℕ)) → Type 0
 IsSilent (faults.Run (runs.WriteFault n)) old new = Unit {0}
 IsSilent fault old new = Keeps old new
 
--- How far the input was read at a read fault.
+-- How far the input was read when a read fault occurred.
 abbrev pub SessionsStops : SessionsFault → (old new : Option (List ℕ)) → Type 0
 SessionsStops (faults.Run fault) old new = RunStops fault old new
 SessionsStops other old new = Unit {0}
 
--- A read or write fault stands only where the source or sink failed, or was interrupted too often.
+-- A read or write fault occurs only if the source or sink failed, or was interrupted too often.
 abbrev pub SessionsCause : SessionsFault → (source_old source_new sink_old sink_new : Counters) → Type 0
 SessionsCause (faults.Run fault) source_old source_new sink_old sink_new = FaultCause fault source_old source_new sink_old sink_new
 SessionsCause other source_old source_new sink_old sink_new = Unit {0}
 
--- for the proofs: what a fault says of the calls, once they were read
+-- for the proofs: what an error means for the calls, after they were read
 abbrev pub ServeFault : List Call → SessionsFault → Type 0
 ServeFault calls faults.TooManySessions = AreOfTooMany calls
 ServeFault calls faults.NoWorker = ¬ AreOfTooMany calls
@@ -111,7 +112,7 @@ ServeFault calls (faults.Run (runs.WriteFault n)) = ⊥
 ServeFault calls (faults.Run (runs.InventoryRead n)) = ⊥
 ServeFault calls (faults.Run runs.ReadFault) = ⊥
 
--- the fault of a run whose sessions didn't come to a closed end
+-- the error of a run whose sessions didn't complete or could not be closed
 abbrev pub fault_of : RunError (Log Action) (List (SessionLog Action)) → SessionsFault
 fault_of errors.TooManySessions = faults.TooManySessions
 fault_of errors.SameOperator = faults.TooManySessions

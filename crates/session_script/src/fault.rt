@@ -7,20 +7,20 @@ use std::fmt;
 use std::fmt::{Display, Formatter, Write};
 use unit_script::RunFault;
 
-/// Why a run with sessions failed. Its text is what the program says.
+/// Why a run with sessions failed. Its text is the program's message.
 #[derive(Clone, Copy, Debug)]
 pub enum SessionsFault {
-    /// As a run without sessions.
+    /// An error of a run without sessions.
     Run(RunFault),
     /// The script has calls of more than sixteen operators.
     TooManySessions,
-    /// The system started no thread for an operator.
+    /// The system could not start a thread for an operator.
     NoWorker,
-    /// What the sessions were told isn't what the history says: nothing of it was written.
+    /// The replies that sessions received don't match the history: none of the output was written.
     Close(CloseFault),
 }
 
-/// An operator's name, for people.
+/// An operator's name, as it is displayed.
 fn name_of(operator: &Operator) -> &str {
     str::from_utf8(operator.text()).unwrap_or("?")
 }

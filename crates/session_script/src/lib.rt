@@ -1,4 +1,4 @@
-//! Scripts whose operators work side by side, each in a session with a thread of its own.
+//! Scripts whose operators work concurrently, each in a session with a thread of its own.
 #![tactic(auto)]
 
 mod fault;

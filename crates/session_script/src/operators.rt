@@ -1,4 +1,4 @@
-//! Whose calls a script has.
+//! The operators of a script's calls.
 ghost use Rattle.std.specs.Prelude.{◌≡◌, ◌<◌, ◌++◌, ◌∷◌, [], All, IsTrue, IfOk, IfErr, OnOk, length};
 ghost use Rattle.std.specs.List.{IsDistinct};
 ghost use Rattle.std.specs.Str.{bytes_eq};
@@ -20,7 +20,7 @@ fn is_among(operators: &[Operator], operator: &Operator) -> bool
     operators.iter().any(|one| operator.text() == one.text())
 }
 
-/// Adds an operator, where there are fewer than sixteen. Takes no memory.
+/// Adds an operator, if there are fewer than sixteen. Allocates no memory.
 fn add(operators: &mut Operators, operator: Operator)
     requires { length operators.old < 16 }
     ensures { operators.new ≡ operators.old ++ operator ∷ [] }
@@ -31,7 +31,7 @@ fn add(operators: &mut Operators, operator: Operator)
     }
 }
 
-/// The operators of calls, each once, in the order of their first calls. Takes no memory.
+/// The operators of calls, each once, in the order of their first calls. Allocates no memory.
 pub(crate) fn operators_of(alloc: Global, calls: &[Call]) -> Result<Operators, TooMany>
     ensures all { IfOk result (λ operators. All (λ operator. IsTrue (is_among operators operator)) (operators_of calls.now)) }
     ensures share { IfOk result (λ operators. MayShare operators) }

@@ -1,4 +1,4 @@
-//! A run with sessions: from an inventory and a script to the replies and the inventory that is left.
+//! A run with sessions: from an inventory and a script to the replies and the resulting inventory.
 ghost use Rattle.std.specs.Prelude.{◌≡◌, ℕ, List, Option, Some, true, OnOk, IfOk, IfErr};
 ghost use Rattle.std.specs.Io.KnownBytes.{Appends, Keeps};
 ghost use Rattle.byte_streams.specs.declared.counters.Counters.{Counters};
@@ -18,14 +18,14 @@ use std::sync::Wait;
 use std::thread::Threads;
 use unit_script::{Action, Call, Input, RunFault, read_input, write_history};
 
-/// Holds no session up between a plan and its commit.
+/// Pauses no session between a plan and its commit.
 struct OpenGate;
 
 impl Gate for OpenGate {
     fn between(&self, _operator: Operator, _call: u64, _attempt: u8) {}
 }
 
-/// What calls ask for, as sessions are fed with it.
+/// The requests of calls, in the form in which they are passed to sessions.
 fn asks_of(alloc: Global, calls: Vec<Call>) -> Result<Asks<Action>, AllocError>
     ensures { IfOk result (λ asks. asks ≡ asks_of calls.items) }
 {
@@ -37,7 +37,7 @@ fn asks_of(alloc: Global, calls: Vec<Call>) -> Result<Asks<Action>, AllocError>
     Ok(asks)
 }
 
-/// The fault of a run whose sessions didn't come to a closed end.
+/// The error of a run whose sessions didn't complete or could not be closed.
 fn fault_of(e: RunError<History<Action>, SessionLogs<Action>>) -> SessionsFault
     ensures { result ≡ fault_of e }
 {
@@ -50,7 +50,7 @@ fn fault_of(e: RunError<History<Action>, SessionLogs<Action>>) -> SessionsFault
     }
 }
 
-/// The history of calls on a tree, for each operator in a session of its own.
+/// The history of calls on a tree, made in one session for each operator.
 pub(crate) fn serve<R: Threads + Wait + Sync>(
     rt: &R,
     alloc: Global,
@@ -65,7 +65,7 @@ pub(crate) fn serve<R: Threads + Wait + Sync>(
         Ok(operators) => operators,
         Err(TooMany) => return Err(SessionsFault::TooManySessions),
     };
-    // Each call makes a row, so that nothing need be tried.
+    // Each call makes a row, so nothing needs to be checked first.
     if calls.len() > MAX_ROWS {
         return Err(SessionsFault::Run(RunFault::Full));
     }
@@ -78,7 +78,7 @@ pub(crate) fn serve<R: Threads + Wait + Sync>(
     }
 }
 
-/// Reads the whole input, and serves its calls.
+/// Reads the whole input, and makes its calls.
 fn serve_input<R: Threads + Wait + Sync, S: Source>(
     rt: &R,
     alloc: Global,
@@ -95,24 +95,27 @@ fn serve_input<R: Threads + Wait + Sync, S: Source>(
     }
 }
 
-/// Does what [`unit_script::run`] does, but that each operator's calls are made in a session with a thread of its own, side by side with those of
-/// the others. Each operator's calls are made in their order; between operators any order may come, and the rows are written in the order in
-/// which they were made. systemctl(1), "Unit File Commands".
+/// Does what [`unit_script::run`] does, except that each operator's calls are made in a session
+/// with a thread of its own, concurrently with those of the others. Each operator's calls are made
+/// in their order; between operators the order is arbitrary, and the rows are written in the order
+/// in which they were made. systemctl(1), "Unit File Commands".
 ///
-/// There may be sixteen operators. All lines are read before the first call is made, and the output is written as `run` writes it.
+/// There may be at most sixteen operators. All lines are read before the first call is made, and
+/// the output is written as `run` writes it.
 ///
 /// # Errors
 ///
 /// The first of these:
 ///
-/// - `Run`, with a fault of the input as `run` tells it, but for `Full`.
-/// - `TooManySessions`: calls of more than sixteen operators.
-/// - `NoWorker`: the system started no thread. No call of its operator was made.
+/// - `Run`, with any fault of the input that `run` reports except `Full`.
+/// - `TooManySessions`: the script has calls of more than sixteen operators.
+/// - `NoWorker`: the system could not start a thread. No call of its operator was made.
 /// - `Run(Full)`: the script has over 1,000,000 calls.
-/// - `Close`: what the sessions were told isn't what the history says, so that it isn't known what they did. Nothing was written.
-/// - `Run(WriteFault)`: as `run` tells it.
+/// - `Close`: the replies that sessions received don't match the history, so what they did is
+///   unknown. Nothing was written.
+/// - `Run(WriteFault)`: as `run` reports it.
 ///
-/// `Run(OutOfMemory)` may come before any of them but `WriteFault`; nothing was written then.
+/// `Run(OutOfMemory)` may occur before any of them but `WriteFault`; nothing was written then.
 pub fn run_with_sessions<R, S, K>(
     rt: &R,
     alloc: Global,
@@ -132,7 +135,7 @@ where
 {
     let history = serve_input(rt, alloc, source)?;
     let written = write_history(alloc, &history, sink);
-    // The process gives its memory back whole, as after a run on one thread.
+    // The process frees its memory when it ends, as after a run on one thread.
     forget(history);
     match written {
         Ok(()) => Ok(()),

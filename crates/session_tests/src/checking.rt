@@ -1,4 +1,4 @@
-//! What is said of a run in which a log isn't of what was asked for.
+//! What is reported for a run in which a log doesn't match what was asked for.
 
 use crate::scripts::{asks, push_fault};
 use crate::serving::{session_told, shared};
@@ -9,7 +9,7 @@ use shared_admin::{SessionLogs, SharedAdmin, Unclosed};
 use std::alloc::{AllocError, Global};
 use std::sync::Wait;
 
-/// A desk, which has a job of alice's without an answer, if that is wanted.
+/// A desk, which has a job of alice's without an answer, if `with_job`.
 fn desk(alloc: Global, with_job: bool) -> Result<Desk, AllocError> {
     let mut desk = Desk::new(alloc);
     if with_job {
@@ -31,7 +31,7 @@ fn fed(alloc: Global, session: Box<Session<Step>>, desk: Desk) -> Result<Fed<Ste
     })
 }
 
-/// What a close answers.
+/// What a close returns.
 pub(crate) type Closed = Result<
     (History<Step>, SessionLogs<Step>),
     Unclosed<History<Step>, SessionLogs<Step>>,
@@ -45,8 +45,8 @@ pub(crate) fn push_closed(out: &mut Vec<u8>, closed: &Closed) -> Result<(), Allo
     }
 }
 
-/// What closing answers to a session of alice's, in which she put a file at the slot of a and undid
-/// that, if she had asked for what a script says; the desk may have a job left.
+/// What closing returns for a session of alice's, in which she put a file at the slot of a and
+/// undid that, if she had asked for what a script says; the desk may have a job left.
 fn closed(
     rt: &impl Wait,
     alloc: Global,

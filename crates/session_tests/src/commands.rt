@@ -17,6 +17,28 @@ use std::sync::Wait;
 use std::thread::Threads;
 use unit_script::{Action, Call, push_refusal, read_script};
 
+/// Alice enables a unit; bob masks it, and asks for its state.
+pub(crate) const OF_ONE_UNIT: &[u8] = b"\
+    alice enable ssh.service\n\
+    #\n\
+    bob mask ssh.service\n\
+    bob is-enabled ssh.service\n";
+
+/// Bob masks another unit, asks for the state of alice's unit before she commits, and for that of
+/// his before she does or after it.
+pub(crate) const OF_TWO_UNITS: &[u8] = b"\
+    alice enable ssh.service\n\
+    #\n\
+    bob mask x.service\n\
+    bob is-enabled ssh.service\n\
+    bob is-enabled x.service\n";
+
+/// The inventory of one unit.
+pub(crate) const SSH: &[u8] = b"unitadm-inventory 1\n\
+    F\t56\t/usr/lib/systemd/system/ssh.service\n\
+    [Install]\nWantedBy=multi-user.target\nAlias=sshd.service\n\n\
+    end\n";
+
 /// The calls of lines.
 fn calls(alloc: Global, lines: &[u8]) -> Result<Vec<Call>, AllocError> {
     let mut script = Vec::new(alloc);
@@ -116,6 +138,7 @@ fn push_answer(out: &mut Vec<u8>, reply: &RowReply) -> Result<(), AllocError> {
         RowReply::Answered(Answer::State(StateWord::Disabled)) => {
             out.extend_from_slice(b"disabled")
         }
+        RowReply::Answered(Answer::State(StateWord::Enabled)) => out.extend_from_slice(b"enabled"),
         _ => out.extend_from_slice(b"another answer"),
     }
 }

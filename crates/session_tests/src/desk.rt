@@ -4,7 +4,7 @@
 //! |---|---|---|
 //! | `issue:bob` | a job is issued to bob | `job:1`; `closed` |
 //! | `answer:1:bob` | bob answers job 1 | `taken`, `unknown`, `double` |
-//! | `open` | it is asked how many jobs have no answer | `open:2` |
+//! | `open` | the jobs without an answer are counted | `open:2` |
 //! | `shut` | the desk is shut | `shut` |
 
 use history::{Request, RowReply};
@@ -39,7 +39,7 @@ fn answer_of(alloc: Global, word: &[u8]) -> Result<Box<Answered>, AllocError> {
     Ok(Box::new(alloc, answer)?)
 }
 
-fn text_of(accepted: Result<(), AcceptError>) -> &'static [u8] {
+pub(crate) fn text_of(accepted: Result<(), AcceptError>) -> &'static [u8] {
     match accepted {
         Ok(()) => b"taken",
         Err(AcceptError::UnknownJob) => b"unknown",

@@ -15,6 +15,8 @@ use std::thread::Threads;
 use std::time::{Clock, Duration};
 
 mod commands;
+mod filling;
+mod starting;
 mod waiting;
 
 /// Holds alice's first call up until bob's call of this number comes, and bob's first until alice's

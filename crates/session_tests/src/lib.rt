@@ -8,6 +8,8 @@ mod commands;
 #[cfg(test)]
 mod desk;
 #[cfg(test)]
+mod keeping;
+#[cfg(test)]
 mod large;
 #[cfg(test)]
 mod running;

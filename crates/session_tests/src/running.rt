@@ -1,4 +1,4 @@
-//! Runs of sessions in threads of their own, whose end doesn't depend on which comes first.
+//! Runs of sessions in threads of their own, whose result doesn't depend on which comes first.
 
 use crate::scripts::{Open, Ran, asks, operators, push_run, works};
 use link_tree::Tree;
@@ -28,7 +28,7 @@ const ROWS: &[u8] = b"\
     ";
 
 /// Runs works on an empty tree.
-fn ran<R: Threads + Wait + Sync, G: Gate + Sync>(
+pub(crate) fn ran<R: Threads + Wait + Sync, G: Gate + Sync>(
     rt: &R,
     alloc: Global,
     script: &[u8],
@@ -55,7 +55,7 @@ pub(crate) fn text_of_run<R: Threads + Wait + Sync, G: Gate + Sync>(
 pub(crate) type Feed<'a> = (&'a [u8], &'a [u8], usize);
 
 /// Feeds operators, on an empty tree.
-fn fed<R: Threads + Wait + Sync, G: Gate + Sync>(
+pub(crate) fn fed<R: Threads + Wait + Sync, G: Gate + Sync>(
     rt: &R,
     alloc: Global,
     (names, script, times): Feed<'_>,

@@ -8,7 +8,7 @@ use link_tree::{Tree, push_decimal};
 use sample_rows::{Row, unlike};
 use sample_steps::{Step, is, number, operator, push_numbered, push_reply, request, step};
 use sessions::{Gate, Session, Unserved};
-use shared_admin::{SessionLogs, SharedAdmin};
+use shared_admin::{LogEntry, SessionLogs, SharedAdmin};
 use std::alloc::{AllocError, Global};
 use std::str;
 use std::sync::Wait;
@@ -16,11 +16,12 @@ use std::sync::atomic::{AtomicU64, Ordering};
 use std::test::Fail;
 use unit_name::ample;
 
-/// What a desk says to words. What closing says of alice's session, in which she put a file at the
-/// slot of a and undid that, if this is what she had asked for. What her last entry says: if bob
-/// meddles with each plan of hers; after the requests of a script, with two digits for each call of
-/// the gate, which are the request and the attempt; after requests of which some find the history
-/// full; or if she had seen this many rows before she put a file at the slot of a and undid that.
+/// What a desk says to words. What closing returns for alice's session, in which she put a file at
+/// the slot of a and undid that, if this is what she had asked for. What her last entry says: if
+/// bob meddles with each plan of hers; after the requests of a script, with two digits for each
+/// call of the gate, which are the request and the attempt; after requests of which some find the
+/// history full; or if she had seen this many rows before she put a file at the slot of a and undid
+/// that.
 const ROWS: &[u8] = b"\
     # answers to no job, to one of another operator's, and for the second time aren't taken\n\
     desk\tissue:bob issue:alice open answer:0:bob answer:3:bob answer:1:alice answer:1:bob open \
@@ -89,15 +90,20 @@ struct Meddler<'a, R: Wait> {
     seen: &'a AtomicU64,
 }
 
-/// Notes each call of the gate, in two digits: the session's call and the attempt.
+/// Notes each call of the gate, in two digits: the session's call and the attempt; or 99 if it
+/// isn't alice's.
 #[derive(Drop)]
-struct Watcher<'a> {
-    seen: &'a AtomicU64,
+pub(crate) struct Watcher<'a> {
+    pub(crate) seen: &'a AtomicU64,
 }
 
 impl<'a> Gate for Watcher<'a> {
-    fn between(&self, _operator: Operator, call: u64, attempt: u8) {
-        let digits = call.wrapping_mul(10).wrapping_add(u64::from(attempt));
+    fn between(&self, operator: Operator, call: u64, attempt: u8) {
+        let digits = if is(operator.text(), b"alice") {
+            call.wrapping_mul(10).wrapping_add(u64::from(attempt))
+        } else {
+            99
+        };
         let seen = self.seen.load(Ordering::SeqCst).wrapping_mul(100);
         self.seen.store(seen.wrapping_add(digits), Ordering::SeqCst);
     }
@@ -145,19 +151,24 @@ fn call<R: Wait, G: Gate>(
     }
 }
 
-/// Adds the row of the last call, how many rows had been seen before, and the reply.
-fn push_last(out: &mut Vec<u8>, session: &Session<Step>) -> Result<(), AllocError> {
-    let Some(last) = session.entries().last() else {
-        return out.extend_from_slice(b"no-entry");
-    };
-    push_numbered(out, b"row", last.row)?;
-    push_numbered(out, b":seen", last.seen)?;
+/// Adds the row of a call, how many rows had been seen before, and the reply.
+pub(crate) fn push_entry(out: &mut Vec<u8>, entry: &LogEntry<Step>) -> Result<(), AllocError> {
+    push_numbered(out, b"row", entry.row)?;
+    push_numbered(out, b":seen", entry.seen)?;
     out.extend_from_slice(b":")?;
-    push_reply(out, &last.reply)
+    push_reply(out, &entry.reply)
+}
+
+/// Adds what the entry of the last call says.
+fn push_last(out: &mut Vec<u8>, session: &Session<Step>) -> Result<(), AllocError> {
+    match session.entries().last() {
+        Some(last) => push_entry(out, last),
+        None => out.extend_from_slice(b"no-entry"),
+    }
 }
 
 /// The session of an operator.
-fn opened(alloc: Global, name: &[u8]) -> Result<Box<Session<Step>>, AllocError> {
+pub(crate) fn opened(alloc: Global, name: &[u8]) -> Result<Box<Session<Step>>, AllocError> {
     Ok(Box::new(alloc, Session::open(alloc, operator(name)?))?)
 }
 
@@ -261,7 +272,7 @@ fn push_unserved(
     }
 }
 
-/// Adds what a call of a session answers: that it was served, or why it wasn't.
+/// Adds the result of a call of a session: that it was served, or why it wasn't.
 fn push_call(
     rt: &impl Wait,
     alloc: Global,
@@ -277,7 +288,7 @@ fn push_call(
     out.extend_from_slice(b" ")
 }
 
-/// Adds what the requests of a script answer on a history with at most this many rows, what the
+/// Adds the results of the requests of a script on a history with at most this many rows, what the
 /// last entry says, and how many entries and rows there are.
 fn push_limited(
     rt: &impl Wait,
@@ -314,8 +325,8 @@ pub(crate) fn session_told(
     Ok(session)
 }
 
-/// What closing answers to the log of one session.
-fn closed(
+/// What closing returns for the log of one session.
+pub(crate) fn closed(
     alloc: Global,
     admin: Box<SharedAdmin<Step>>,
     session: Box<Session<Step>>,
@@ -326,7 +337,7 @@ fn closed(
 }
 
 /// Adds what the second entry says of a session that had seen this many rows, and what closing
-/// answers.
+/// returns.
 fn push_told(
     rt: &impl Wait,
     alloc: Global,

@@ -1,4 +1,5 @@
--- The entries of logs that tell the rows of a history can be counted as its rows are.
+-- If logs match the rows of a history, the number of their entries fits, as the number of rows
+-- does.
 use Rattle.std.proofs.Common.{◌≡◌, ℕ, suc, ◌+◌, ◌≤◌, true, false, ◌||◌, List, [], ◌∷◌, All, length, refl, sym, ap, subst, ◌∙◌, cond, inl, inr, arith}
 use Rattle.std.specs.List.{IsDistinct, AllByRecursion}
 use Rattle.std.specs.Str.{bytes_eq}
@@ -50,7 +51,7 @@ module _ {O : Type 0} where
         All-cons (λ log. AreFew logs log.operator) log some (of_one operators log.operator (All-head (λ log. is_among operators log.operator ≡ true) log some known) told)
         (of_each operators some (All-tail (λ log. is_among operators log.operator ≡ true) log some known) told)
 
-  -- without a log, the others' entries are the same
+  -- without one log, the other logs' entries are the same
   without : (log : SessionLog O) (logs some : List (SessionLog O)) → AllByRecursion (λ other. bytes_eq log.operator other ≡ false) (operators_of some)
       → All (λ one. length (entries_of (log ∷ logs) one.operator) ≤ 1000000) some → All (λ one. length (entries_of logs one.operator) ≤ 1000000) some
   without log logs [] away few = All-nil (λ one. length (entries_of logs one.operator) ≤ 1000000)

@@ -1,4 +1,4 @@
--- What was asked for, and what the logs tell of it.
+-- Operators' requests, and how the logs match them.
 use Rattle.std.proofs.Common.{◌≡◌, ℕ, zero, suc, ◌+◌, ◌-◌, ◌<◌, ◌≤◌, true, false, ◌||◌, List, [], ◌∷◌, ◌++◌, All, Some, length, take, drop, get_or, refl, sym, ap, subst, ◌∙◌, cond, inl, inr, arith, append_assoc, append-nil, length-append}
 use Rattle.std.specs.Prelude.{◌≢◌, slice_get}
 use Rattle.std.specs.Str.{bytes_eq}
@@ -36,7 +36,7 @@ last_is xs all x y is at = at ∙ ap (λ (ys : List _). get_or ys (length ys - 1
     behind [] = refl
     behind (f ∷ front) = behind front
 
--- A desk that has issued a job isn't shut.
+-- A desk that has issued a job isn't closed.
 pub is_open : (new : Jobs) (issued : List Issued) → new ≡ record { issued = issued; is_shut = false } → new.is_shut ≡ false
 is_open new issued is = ap (λ (jobs : Jobs). jobs.is_shut) is
 
@@ -74,7 +74,7 @@ module _ {A : Type 0} where
   one_there (x ∷ xs) (suc k) h none = one_there xs k (omega arith) none
 
 module _ {O : Type 0} where
-  -- where two lists differ behind a front that is the same, they differ there first
+  -- two lists that differ after an equal beginning differ there first
   differs : (requests wanted rest : List (Request O)) (place : ℕ) → place ≤ length requests → wanted ≡ take place requests ++ rest → (slice_get requests place ≢ slice_get rest 0) → DiffersFirstAt (place + 1) requests wanted
   differs requests wanted rest place within is off =
       let on : suc place ≡ place + 1 = omega arith in
@@ -83,22 +83,22 @@ module _ {O : Type 0} where
         (λ same. off (same ∙ ap (λ all. slice_get all place) is ∙ behind_front requests rest place within)),
       )
 
-  -- lists that differ at a place aren't the same
+  -- lists that differ at a position aren't equal
   pub apart : (place : ℕ) (requests wanted : List (Request O)) → DiffersFirstAt place requests wanted → requests ≡ wanted → ⊥
   apart zero requests wanted differ same = differ
   apart (suc i) requests wanted differ same = differ.1 (ap (λ all. slice_get all i) same)
 
-  -- those that are left, without the next
+  -- the remaining requests without the next
   pub left_of : (operators : List (List ℕ)) (items : List (Ask O)) (ask : Ask O) (rest : List (Ask O)) → items ≡ ask ∷ rest → AreOf operators items → AreOf operators rest
   left_of operators items ask rest step all =
       All-tail (λ (ask : Ask O). is_among operators ask.operator ≡ true) ask rest (subst (λ (asks : List (Ask O)). AreOf operators asks) step all)
 
-  -- the next of those that are left
+  -- the next of the remaining requests
   pub next_is_of : (operators : List (List ℕ)) (items : List (Ask O)) (ask : Ask O) (rest : List (Ask O)) → items ≡ ask ∷ rest → AreOf operators items → is_among operators ask.operator ≡ true
   next_is_of operators items ask rest step all =
       All-head (λ (ask : Ask O). is_among operators ask.operator ≡ true) ask rest (subst (λ (asks : List (Ask O)). AreOf operators asks) step all)
 
-  -- none is left
+  -- none remains
   pub all_issued : (desk : Jobs) (all items : List (Ask O)) → items ≡ [] → desk.issued ++ jobs_of items ≡ jobs_of all → desk.issued ≡ jobs_of all
   all_issued desk all items none before = sym (append-nil desk.issued) ∙ sym (ap (λ (asks : List (Ask O)). desk.issued ++ jobs_of asks) none) ∙ before
 
@@ -124,7 +124,7 @@ module _ {O : Type 0} where
       told-append [] entry = refl
       told-append (e ∷ es) entry = ap (λ (requests : List (Request O)). e.request ∷ requests) (told-append es entry)
 
-  -- none is left
+  -- none remains
   pub all_served : (session : Opened O) (items all : List (Request O)) → items ≡ [] → requests_of session.entries ++ items ≡ all → requests_of session.entries ≡ all
   all_served session items all none before = sym (append-nil (requests_of session.entries)) ∙ sym (ap (λ (requests : List (Request O)). requests_of session.entries ++ requests) none) ∙ before
 
@@ -145,7 +145,7 @@ module _ {O : Type 0} where
       copied
       ∙ ap (λ (entry : LogEntry O). entry.reply) (sym is ∙ last_is old.entries entries (entry_of request old.front served.row) entry (are ∙ ap (λ (session : Opened O). session.entries) served.added) is)
 
-  -- The requests before the place are what was asked for before the ask of this index.
+  -- The requests before the position are the operator's requests before the ask of this index.
   pub record HasAsked (operator : List ℕ) (entries : List (LogEntry O)) (asks : List (Ask O)) (place index : ℕ) : Type 0 where
     pub within : place ≤ length entries
     pub so_far : asked operator asks ≡ take place (requests_of entries) ++ asked operator (drop index asks)
@@ -158,7 +158,7 @@ module _ {O : Type 0} where
   as_many [] = refl
   as_many (entry ∷ entries) = ap suc (as_many entries)
 
-  -- an entry's request is among the requests
+  -- the request of an entry is one of the requests
   request_there : (entries : List (LogEntry O)) (k : ℕ) (entry : LogEntry O) → slice_get entries k ≡ Some entry → slice_get (requests_of entries) k ≡ Some entry.request
   request_there [] k entry there = cc
   request_there (e ∷ es) zero entry there = ap (λ (e : LogEntry O). Some e.request) (let same : e ≡ entry = cc in same)
@@ -173,11 +173,11 @@ module _ {O : Type 0} where
     left : asked operator (drop index asks) ≡ cond (bytes_eq operator ask.operator) (ask.request ∷ asked operator (drop (index + 1) asks)) (asked operator (drop (index + 1) asks))
     left = ap (asked operator) (drop_more asks index ask in_asks ∙ ap (λ a. a ∷ drop (index + 1) asks) (sym is))
 
-    -- the next is another operator's
+    -- the next request is another operator's
     left_without : bytes_eq operator ask.operator ≡ false → asked operator (drop index asks) ≡ asked operator (drop (index + 1) asks)
     left_without away = left ∙ ap (λ b. cond b (ask.request ∷ asked operator (drop (index + 1) asks)) (asked operator (drop (index + 1) asks))) away
 
-    -- the next is the operator's
+    -- the next request is this operator's
     left_with : bytes_eq operator ask.operator ≡ true → asked operator (drop index asks) ≡ ask.request ∷ asked operator (drop (index + 1) asks)
     left_with here = left ∙ ap (λ b. cond b (ask.request ∷ asked operator (drop (index + 1) asks)) (asked operator (drop (index + 1) asks))) here
 
@@ -198,7 +198,7 @@ module _ {O : Type 0} where
               ∙ ap (λ front. front ++ asked operator (drop (index + 1) asks)) (sym more.1);
         }
 
-    -- there is no entry of the next, or it is of another request
+    -- there is no entry for the next request, or it is of another request
     pub asked_off : bytes_eq operator ask.operator ≡ true → ((entry : LogEntry O) → slice_get entries place ≡ Some entry → ¬ (entry.request ≡ ask.request)) → DiffersFirstAt (place + 1) (requests_of entries) (asked operator asks)
     asked_off here off =
         differs (requests_of entries) (asked operator asks) (ask.request ∷ asked operator (drop (index + 1) asks)) place (omega (arith, before.within, as_many entries)) (with_next here)
@@ -211,11 +211,11 @@ module _ {O : Type 0} where
     pub all_asked : length entries ≤ place → requests_of entries ≡ asked operator asks
     all_asked none = sym (none_asked ∙ append-nil (take place (requests_of entries)) ∙ take_all place (requests_of entries) (omega (arith, none, as_many entries)))
 
-    -- entries are left
+    -- entries remain
     pub more_told : place < length entries → DiffersFirstAt (place + 1) (requests_of entries) (asked operator asks)
     more_told some = differs (requests_of entries) (asked operator asks) [] place (omega (arith, before.within, as_many entries)) none_asked (one_there (requests_of entries) place (omega (arith, some, as_many entries)))
 
-  -- the log of an operator is among the logs
+  -- the log of an operator is one of the logs
   found : (asks : List (Ask O)) (logs : List (SessionLog O)) (operator : List ℕ) → has_log logs operator ≡ true → All (IsAsked asks) logs → requests_of (entries_of logs operator) ≡ asked operator asks
   found asks [] operator has all = absurd (true≢false (sym has))
   found asks (log ∷ logs) operator has all = elim (cases_Bool (bytes_eq operator log.operator)) [
@@ -235,11 +235,11 @@ module _ {O : Type 0} where
       (sym (told_requests (entries_of logs operator) (rows_of operator 1 rows) (All-head (IsTold logs rows) operator operators told)) ∙ found asks logs operator (All-head (HasLog logs) operator operators have) all)
       (each asks logs rows operators (All-tail (HasLog logs) operator operators have) all (All-tail (IsTold logs rows) operator operators told))
 
-  -- a closed run of what was asked for
+  -- a closed run of these requests
   has_fed : (tree : Entries) (operators : List (List ℕ)) (asks : List (Ask O)) (history : Log O) (logs : List (SessionLog O)) → IsClosed tree operators logs history → All (IsAsked asks) logs → HasFed tree operators asks history logs
   has_fed tree operators asks history logs closed all = record { closed = closed; asked = each asks logs history.rows operators closed.each_has_a_log all closed.told }
 
-  -- the same of the logs that come back, which were looked at
+  -- the same for the logs that are returned, which were checked
   pub has_fed_back : (tree : Entries) (operators : List (List ℕ)) (asks : List (Ask O)) (history : Log O) (given back seen : List (SessionLog O))
       → IsClosed tree operators given history → back ≡ given → seen ≡ back → All (IsAsked asks) seen → HasFed tree operators asks history back
   has_fed_back tree operators asks history given back seen closed same looked all =

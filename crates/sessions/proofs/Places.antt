@@ -1,4 +1,4 @@
--- The place of an operator among others.
+-- The index of an operator in a list.
 use Rattle.std.proofs.Common.{◌≡◌, ℕ, zero, suc, ◌+◌, ◌<◌, ◌≤◌, Bool, true, false, List, [], ◌∷◌, Some, length, drop, slice_get, get_or, refl, sym, ap, ◌∙◌, arith}
 use Rattle.std.specs.Prelude.{◌||◌}
 use Rattle.std.specs.Str.{bytes_eq}
@@ -8,7 +8,7 @@ use Rattle.std.proofs.lemmas.Option.{slice_get_read}
 use Rattle.std.proofs.lemmas.Slice.Eq.{bytes_eq-Decides}
 use Rattle.shared_admin.specs.Sharing.{is_among}
 
--- what a test of a name's text says of the name
+-- what a test of a name's text means for the name
 pub by_text : (text operator one : List ℕ) (test said : Bool) → text ≡ operator → test ≡ bytes_eq text one → test ≡ said → bytes_eq operator one ≡ said
 by_text text operator one test said is tests here = ap (λ (t : List ℕ). bytes_eq t one) (sym is) ∙ sym tests ∙ here
 

@@ -1,4 +1,4 @@
--- Why a run doesn't come to a closed end.
+-- Why a run isn't closed.
 use Rattle.std.proofs.Common.{◌≡◌, ℕ, Bool, List, [], Result, Err, sym, subst}
 use Rattle.std.specs.Result.{IfErr}
 use Rattle.link_tree.specs.Trees.{Entries}
@@ -21,7 +21,7 @@ abbrev pub opening : Entries → List (List ℕ) → Opening
 opening tree operators = record { first = tree; operators = operators }
 
 module _ {O : Type 0} (asks : O → Bool) (meaning : O → Inquiry Effect) where
-  -- what closing a shared history says, of the tree and the operators that were given to it
+  -- what closing a shared history reports, given its tree and its operators
   pub unclosed : (given : Opening) (tree : Entries) (operators : List (List ℕ)) (logs : List (SessionLog O)) (left : Unclosed (Log O) (List (SessionLog O)))
       → given ≡ opening tree operators → left.logs ≡ logs
       → IsFault given.first given.operators logs left.history left.fault → (¬ IsClosed given.first given.operators logs left.history)
@@ -37,7 +37,7 @@ module _ {O : Type 0} (asks : O → Bool) (meaning : O → Inquiry Effect) where
       }
 
 module _ {H L : Type 0} where
-  -- what is said of an error: when it is told, and what comes back
+  -- what an error means: when it is reported, and what is returned
   abbrev pub IsSaid : List (List ℕ) → (Unclosed H L → Type 0) → RunError H L → Type 0
   IsSaid operators P why = IsRunError operators why × IfUnclosed why P
 
@@ -51,10 +51,10 @@ module _ {H L : Type 0} where
   unserved operators P faults.Full may = (may, tt)
   unserved operators P faults.OutOfMemory may = (may, tt)
 
-  -- an error that is made of the workers' fault
+  -- an error made from the workers' error
   pub told_of_worker : {A : Type 0} → (operators : List (List ℕ)) (P : Unclosed H L → Type 0) (r : Result A (RunError H L)) (fault : WorkFault) → MayShare operators → r ≡ Err (of_worker fault) → IfErr r (λ why. IsRunError operators why) × IfErr r (λ why. IfUnclosed why P)
   told_of_worker operators P r fault may is = subst (λ r. IfErr r (λ why. IsRunError operators why) × IfErr r (λ why. IfUnclosed why P)) (sym is) (unserved operators P fault may)
 
-  -- an error that is made of the reason for which a history isn't shared
+  -- an error made from the reason why a history can't be shared
   pub told_of_open : {A : Type 0} → (operators : List (List ℕ)) (P : Unclosed H L → Type 0) (r : Result A (RunError H L)) (why : OpenError) → IsUnshared operators why → r ≡ Err (of_open why) → IfErr r (λ why. IsRunError operators why) × IfErr r (λ why. IfUnclosed why P)
   told_of_open operators P r why said is = subst (λ r. IfErr r (λ why. IsRunError operators why) × IfErr r (λ why. IfUnclosed why P)) (sym is) (unopened operators P why said)

@@ -40,7 +40,7 @@ module _ {O : Type 0} where
   told_requests (entry ∷ entries) [] told = absurd told
   told_requests (entry ∷ entries) (row ∷ rows) told = λ i. told.0.request i ∷ told_requests entries rows told.1 i
 
-  -- the entries of the operator's log are of what it asks for
+  -- the entries of the operator's log match its requests
   abbrev IsFound : List (SessionLog O) → Work O → Type 0
   IsFound logs work = requests_of (entries_of logs work.operator) ≡ work.requests
 
@@ -73,7 +73,7 @@ module _ {O : Type 0} where
   has_run : (tree : Entries) (works : List (Work O)) (history : Log O) (logs : List (SessionLog O)) → AreWorkOf works logs → IsDistinct bytes_eq (operators_of works) → IsClosed tree (operators_of works) logs history → HasRun tree works history logs
   has_run tree works history logs are once closed = record { closed = closed; work = both logs history.rows works (found works logs are once) closed.told }
 
-  -- the same of a shared history that was given this tree and the works' operators
+  -- the same for a shared history with this tree and the work's operators
   pub has_run_of : (opening : Opening) (tree : Entries) (operators : List (List ℕ)) (works : List (Work O)) (history : Log O) (served logs : List (SessionLog O))
       → opening ≡ record { first = tree; operators = operators } → operators ≡ operators_of works → IsDistinct bytes_eq operators → AreWorkOf works served → logs ≡ served
       → IsClosed opening.first opening.operators served history → HasRun tree works history logs

@@ -1,4 +1,4 @@
--- Runs of sessions that are fed.
+-- Runs of sessions to which requests are passed one by one.
 use Rattle.std.specs.Prelude.{◌≡◌, ◌≢◌, ◌≤◌, ◌⊎◌, ℕ, zero, suc, false, if◌then◌else◌, IsTrue, List, [], ◌∷◌, All, map, length, take, slice_get}
 use Rattle.std.specs.Str.{bytes_eq}
 use Rattle.link_tree.specs.Trees.{Entries}
@@ -20,12 +20,12 @@ module _ {O : Type 0} where
   abbrev pub AreOf : List (List ℕ) → List (Ask O) → Type 0
   AreOf operators asks = All (λ ask. IsTrue (is_among operators ask.operator)) asks
 
-  -- what an operator asks for, in order
+  -- the requests of an operator, in order
   abbrev pub asked : List ℕ → List (Ask O) → List (Request O)
   asked operator [] = []
   asked operator (ask ∷ asks) = if bytes_eq operator ask.operator then ask.request ∷ asked operator asks else asked operator asks
 
-  -- A log is of what its operator asks for.
+  -- A log matches its operator's requests.
   abbrev pub IsAsked : List (Ask O) → SessionLog O → Type 0
   IsAsked asks log = requests_of log.entries ≡ asked log.operator asks
 
@@ -33,34 +33,37 @@ module _ {O : Type 0} where
   abbrev pub HasCountable : SessionLog O → Type 0
   HasCountable log = length log.entries ≤ 1000000
 
-  -- Requests differ from those that were asked for at this place first, from 1 on: before it they are the same, and there stands another, or in but one of the two lists any.
+  -- This position, from 1 on, is the first at which two request lists differ: before it they are
+  -- equal, and at it the requests differ, or only one of the two lists has one.
   abbrev pub DiffersFirstAt : ℕ → List (Request O) → List (Request O) → Type 0
   DiffersFirstAt zero requests wanted = ⊥
   DiffersFirstAt (suc i) requests wanted = (take i requests ≡ take i wanted) × (slice_get requests i ≢ slice_get wanted i)
 
-  -- The operator of the first log that isn't of what the operator asks for, and the first place at which it isn't.
+  -- The operator of the first log that doesn't match the operator's requests, and the first
+  -- position at which it differs.
   abbrev pub IsFirstUnasked : List (Ask O) → List (SessionLog O) → List ℕ → ℕ → Type 0
   IsFirstUnasked asks logs operator place =
       (log : SessionLog O) × IsFirstNot (IsAsked asks) logs log × (log.operator ≡ operator) × DiffersFirstAt place (requests_of log.entries) (asked operator asks)
 
-  -- The first place at which a log isn't of what was asked for is told; or all logs are of it, but the answers aren't those of the jobs, and then the place is 0.
+  -- The first position at which a log doesn't match the requests is reported; or all logs match,
+  -- but the answers aren't those of the jobs, and then the position is 0.
   abbrev pub IsUnserved : List (Ask O) → List (SessionLog O) → List ℕ → ℕ → Type 0
   IsUnserved asks logs operator place = IsFirstUnasked asks logs operator place ⊎ (All (IsAsked asks) logs × (place ≡ 0))
 
-  -- The rows of an operator hold what it asks for, in order, and nothing else.
+  -- The rows of an operator hold exactly its requests, in order.
   abbrev pub HoldsAsked : List (Ask O) → List (Row O) → List ℕ → Type 0
   HoldsAsked asks rows operator = requests_in rows operator ≡ asked operator asks
 
-  -- A run that is closed, in which each operator's rows hold what it asks for.
+  -- A closed run, in which each operator's rows hold exactly its requests.
   pub record HasFed (tree : Entries) (operators : List (List ℕ)) (asks : List (Ask O)) (history : Log O) (logs : List (SessionLog O)) : Type 0 where
     pub closed : IsClosed tree operators logs history
     pub asked : All (HoldsAsked asks history.rows) operators
 
-  -- the jobs of requests, none of them answered
+  -- the jobs of requests, all without an answer
   abbrev pub jobs_of : List (Ask O) → List Issued
   jobs_of = map (λ ask. record { operator = ask.operator; is_answered = false })
 
-  -- A job was served in a session, and the answer is that of its row.
+  -- A job was served in a session, and the answer is the reply of its row.
   pub record IsAnswerOf (old : Opened O) (job : Job O) (new : Opened O) (answer : Answered) : Type 0 where
     pub served : IsServed old job.request new
     pub number : answer.number ≡ job.number

@@ -21,11 +21,12 @@ of_opened_parts (operator, front, entries) = record { operator = operator; front
 pub of_own_opened_parts : {O : Type 0} (session : Opened O) → of_opened_parts (opened_parts session) ≡ session
 of_own_opened_parts session = refl
 
--- what is told of a request: how many rows had been seen before, and the number and the reply of the row that was made
+-- what the entry of a request holds: how many rows had been seen before, and the number and the
+-- reply of the row that was made
 abbrev pub entry_of : {O : Type 0} → Request O → ℕ → NewRow → LogEntry O
 entry_of request seen row = record { request = request; seen = seen; row = row.number; reply = row.reply }
 
--- A request that was served adds one entry, and its row is then the last that was seen.
+-- A request that was served adds one entry, and its row is then the last one seen.
 pub record IsServed {O : Type 0} (old : Opened O) (request : Request O) (new : Opened O) : Type 0 where
   pub row : NewRow
   pub added : new ≡ record { operator = old.operator; front = row.number; entries = old.entries ++ entry_of request old.front row ∷ [] }
@@ -34,7 +35,7 @@ pub record IsServed {O : Type 0} (old : Opened O) (request : Request O) (new : O
 abbrev pub requests_of : {O : Type 0} → List (LogEntry O) → List (Request O)
 requests_of = map (λ entry. entry.request)
 
--- An operation whose plan was stale is kept.
+-- The operation of a stale plan is kept.
 abbrev pub KeepsOperation : {O : Type 0} → O → Attempt O → Type 0
 KeepsOperation operation (Served row) = Unit {0}
 KeepsOperation operation (Stale left) = left ≡ operation

@@ -1,4 +1,4 @@
-//! Requests of several operators, in one order.
+//! Requests of several operators, in one list.
 ghost use Rattle.std.specs.Prelude.{◌≡◌, ◌++◌, ◌∷◌, [], true, false, IfOk, OnOk, OnErr};
 ghost use Rattle.sessions.specs.Fed.{AreOf};
 
@@ -16,7 +16,7 @@ pub struct Ask<O> {
 }
 
 impl<O: Operation> Ask<O> {
-    /// An equal one. Fails only where memory runs out.
+    /// An equal copy. Fails only if memory runs out.
     fn copy(&self) -> Result<Ask<O>, AllocError>
         ensures { IfOk result (λ copy. copy ≡ self.now) }
     {
@@ -27,7 +27,8 @@ impl<O: Operation> Ask<O> {
     }
 }
 
-/// Requests of several operators, in the order in which they are to be fed. Contracts see their list.
+/// Requests of several operators, in the order in which they will be passed on. Contracts see their
+/// list.
 #[derive(Debug, Drop)]
 pub struct Asks<O> {
     items: Vec<Ask<O>>,
@@ -46,7 +47,7 @@ impl<O> Model for Asks<O> {
 }
 
 impl<O: Operation> Asks<O> {
-    /// No requests. Takes no memory.
+    /// No requests. Allocates no memory.
     pub fn none(alloc: Global) -> Asks<O>
         ensures { result ≡ [] }
     {
@@ -55,7 +56,7 @@ impl<O: Operation> Asks<O> {
         }
     }
 
-    /// Adds a request. Where memory runs out the list stays as it was.
+    /// Adds a request. If memory runs out, the list is unchanged.
     pub fn push(&mut self, ask: Ask<O>) -> Result<(), AllocError>
         ensures ok { OnOk result (self.new ≡ self.old ++ ask ∷ []) }
         ensures err { OnErr result (self.new ≡ self.old) }
@@ -78,7 +79,7 @@ impl<O: Operation> Asks<O> {
         are_of(self.as_slice(), operators)
     }
 
-    /// Equal ones. Fails only where memory runs out.
+    /// Equal copies. Fails only if memory runs out.
     pub(crate) fn copy(&self) -> Result<Asks<O>, AllocError>
         ensures { IfOk result (λ copy. copy ≡ self.now) }
     {
@@ -89,7 +90,7 @@ impl<O: Operation> Asks<O> {
         Ok(copy)
     }
 
-    /// The requests, in order, to be taken one by one.
+    /// The requests, in order, by value.
     pub(crate) fn into_vec(self) -> Vec<Ask<O>>
         ensures { result.items ≡ self }
     {

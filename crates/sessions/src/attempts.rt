@@ -11,10 +11,10 @@ use shared_admin::{NewRow, Settled, SharedAdmin, plan};
 use std::alloc::Global;
 use std::sync::Wait;
 
-/// How often a plan is made before the operation is run while the lock is held.
+/// How often an operation is planned before it is run while the lock is held.
 const ATTEMPTS: u8 = 4;
 
-/// Whose call it is, and which, from 1 on.
+/// The operator of the call, and the call's number, from 1 on.
 #[derive(Clone, Copy)]
 pub(crate) struct Turn {
     pub(crate) operator: Operator,
@@ -22,7 +22,7 @@ pub(crate) struct Turn {
 }
 
 /// Serves a request, and returns its row. For an undo or a redo the gate is called once. A request
-/// that isn't served comes back.
+/// that isn't served is returned.
 pub(crate) fn serve<O: Operation, R: Wait, G: Gate>(
     rt: &R,
     alloc: Global,
@@ -85,7 +85,7 @@ fn serve_operation<O: Operation, R: Wait, G: Gate>(
     }
 }
 
-/// What resulted from one attempt.
+/// The result of one attempt.
 #[derive(Drop)]
 pub(crate) enum Attempt<O> {
     Served(NewRow),
@@ -136,7 +136,7 @@ fn try_once<O: Operation, R: Wait, G: Gate>(
     }
 }
 
-/// An operation that comes back.
+/// An operation that is returned because it wasn't run.
 fn unserved<O>(operation: O, why: CallError) -> Unserved<O>
     ensures { result ≡ record { request = Do operation; why = why } }
 {

@@ -1,4 +1,4 @@
-//! Whether a run that was fed came to what was asked for.
+//! Whether a run served exactly the requests that were passed to it.
 ghost use Rattle.std.specs.Prelude.{◌≡◌, ◌≤◌, [], true, false, Some, All, IfOk, IfErr, IfNone, IfSome, length, slice_get};
 ghost use Rattle.history.specs.Rows.{run, calls_of};
 ghost use Rattle.shared_admin.specs.declared.log.LogEntry.{LogEntry};
@@ -14,7 +14,7 @@ use footprint::Operation;
 use history::{History, Operator};
 use shared_admin::{CloseFault, LogEntry, SessionLog, SessionLogs, SharedAdmin, Unclosed};
 
-/// What is left of a run that was fed: the desk, the logs, and all answers.
+/// What remains at the end of a run: the desk, the logs, and all answers.
 #[derive(Drop)]
 pub struct Fed<O> {
     pub desk: Desk,
@@ -22,11 +22,12 @@ pub struct Fed<O> {
     pub answers: Vec<Answered>,
 }
 
-/// Closes a run that was fed. Where the logs tell the rows, it is looked whether each log is of what its operator asked for, and whether the desk
-/// takes each answer and has one for each job. `run_desk` ends so; who feeds sessions in another way can too.
+/// Closes a run. If the logs match the rows, checks whether each log matches its operator's
+/// requests, and whether the desk accepts each answer and has one for each job. `run_desk` ends
+/// with this; code that passes requests to sessions in another way can use it too.
 ///
-/// Fails with the first of what `CloseFault` lists, or with `Mismatch` for the first log that isn't of what was asked for, and gives history and
-/// logs back.
+/// Fails with the first that applies of what `CloseFault` lists, or with `Mismatch` for the first
+/// log that doesn't match its operator's requests, and returns history and logs.
 pub fn close_fed<O: Operation>(
     admin: SharedAdmin<O>,
     fed: Fed<O>,
@@ -44,7 +45,7 @@ pub fn close_fed<O: Operation>(
     match admin.close(logs) {
         Err(left) => Err(left),
         Ok((history, logs)) => {
-            // (its rows can be counted, and so can the entries that tell them)
+            // (the number of its rows fits, and so does the number of the matching entries)
             let _rows = history.rows();
             match amiss(&mut desk, &answers, logs.as_slice(), asks) {
                 None => Ok((history, logs)),
@@ -58,8 +59,9 @@ pub fn close_fed<O: Operation>(
     }
 }
 
-/// The operator of the first log that isn't of what the operator asks for, with the first place at which it isn't; or else the operator of whom
-/// the answers and the desk know otherwise, with the place 0.
+/// The operator of the first log that doesn't match the operator's requests, with the first
+/// position at which it differs; or else the operator for whom the answers don't match the desk,
+/// with position 0.
 fn amiss<O: Operation>(
     desk: &mut Desk,
     answers: &[Answered],
@@ -79,7 +81,8 @@ fn amiss<O: Operation>(
     }
 }
 
-/// Takes the answers one after another: the operator of the first that the desk refuses, else of the first job that is left.
+/// Hands the answers to the desk one after another. Returns the operator of the first answer that
+/// the desk rejects, else of the first job that has no answer.
 fn settle(desk: &mut Desk, answers: &[Answered]) -> Option<Operator>
     ensures { result ≡ first_amiss desk.old.issued answers.now }
 {
@@ -91,7 +94,8 @@ fn settle(desk: &mut Desk, answers: &[Answered]) -> Option<Operator>
     desk.first_outstanding()
 }
 
-/// The operator of the first log that isn't of what the operator asks for, and the first place at which it isn't.
+/// The operator of the first log that doesn't match the operator's requests, and the first position
+/// at which it differs.
 fn first_unasked<O: Operation>(logs: &[SessionLog<O>], asks: &[Ask<O>]) -> Option<(Operator, u32)>
     requires { All HasCountable logs.now }
     ensures none { IfNone result (All (IsAsked asks.now) logs.now) }
@@ -106,8 +110,8 @@ fn first_unasked<O: Operation>(logs: &[SessionLog<O>], asks: &[Ask<O>]) -> Optio
     None
 }
 
-/// The first place, from 1 on, at which entries aren't of what an operator asks for: another request stands there, or there is an entry too
-/// many, or one too few.
+/// The first position, from 1 on, at which entries differ from an operator's requests: the request
+/// is another, or an entry is missing or surplus.
 fn unasked_at<O: Operation>(
     operator: &Operator,
     entries: &[LogEntry<O>],
@@ -133,7 +137,7 @@ fn unasked_at<O: Operation>(
     }
 }
 
-/// Whether there is an entry at the place, and it is of this request.
+/// Whether there is an entry at this position, and it is of this request.
 fn asks_at<O: Operation>(entries: &[LogEntry<O>], place: usize, ask: &Ask<O>) -> bool
     ensures yes { result ≡ true → (entry : LogEntry O) × (slice_get entries.now place ≡ Some entry) × (entry.request ≡ ask.now.request) }
     ensures no { result ≡ false → (entry : LogEntry O) → slice_get entries.now place ≡ Some entry → ¬ (entry.request ≡ ask.now.request) }

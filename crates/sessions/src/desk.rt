@@ -1,4 +1,4 @@
-//! Jobs that are handed out, and the answers that come back.
+//! Jobs that are handed out, and the answers to them.
 ghost use Rattle.std.specs.Prelude.{◌≡◌, ◌+◌, ◌↔◌, ◌++◌, ◌∷◌, [], true, false, None, Some, IfOk, IfErr, OnOk, OnErr, length};
 ghost use Rattle.sessions.specs.Desks.{answered_at, first_outstanding, outstanding, refusal};
 ghost use Rattle.sessions.specs.declared.desk.IssueError.TheVariants as errors;
@@ -27,7 +27,7 @@ pub struct Answered {
 /// Why a job wasn't issued.
 #[derive(Clone, Copy, Debug, PartialEq, Eq)]
 pub enum IssueError {
-    /// The desk is shut.
+    /// The desk is closed.
     Closed,
     OutOfMemory,
 }
@@ -39,23 +39,24 @@ pub struct Unissued<O> {
     pub why: IssueError,
 }
 
-/// Why an answer isn't taken, in the order in which the reasons are tried.
+/// Why an answer is rejected, in the order in which the reasons are checked.
 #[derive(Clone, Copy, Debug, PartialEq, Eq)]
 pub enum AcceptError {
-    /// The job was never issued, or to another operator.
+    /// The job was never issued, or was issued to another operator.
     UnknownJob,
-    /// Its answer is in.
+    /// The job has already been answered.
     Double,
 }
 
-/// To whom a job was issued, and whether its answer is in.
+/// The operator a job was issued to, and whether it has been answered.
 #[derive(Clone, Copy, Debug)]
 pub struct Issued {
     pub operator: Operator,
     pub is_answered: bool,
 }
 
-/// The jobs that were issued, and whether more may be. Contracts see the jobs in the order of their numbers.
+/// The jobs that were issued, and whether more may be issued. Contracts see the jobs in the order
+/// of their numbers.
 #[derive(Debug, Drop)]
 pub struct Desk {
     issued: Vec<Issued>,
@@ -76,7 +77,7 @@ impl Model for Desk {
 }
 
 impl Desk {
-    /// A desk without jobs. Takes no memory.
+    /// A desk without jobs. Allocates no memory.
     pub fn new(alloc: Global) -> Desk
         ensures { result ≡ record { issued = []; is_shut = false } }
     {
@@ -86,8 +87,8 @@ impl Desk {
         }
     }
 
-    /// Issues a job for a request; its number is the next. A request that isn't issued comes back, and the desk is as it was: it is shut, or
-    /// else memory ran out.
+    /// Issues a job for a request, with the next number. If no job is issued, because the desk is
+    /// closed or memory ran out, the request is returned and the desk is unchanged.
     pub fn issue<O>(
         &mut self,
         operator: Operator,
@@ -123,7 +124,8 @@ impl Desk {
         }
     }
 
-    /// Takes the answer to a job, once, and of the operator that it was issued to. An answer that isn't taken changes nothing.
+    /// Accepts the answer to a job, once, from the operator that the job was issued to. A rejected
+    /// answer changes nothing.
     pub fn accept(&mut self, answer: &Answered) -> Result<(), AcceptError>
         ensures ok { OnOk result ((refusal self.old.issued answer.now.number answer.now.operator ≡ None) × (self.new ≡ record { issued = answered_at self.old.issued answer.now.number; is_shut = self.old.is_shut })) }
         ensures err { IfErr result (λ why. (refusal self.old.issued answer.now.number answer.now.operator ≡ Some why) × (self.new ≡ self.old)) }
@@ -146,7 +148,7 @@ impl Desk {
         Ok(())
     }
 
-    /// How many jobs are without an answer.
+    /// How many jobs have no answer yet.
     pub fn outstanding(&self) -> u64
         ensures { result ≡ outstanding self.now.issued }
     {
@@ -171,7 +173,7 @@ impl Desk {
         None
     }
 
-    /// From now on no job is issued. Answers are still taken.
+    /// Closes the desk: no more jobs are issued. Answers are still accepted.
     pub fn shut(&mut self)
         ensures { self.new ≡ record { issued = self.old.issued; is_shut = true } }
     {

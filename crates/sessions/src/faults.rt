@@ -1,4 +1,4 @@
-//! Why a run of sessions doesn't come to a closed end.
+//! Why a run of sessions isn't closed.
 ghost use Rattle.std.specs.Prelude.{◌≡◌, Ok, IfOk, IfErr};
 ghost use Rattle.sessions.specs.Faults.{of_open, of_call, of_worker, told, IsFaultOf};
 ghost use Rattle.sessions.specs.declared.faults.RunError.TheVariants as errors;
@@ -8,19 +8,21 @@ use history::CallError;
 use shared_admin::{OpenError, Unclosed};
 use std::alloc::{AllocError, AllocFailed};
 
-/// Why sessions didn't run to a closed end, in the order in which the reasons are told: the first two before anything is done.
+/// Why sessions didn't complete and close a run, in the order in which the reasons are reported:
+/// the first two before anything is done.
 #[derive(Debug, Drop)]
 pub enum RunError<H, L> {
     /// There are more than sixteen operators.
     TooManySessions,
-    /// An operator is there twice.
+    /// An operator is in the list twice.
     SameOperator,
-    /// A worker could not be started, perhaps for want of memory. Those that were have come to their ends.
+    /// A worker could not be started, perhaps because memory ran out. Those that were started have
+    /// ended.
     NoWorker,
     /// The history has as many rows as it may have, and a request was left.
     Full,
     OutOfMemory,
-    /// The logs don't tell the rows. History and logs come back.
+    /// The logs don't match the rows. History and logs are returned.
     Close(Unclosed<H, L>),
 }
 
@@ -56,7 +58,7 @@ impl<H, L> From<AllocError> for RunError<H, L> {
     }
 }
 
-/// Why workers didn't serve all that they were given, in the order in which the reasons are told.
+/// Why workers didn't serve all their requests, in the order in which the reasons are reported.
 #[derive(Clone, Copy, Debug)]
 pub(crate) enum WorkFault {
     NoWorker,
@@ -91,7 +93,7 @@ impl<T: Drop> From<AllocFailed<T>> for WorkFault {
     }
 }
 
-/// Which of two faults is told.
+/// Which of two errors is reported.
 fn told(fault: WorkFault, why: CallError) -> WorkFault
     ensures { result ≡ told fault why }
 {
@@ -101,7 +103,7 @@ fn told(fault: WorkFault, why: CallError) -> WorkFault
     }
 }
 
-/// What the first workers came to and what the last one did, or the fault that is told.
+/// The results of the first workers and of the last one, or the error that is reported.
 pub(crate) fn both<A: Drop, B: Drop>(
     first: Result<A, WorkFault>,
     last: Result<B, CallError>,

@@ -1,4 +1,4 @@
-//! Requests that are fed to sessions, each in a thread of its own.
+//! Requests that are passed to sessions one by one, each session in a thread of its own.
 ghost use Rattle.std.specs.Prelude.{◌≡◌, ◌+◌, ◌<◌, ◌≤◌, ◌++◌, ◌∷◌, [], true, false, IsTrue, Some, IfOk, IfErr, length, slice_get, vec_len};
 ghost use Rattle.history.specs.Rows.{run, calls_of};
 ghost use Rattle.shared_admin.specs.Sharing.{MayShare};
@@ -22,19 +22,24 @@ use std::sync::Wait;
 use std::thread;
 use std::thread::{Scope, Threads};
 
-/// How many jobs may wait for a worker.
+/// How many jobs may be queued for a worker.
 const WAITING: usize = 16;
 
-/// Feeds requests to sessions on a tree, each in a thread of its own that serves those of one operator as they come, and closes the run: the rows
-/// of each operator are then the requests that it asked for, in order, and each log tells them. Each request is of one of the operators.
+/// Passes requests to sessions on a tree, and closes the run. Each session has a thread of its own,
+/// which serves the requests of one operator as they arrive. Afterwards the rows of each operator
+/// are exactly its requests, in order, and each log matches them. Each request is of one of the
+/// operators.
 ///
-/// The gate is called by all threads. The faults stand in [`RunError`] in the order in which they are told; of the workers' faults the first in
-/// that order is told. Where the logs tell the rows, `Mismatch` is told of the first log that isn't of what its operator asked for, with the first
-/// place, from 1 on, at which it isn't; or else, with the place 0, of the first answer that the desk doesn't take, or of the first job without an
-/// answer. All workers have come to their ends when this returns.
+/// The gate is called by all threads. [`RunError`] lists the errors in the order in which they are
+/// reported; of the workers' errors, the first in that order is reported. If the logs match the
+/// rows, `Mismatch` is reported for the first log that doesn't match its operator's requests, with
+/// the first position, from 1 on, at which it differs; or else, with position 0, for the first
+/// answer that the desk rejects, or for the first job without an answer. All workers have ended
+/// when this returns.
 ///
-/// While a worker is held up sixteen requests may wait for it; then those behind them wait too, also those of other operators. So a gate
-/// shouldn't wait for a request that stands far behind.
+/// While a worker is paused, sixteen requests may be queued for it; the requests after them then
+/// wait too, also those of other operators. So a gate shouldn't wait for a request that is much
+/// later in the list.
 pub fn run_desk<O, R, G>(
     rt: &R,
     alloc: Global,
@@ -61,7 +66,7 @@ where
     feed_and_close(rt, alloc, admin, gate, names.as_slice(), asks)
 }
 
-/// Feeds requests to the operators that share a history, and closes it.
+/// Passes requests to the operators that share a history, and closes it.
 fn feed_and_close<O, R, G>(
     rt: &R,
     alloc: Global,
@@ -116,15 +121,17 @@ where
     )
 }
 
-/// What is to be fed, and the ends of the channels to the last operators' workers, in the order of the operators.
+/// The requests still to pass on, and the sending ends of the channels to the last operators'
+/// workers, in the order of the operators.
 #[derive(Drop)]
 struct Feed<O> {
     asks: Asks<O>,
     to: Vec<Sender<Job<O>>>,
 }
 
-/// Starts a worker for each operator that has none yet, the last first; feeds them all; and joins those that it started, whatever becomes of
-/// the others. A worker ends when the end of its channel goes.
+/// Starts a worker for each operator that has none yet, the last first; passes them all their
+/// requests; and joins those that it started, even if others fail. A worker ends when the sending
+/// end of its channel is dropped.
 fn feed_workers<'s, E, O, R, G>(
     scope: &'s Scope<'s, E>,
     rt: &'s R,
@@ -160,7 +167,8 @@ where
     Ok(with_served(fed, served)?)
 }
 
-/// Adds the end of one more channel at the front. Where memory runs out all ends go, so that their workers end.
+/// Adds the sending end of one more channel at the front. If memory runs out, all sending ends are
+/// dropped, so that their workers end.
 fn with_end<O: Operation>(feed: Feed<O>, end: Sender<Job<O>>) -> Result<Feed<O>, AllocError>
     ensures { IfOk result (λ longer. (longer.asks ≡ feed.asks) × (vec_len longer.to ≡ vec_len feed.to + 1)) }
 {
@@ -169,7 +177,8 @@ fn with_end<O: Operation>(feed: Feed<O>, end: Sender<Job<O>>) -> Result<Feed<O>,
     Ok(feed)
 }
 
-/// Feeds each request to its operator's worker, until all are fed or a worker has gone. Then no worker gets any more.
+/// Passes each request to its operator's worker, until all are passed on or a worker has ended
+/// early. After that no worker gets any more.
 fn feed_all<O: Operation, R: Wait>(
     rt: &R,
     alloc: Global,
@@ -184,14 +193,14 @@ fn feed_all<O: Operation, R: Wait>(
     let mut desk = Desk::new(alloc);
     for ask in asks.into_vec() {
         let place = place_of(operators, &ask.operator);
-        // a desk that isn't shut lacks nothing but memory
+        // issuing at an open desk fails only if memory runs out
         let Ok(job) = desk.issue(ask.operator, ask.request) else {
             return Err(WorkFault::OutOfMemory);
         };
         match to[place].send(rt, job) {
             Ok(()) => {}
             Err(SendError::OutOfMemory(_)) => return Err(WorkFault::OutOfMemory),
-            // the worker tells why
+            // the worker reports why
             Err(SendError::Disconnected(_)) => return Ok(unserved(alloc, desk)),
         }
     }
@@ -199,7 +208,7 @@ fn feed_all<O: Operation, R: Wait>(
     Ok(unserved(alloc, desk))
 }
 
-/// What is left before the workers are joined.
+/// What remains before the workers are joined.
 fn unserved<O: Operation>(alloc: Global, desk: Desk) -> Fed<O>
     ensures { result.desk ≡ desk }
 {
@@ -210,14 +219,14 @@ fn unserved<O: Operation>(alloc: Global, desk: Desk) -> Fed<O>
     }
 }
 
-/// What a worker hands over when its jobs are done: its session's log, and its answers.
+/// What a worker returns when its jobs are done: its session's log, and its answers.
 #[derive(Drop)]
 struct Served<O> {
     log: SessionLog<O>,
     answers: Vec<Answered>,
 }
 
-/// Adds what a worker hands over.
+/// Adds what a worker returned.
 fn with_served<O: Operation>(fed: Fed<O>, served: Served<O>) -> Result<Fed<O>, AllocError>
     ensures desk { IfOk result (λ all. all.desk ≡ fed.desk) }
     ensures logs { IfOk result (λ all. all.logs ≡ fed.logs ++ served.log ∷ []) }
@@ -241,7 +250,7 @@ fn with_served<O: Operation>(fed: Fed<O>, served: Served<O>) -> Result<Fed<O>, A
     })
 }
 
-/// Serves an operator's jobs as they come, in one session.
+/// Serves an operator's jobs as they arrive, in one session.
 fn serve_jobs<O: Operation, R: Wait, G: Gate>(
     rt: &R,
     alloc: Global,
@@ -261,7 +270,7 @@ fn serve_jobs<O: Operation, R: Wait, G: Gate>(
     })
 }
 
-/// Serves a job in a session, and gives its answer.
+/// Serves a job in a session, and returns its answer.
 fn serve_job<O: Operation, R: Wait, G: Gate>(
     rt: &R,
     alloc: Global,

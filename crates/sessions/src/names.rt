@@ -21,7 +21,7 @@ pub(crate) fn is_among(operators: &[Operator], operator: &Operator) -> bool
     operators.iter().any(|one| has_text(one, operator.text()))
 }
 
-/// The place of an operator among these.
+/// The index of an operator in this list.
 pub(crate) fn place_of(operators: &[Operator], operator: &Operator) -> usize
     requires { IsTrue (is_among operators.now operator.now) }
     ensures within { result < length operators.now }
@@ -35,7 +35,7 @@ pub(crate) fn place_of(operators: &[Operator], operator: &Operator) -> usize
     unreachable!()
 }
 
-/// At most sixteen operators, again. Takes no memory.
+/// A copy of at most sixteen operators. Allocates no memory.
 pub(crate) fn copied(alloc: Global, operators: &[Operator]) -> Operators
     requires { length operators.now ≤ 16 }
     ensures { result ≡ operators.now }

@@ -24,7 +24,7 @@ impl<O> Model for Requests<O> {
 }
 
 impl<O: Drop> Requests<O> {
-    /// No requests. Takes no memory.
+    /// No requests. Allocates no memory.
     pub fn none(alloc: Global) -> Requests<O>
         ensures { result ≡ [] }
     {
@@ -33,7 +33,7 @@ impl<O: Drop> Requests<O> {
         }
     }
 
-    /// Adds a request. Where memory runs out the list stays as it was.
+    /// Adds a request. If memory runs out, the list is unchanged.
     pub fn push(&mut self, request: Request<O>) -> Result<(), AllocError>
         ensures ok { OnOk result (self.new ≡ self.old ++ request ∷ []) }
         ensures err { OnErr result (self.new ≡ self.old) }
@@ -48,7 +48,7 @@ impl<O: Drop> Requests<O> {
         &self.items
     }
 
-    /// The requests, in order, to be taken one by one.
+    /// The requests, in order, by value.
     pub(crate) fn into_vec(self) -> Vec<Request<O>>
         ensures { result.items ≡ self }
     {

@@ -1,4 +1,4 @@
-//! Sessions that run side by side, each in a thread of its own.
+//! Sessions that run concurrently, each in a thread of its own.
 ghost use Rattle.std.specs.Prelude.{◌≡◌, ◌≤◌, [], IfOk, IfErr, length};
 ghost use Rattle.history.specs.Rows.{run, calls_of};
 ghost use Rattle.shared_admin.specs.Sharing.{MayShare};
@@ -20,11 +20,14 @@ use std::sync::Wait;
 use std::thread;
 use std::thread::{Promise, Scope, Threads};
 
-/// Runs sessions side by side on a tree, each in a thread of its own that serves all requests of one operator in order, and closes the run: the
-/// rows of each operator are then its requests in order, and each log tells them. Several runs of the same work may come to different histories.
+/// Runs sessions concurrently on a tree, and closes the run. Each session has a thread of its own,
+/// which serves all requests of one operator in order. Afterwards the rows of each operator are
+/// exactly its requests, in order, and each log matches them. Several runs of the same work may
+/// result in different histories.
 ///
-/// The gate is called by all threads. The faults stand in [`RunError`] in the order in which they are told; of the workers' faults the first in
-/// that order is told. All workers have come to their ends when this returns.
+/// The gate is called by all threads. [`RunError`] lists the errors in the order in which they are
+/// reported; of the workers' errors, the first in that order is reported. All workers have ended
+/// when this returns.
 pub fn run_sessions<O, R, G>(
     rt: &R,
     alloc: Global,
@@ -49,7 +52,7 @@ where
     serve_and_close(rt, alloc, admin, works, gate)
 }
 
-/// Serves the works of those that share a history, and closes it.
+/// Serves the work of the operators that share a history, and closes it.
 fn serve_and_close<O, R, G>(
     rt: &R,
     alloc: Global,
@@ -75,7 +78,7 @@ where
     }
 }
 
-/// The operators of at most sixteen works. Takes no memory.
+/// The operators of at most sixteen pieces of work. Allocates no memory.
 fn operators_of<O: Operation>(alloc: Global, works: &[Work<O>]) -> Operators
     requires { length works.now ≤ 16 }
     ensures { result ≡ operators_of works.now }
@@ -112,7 +115,8 @@ where
     )
 }
 
-/// What a worker promises: the log of a session in which the operator asked for all this, in order.
+/// What a worker promises to return: the log of a session that made exactly the operator's
+/// requests, in order.
 #[derive(Drop)]
 struct Serves<O> {
     operator: Operator,
@@ -127,8 +131,9 @@ impl<O> Promise<Result<SessionLog<O>, CallError>> for Serves<O> {
     ghost kept_by = { λ promise r. IfOk r (λ log. IsWorkOf promise.operator promise.requests.value log) };
 }
 
-/// Serves each operator's work in a thread of its own, and gives the logs in the order of the works. The last worker is started first and
-/// joined last; a worker that was started is joined whatever becomes of the others.
+/// Serves each operator's work in a thread of its own, and returns the logs in the order of the
+/// work. The last worker is started first and joined last; a worker that was started is joined even
+/// if others fail.
 fn serve_each<'s, E, O, R, G>(
     scope: &'s Scope<'s, E>,
     rt: &'s R,

@@ -18,7 +18,8 @@ pub struct Unserved<O> {
     pub why: CallError,
 }
 
-/// A session of an operator. Contracts see the operator, how many rows the session has seen, and its log.
+/// A session of an operator. Contracts see the operator, how many rows the session has seen, and
+/// its log.
 #[derive(Drop)]
 pub struct Session<O> {
     operator: Operator,
@@ -44,7 +45,7 @@ impl<O> Model for Session<O> {
 }
 
 impl<O: Operation> Session<O> {
-    /// A session that has seen no rows and has no entries. Takes no memory.
+    /// A session that has seen no rows and has no entries. Allocates no memory.
     pub fn open(alloc: Global, operator: Operator) -> Session<O>
         ensures { result ≡ record { operator = operator; front = 0; entries = [] } }
     {
@@ -55,28 +56,30 @@ impl<O: Operation> Session<O> {
         }
     }
 
-    /// How many rows it has seen: the number of its last row, or more if `tell` has said so since.
+    /// How many rows it has seen: the number of its last row, or more if `tell` has reported more
+    /// since.
     pub fn front(&self) -> u32
         ensures { result ≡ self.now.front }
     {
         self.front
     }
 
-    /// Says that the session has seen this many rows. Fewer than it has seen change nothing.
+    /// Reports that the session has seen this many rows. A number below what it has seen changes
+    /// nothing.
     pub fn tell(&mut self, front: u32)
         ensures { self.new ≡ record { operator = self.old.operator; front = max self.old.front front; entries = self.old.entries } }
     {
         self.front = self.front.max(front);
     }
 
-    /// An entry for each call that was served, in order.
+    /// One entry for each call that was served, in order.
     pub fn entries(&self) -> &[LogEntry<O>]
         ensures { result.now ≡ self.now.entries }
     {
         &self.entries
     }
 
-    /// Its log, as `SharedAdmin::close` takes it. Takes no memory.
+    /// Its log, as `SharedAdmin::close` takes it. Allocates no memory.
     pub fn into_log(self) -> SessionLog<O>
         ensures { result ≡ record { operator = self.operator; entries = self.entries } }
     {
@@ -97,9 +100,9 @@ impl<O: Operation> Session<O> {
     /// undo or a redo the gate is called once, as attempt 1, and then the lock is taken. The row's
     /// reply may be a refusal.
     ///
-    /// A request that isn't served comes back, and the session is as it was. The reason is `Full` (the
-    /// history has a million rows) or `OutOfMemory`. The memory for the entry is reserved before the
-    /// row is made, so that each row has its entry.
+    /// A request that isn't served is returned, and the session is unchanged. The reason is `Full`
+    /// (the history has a million rows) or `OutOfMemory`. The memory for the entry is reserved
+    /// before the row is made, so that each row has its entry.
     pub fn call<R: Wait, G: Gate>(
         &mut self,
         rt: &R,

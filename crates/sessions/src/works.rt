@@ -1,4 +1,4 @@
-//! What operators ask for, each in a session of its own.
+//! The requests of several operators, each operator in a session of its own.
 ghost use Rattle.std.specs.Prelude.{◌≡◌, ◌++◌, ◌∷◌, [], IfNone, IfSome, OnOk, OnErr};
 
 use crate::requests::Requests;
@@ -6,7 +6,7 @@ use history::Operator;
 use std::alloc::{AllocError, Global};
 use std::marker::Model;
 
-/// What an operator asks for, in order.
+/// The requests of one operator, in order.
 #[derive(Debug, Drop)]
 pub struct Work<O> {
     pub operator: Operator,
@@ -32,7 +32,7 @@ impl<O> Model for Works<O> {
 }
 
 impl<O: Drop> Works<O> {
-    /// No work. Takes no memory.
+    /// No work. Allocates no memory.
     pub fn none(alloc: Global) -> Works<O>
         ensures { result ≡ [] }
     {
@@ -41,7 +41,7 @@ impl<O: Drop> Works<O> {
         }
     }
 
-    /// Adds an operator's work. Where memory runs out the list stays as it was.
+    /// Adds an operator's work. If memory runs out, the list is unchanged.
     pub fn push(&mut self, work: Work<O>) -> Result<(), AllocError>
         ensures ok { OnOk result (self.new ≡ self.old ++ work ∷ []) }
         ensures err { OnErr result (self.new ≡ self.old) }
@@ -56,7 +56,7 @@ impl<O: Drop> Works<O> {
         &self.items
     }
 
-    /// Takes the last operator's work.
+    /// Removes and returns the last operator's work.
     pub(crate) fn pop(&mut self) -> Option<Work<O>>
         ensures none { IfNone result (self.old ≡ []) }
         ensures some { IfSome result (λ work. self.old ≡ self.new ++ work ∷ []) }

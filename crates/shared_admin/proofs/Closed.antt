@@ -36,7 +36,7 @@ module _ {O : Type 0} where
   not_closed given operators logs history (Mismatch operator place) (have, own, rows, first) closed = first_off operators logs history.rows operator place first closed.told
   not_closed given operators logs history OtherTree (have, own, rows, told, other) closed = other closed.same_tree
 
-  -- a fault, and with it that the run isn't closed
+  -- a fault, which implies that the run isn't closed
   pub with_fault : (given : Entries) (operators : List (List ℕ)) (logs : List (SessionLog O)) (history : Log O) (fault : CloseFault) → IsFault given operators logs history fault
       → IsFault given operators logs history fault × (¬ IsClosed given operators logs history)
   with_fault given operators logs history fault first = (first, not_closed given operators logs history fault first)

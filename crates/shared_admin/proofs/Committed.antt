@@ -1,4 +1,4 @@
--- A plan is committed where the tree agrees with it.
+-- A plan is committed if the tree agrees with it.
 use Rattle.std.proofs.Common.{◌≡◌, ◌==◌, ℕ, Bool, true, false, MatchBool, List, Option, Some, None, length, set, sym, ap, subst, ◌∙◌, inl, inr}
 use Rattle.link_tree.specs.Trees.{Entries}
 use Rattle.footprint.specs.declared.key.Key.{Key}
@@ -16,7 +16,7 @@ use Rattle.shared_admin.specs.Events.{Commits}
 use Rattle.shared_admin.specs.Laws.{CommitsAsCall, PlansCommitAsCalls}
 
 module _ {O : Type 0} (asks : O → Bool) (meaning : O → Inquiry Effect) where
-  -- no call is answered as a stale plan
+  -- no call has the reply of a stale plan
   call_not_stale : (full : Bool) (log new : Log O) (call : Call O) (reply : EventReply) (key : Key) → reply ≡ replies.Stale key
       → MatchBool full ((reply ≡ replies.Full) × (new ≡ log))
       ((reply ≡ replies.Committed (length new.rows)) × (new ≡ record { first = log.first; rows = rows_after asks meaning log.first log.rows call; limit = log.limit }))

@@ -1,4 +1,4 @@
--- Operators that are told apart one by one, from the first on.
+-- Operators that are compared one by one, from the first on.
 use Rattle.std.proofs.Common.{◌≡◌, ℕ, zero, suc, ◌+◌, ◌-◌, ◌<◌, ◌≤◌, Bool, true, false, List, [], ◌∷◌, length, take, drop, get_or, refl, sym, ap, subst, ◌∙◌, inl, inr, arith}
 use Rattle.std.specs.Prelude.{◌||◌}
 use Rattle.std.specs.List.{list_any, IsDistinct, AllByRecursion}
@@ -18,7 +18,7 @@ some_is_not : {A : Type 0} (p : A → Bool) (xs : List A) → list_any p xs ≡ 
 some_is_not p [] some none = absurd (true≢false (sym some))
 some_is_not p (x ∷ xs) some none = some_is_not p xs (sym (ap (λ b. b || list_any p xs) none.0) ∙ some) none.1
 
--- All are distinct exactly where those from this place on are.
+-- All are distinct exactly if those from this index on are.
 pub record AreApart (all : List (List ℕ)) (place : ℕ) : Type 0 where
   pub on : IsDistinct bytes_eq (drop place all) → IsDistinct bytes_eq all
   pub back : IsDistinct bytes_eq all → IsDistinct bytes_eq (drop place all)
@@ -30,18 +30,18 @@ module _ (all : List (List ℕ)) (place : ℕ) (operator : List ℕ) (is : opera
   left : drop place all ≡ operator ∷ drop (place + 1) all
   left = drop_more all place operator within ∙ ap (λ o. o ∷ drop (place + 1) all) (sym is)
 
-  -- those behind the next
+  -- those after the next
   behind : take (length all - (place + 1)) (drop (place + 1) all) ≡ drop (place + 1) all
   behind = take_all (length all - (place + 1)) (drop (place + 1) all) (omega (arith, length-drop (place + 1) all))
 
-  -- the next is none of those behind it
+  -- the next is none of those after it
   pub one_apart : list_any (bytes_eq operator) (take (length all - (place + 1)) (drop (place + 1) all)) ≡ false → AreApart all (place + 1)
   one_apart none_there = (let none = ap (list_any (bytes_eq operator)) (sym behind) ∙ none_there in record {
     on = λ rest. before.on (subst (IsDistinct bytes_eq) (sym left) (IsDistinct-cons bytes_eq operator (drop (place + 1) all) (none_is (bytes_eq operator) (drop (place + 1) all) none) rest));
     back = λ whole. IsDistinct-tail bytes_eq operator (drop (place + 1) all) (subst (IsDistinct bytes_eq) left (before.back whole));
   })
 
-  -- the next is one of those behind it
+  -- the next is one of those after it
   pub not_apart : list_any (bytes_eq operator) (take (length all - (place + 1)) (drop (place + 1) all)) ≡ true → ¬ IsDistinct bytes_eq all
   not_apart some whole = some_is_not (bytes_eq operator) (drop (place + 1) all) (ap (list_any (bytes_eq operator)) (sym behind) ∙ some) (IsDistinct-head bytes_eq operator (drop (place + 1) all) (subst (IsDistinct bytes_eq) left (before.back whole)))
 

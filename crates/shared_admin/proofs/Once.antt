@@ -21,7 +21,7 @@ use Rattle.shared_admin.specs.declared.event.EventReply.TheVariants as replies
 use Rattle.shared_admin.specs.Events.{Slots, empty_slots, AtSlot, PlansOn, Plans, Snaps, Commits, TakesPlan, Happens, Plays}
 use Rattle.shared_admin.specs.Laws.{EventsHaveOneOutcome}
 
--- there is one first observation that doesn't hold
+-- the first observation that doesn't hold is unique
 first_once : (t : Entries) (before front : List Observation) (here there : Observation) (later rest : List Observation) → before ++ here ∷ later ≡ front ++ there ∷ rest
     → HoldsIn t before → (¬ Holds t here) → HoldsIn t front → (¬ Holds t there) → here ≡ there
 first_once t [] [] here there later rest same holds off also off_too = cc

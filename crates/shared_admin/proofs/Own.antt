@@ -1,4 +1,4 @@
--- Logs of the operators, none of which has two.
+-- Logs of the operators, at most one for each.
 use Rattle.std.proofs.Common.{◌≡◌, ℕ, ◌+◌, ◌<◌, ◌≤◌, Bool, true, false, List, [], ◌∷◌, ◌++◌, map, All, length, take, drop, get_or, refl, sym, ap, subst, ◌∙◌}
 use Rattle.std.specs.Prelude.{◌||◌}
 use Rattle.std.specs.List.{list_any, IsDistinct, AllByRecursion}
@@ -13,7 +13,7 @@ use Rattle.shared_admin.specs.Sharing.{is_among}
 use Rattle.shared_admin.specs.Closing.{operators_of, has_log, IsOwnLog, AreOwnLogs, IsFirstStrangeLog}
 use Rattle.shared_admin.proofs.Firsts.{cut_at, one_taken, one_of_all}
 
--- of distinct operators none is among those before it
+-- if operators are distinct, none is among those before it
 none_before : (before later : List (List ℕ)) (operator : List ℕ) → IsDistinct bytes_eq (before ++ operator ∷ later) → list_any (bytes_eq operator) before ≡ false
 none_before [] later operator distinct = refl
 none_before (first ∷ before) later operator distinct =
@@ -54,7 +54,7 @@ module _ {O : Type 0} where
   pub all_own : (operators : List (List ℕ)) (logs : List (SessionLog O)) (place : ℕ) → length logs ≤ place → AreOwnLogs operators (take place logs) → AreOwnLogs operators logs
   all_own operators logs place through before = subst (AreOwnLogs operators) (take_all place logs through) before
 
-  -- each log is its operator's own, of those before it
+  -- each log is its operator's own among those before it
   pub own_at : (operators : List (List ℕ)) (logs before later : List (SessionLog O)) (log : SessionLog O) → logs ≡ before ++ log ∷ later → AreOwnLogs operators logs → IsOwnLog operators before log
   own_at operators logs before later log cut own =
       let P : SessionLog O → Type 0 = (λ (log : SessionLog O). is_among operators log.operator ≡ true) in (

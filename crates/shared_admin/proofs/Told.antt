@@ -1,4 +1,4 @@
--- Entries that tell an operator's rows, one after another.
+-- Entries that match an operator's rows, one after another.
 use Rattle.std.proofs.Common.{◌≡◌, ℕ, zero, suc, ◌+◌, ◌<◌, ◌≤◌, Bool, true, false, List, [], ◌∷◌, ◌++◌, All, Some, None, length, take, drop, slice_get, get_or, refl, sym, ap, subst, ◌∙◌, cond, arith}
 use Rattle.std.specs.Str.{bytes_eq}
 use Rattle.std.proofs.lemmas.List.{drop_more}
@@ -9,7 +9,8 @@ use Rattle.shared_admin.specs.Closing.{Numbered, rows_of, entries_of, Tells, Are
 use Rattle.shared_admin.proofs.Firsts.{cut_at}
 
 module _ {O : Type 0} where
-  -- Of an operator's rows those before one are told by so many entries; what the other entries do with the other rows, all do with all.
+  -- The operator's rows before this one match this number of entries; whether the other entries
+  -- match the other rows decides whether all match all.
   pub record HasTold (operator : List ℕ) (entries : List (LogEntry O)) (rows : List (Row O)) (told number index : ℕ) : Type 0 where
     pub few : told ≤ index
     pub number_is : number ≡ index + 1
@@ -24,7 +25,7 @@ module _ {O : Type 0} where
   differs_later zero entry entries row rows tells differs = absurd differs
   differs_later (suc place) entry entries row rows tells differs = (tells, differs)
 
-  -- where the next entry is
+  -- the position of the next entry
   rest_is : (entries : List (LogEntry O)) (told : ℕ) (entry : LogEntry O) → slice_get entries told ≡ Some entry → drop told entries ≡ entry ∷ drop (suc told) entries
   rest_is [] told entry there = cc
   rest_is (e ∷ es) zero entry there = ap (λ x. x ∷ es) (let same : e ≡ entry = cc in same)
@@ -48,7 +49,7 @@ module _ {O : Type 0} where
     rows_away : bytes_eq operator row.operator ≡ false → rows_of operator number (drop index rows) ≡ rows_of operator (number + 1) (drop (index + 1) rows)
     rows_away away = rows_left ∙ ap (λ b. cond b ((number, row) ∷ rows_of operator (number + 1) (drop (index + 1) rows)) (rows_of operator (number + 1) (drop (index + 1) rows))) away
 
-    -- a row of another
+    -- a row of another operator
     pub passed : bytes_eq operator row.operator ≡ false → HasTold operator entries rows told (number + 1) (index + 1)
     passed away = record {
       few = omega (arith, before.few);
@@ -58,7 +59,7 @@ module _ {O : Type 0} where
       one_differs = λ place differs. before.one_differs place (subst (DiffersAt place (drop told entries)) (sym (rows_away away)) differs);
     }
 
-    -- a row that the next entry tells
+    -- a row that the next entry matches
     pub told_one : bytes_eq operator row.operator ≡ true → (entry : LogEntry O) → slice_get entries told ≡ Some entry → Tells entry (number, row) → HasTold operator entries rows (told + 1) (number + 1) (index + 1)
     told_one here entry there tells =
         let rest = rows_of operator (number + 1) (drop (index + 1) rows) in
@@ -84,7 +85,7 @@ module _ {O : Type 0} where
     get_rest (e ∷ es) zero entry more is = cc
     get_rest (e ∷ es) (suc k) entry more is = get_rest es k entry more is
 
-    -- a row that the next entry doesn't tell, if there is one
+    -- a row that the next entry, if any, doesn't match
     pub untold : bytes_eq operator row.operator ≡ true → ((entry : LogEntry O) → slice_get entries told ≡ Some entry → ¬ Tells entry (number, row)) → DiffersAt (told + 1) entries (rows_of operator 1 rows)
     untold here off =
         before.one_differs 1 (subst (DiffersAt 1 (drop told entries)) (sym (rows_here here))
@@ -108,17 +109,17 @@ module _ {O : Type 0} where
   no_entries (entry ∷ entries) (suc told) h = no_entries entries told (omega arith)
 
   module _ (operator : List ℕ) (entries : List (LogEntry O)) (rows : List (Row O)) (told number index : ℕ) (through : length rows ≤ index) (before : HasTold operator entries rows told number index) where
-    -- all rows are told, and there is an entry more
+    -- all rows are matched, and an entry remains
     pub one_over : told < length entries → DiffersAt (told + 1) entries (rows_of operator 1 rows)
     one_over more = before.one_differs 1 (subst (λ rs. DiffersAt 1 (drop told entries) (rows_of operator number rs)) (sym (none_left rows index through)) (some_left entries told more))
 
-    -- all rows are told
+    -- all rows are matched
     pub ended : length entries ≤ told → AreTold entries (rows_of operator 1 rows)
     ended none = before.all_told (subst (λ rs. AreTold (drop told entries) (rows_of operator number rs)) (sym (none_left rows index through))
         (subst (λ es. AreTold es []) (sym (no_entries entries told none)) tt))
 
   module _ (logs : List (SessionLog O)) (rows : List (Row O)) (operators : List (List ℕ)) (index : ℕ) (operator : List ℕ) (is : operator ≡ get_or operators index operator) (within : index < length operators)
       (before : All (IsTold logs rows) (take index operators)) where
-    -- the first whose log doesn't tell its rows
+    -- the first operator whose log doesn't match its rows
     pub first_off : (place : ℕ) → DiffersAt place (entries_of logs operator) (rows_of operator 1 rows) → IsFirstMismatch operators logs rows operator place
     first_off place differs = (take index operators, drop (index + 1) operators, cut_at operators index operator is within, before, differs)

@@ -11,7 +11,7 @@ use Rattle.shared_admin.specs.declared.log.SessionLog.{SessionLog}
 use Rattle.shared_admin.specs.declared.close.CloseFault.{CloseFault}
 use Rattle.shared_admin.specs.declared.close.CloseFault.TheVariants.{Missing, Stranger, Mismatch, OtherTree}
 
--- The first of a list that isn't so, with those before it.
+-- The first element of a list that fails the condition, with those before it.
 abbrev pub IsFirstNot : {A : Type 0} → (A → Type 0) → List A → A → Type 0
 IsFirstNot {A} P xs x = (before later : List A) × (xs ≡ before ++ x ∷ later) × All P before × (¬ P x)
 
@@ -31,16 +31,16 @@ module _ {O : Type 0} where
   abbrev pub HasLog : List (SessionLog O) → List ℕ → Type 0
   HasLog logs operator = IsTrue (has_log logs operator)
 
-  -- A log is of one of the operators, and none of those before it is of the same.
+  -- A log belongs to one of the operators, and no earlier log belongs to the same one.
   abbrev pub IsOwnLog : List (List ℕ) → List (SessionLog O) → SessionLog O → Type 0
   IsOwnLog operators before log = IsTrue (is_among operators log.operator) × IsFalse (has_log before log.operator)
 
-  -- The logs are of these operators, none of which has two.
+  -- The logs belong to these operators, at most one to each.
   pub record AreOwnLogs (operators : List (List ℕ)) (logs : List (SessionLog O)) : Type 0 where
     pub known : All (λ log. IsTrue (is_among operators log.operator)) logs
     pub distinct : IsDistinct bytes_eq (operators_of logs)
 
-  -- A row is of one of the operators.
+  -- A row belongs to one of the operators.
   abbrev pub IsOwnRow : List (List ℕ) → Row O → Type 0
   IsOwnRow operators row = IsTrue (is_among operators row.operator)
 
@@ -54,21 +54,23 @@ module _ {O : Type 0} where
   entries_of [] operator = []
   entries_of (log ∷ logs) operator = if bytes_eq operator log.operator then log.entries else entries_of logs operator
 
-  -- An entry tells a row: its request, its number and its reply; and the rows that were seen before are fewer than its number.
+  -- An entry matches a row: its request, its number and its reply are the row's; and the number of
+  -- rows seen before is less than the row's number.
   pub record Tells (entry : LogEntry O) (row : Numbered O) : Type 0 where
     pub request : entry.request ≡ row.1.request
     pub number : entry.row ≡ row.0
     pub reply : entry.reply ≡ row.1.reply
     pub later : entry.seen < row.0
 
-  -- Entries tell rows, one by one.
+  -- Entries match rows, one by one.
   abbrev pub AreTold : List (LogEntry O) → List (Numbered O) → Type 0
   AreTold [] [] = Unit {0}
   AreTold [] (row ∷ rows) = ⊥
   AreTold (entry ∷ entries) [] = ⊥
   AreTold (entry ∷ entries) (row ∷ rows) = Tells entry row × AreTold entries rows
 
-  -- The first place, from 1 on, at which an entry doesn't tell its row, or there is but one of the two.
+  -- The first position, from 1 on, at which an entry doesn't match its row, or only one of the two
+  -- exists.
   abbrev pub DiffersAt : ℕ → List (LogEntry O) → List (Numbered O) → Type 0
   DiffersAt zero entries rows = ⊥
   DiffersAt (suc zero) [] [] = ⊥
@@ -79,12 +81,12 @@ module _ {O : Type 0} where
   DiffersAt (suc (suc place)) (entry ∷ entries) [] = ⊥
   DiffersAt (suc (suc place)) (entry ∷ entries) (row ∷ rows) = Tells entry row × DiffersAt (suc place) entries rows
 
-  -- An operator's log tells the operator's rows.
+  -- An operator's log matches the operator's rows.
   abbrev pub IsTold : List (SessionLog O) → List (Row O) → List ℕ → Type 0
   IsTold logs rows operator = AreTold (entries_of logs operator) (rows_of operator 1 rows)
 
-  -- A closed run: each operator has a log and no other log is there; each log tells its operator's rows, and no other row is there; and the
-  -- first tree is the one that was given.
+  -- A closed run: each operator has a log and there is no other log; each log matches its
+  -- operator's rows, and there is no other row; and the first tree is the one that was given.
   pub record IsClosed (given : Entries) (operators : List (List ℕ)) (logs : List (SessionLog O)) (history : Log O) : Type 0 where
     pub each_has_a_log : All (HasLog logs) operators
     pub no_other_log : AreOwnLogs operators logs
@@ -92,21 +94,23 @@ module _ {O : Type 0} where
     pub told : All (IsTold logs history.rows) operators
     pub same_tree : history.first ≡ given
 
-  -- the operator of the first log that is of none of the operators, or of one that has a log before
+  -- the operator of the first log that belongs to none of the operators, or to one that has an
+  -- earlier log
   abbrev pub IsFirstStrangeLog : List (List ℕ) → List (SessionLog O) → List ℕ → Type 0
   IsFirstStrangeLog operators logs operator =
       (before later : List (SessionLog O)) × (log : SessionLog O) × (logs ≡ before ++ log ∷ later) × AreOwnLogs operators before × (¬ IsOwnLog operators before log) × (log.operator ≡ operator)
 
-  -- the operator of the first row that is of none of the operators
+  -- the operator of the first row that belongs to none of the operators
   abbrev pub IsFirstStrangeRow : List (List ℕ) → List (Row O) → List ℕ → Type 0
   IsFirstStrangeRow operators rows operator = (row : Row O) × IsFirstNot (IsOwnRow operators) rows row × (row.operator ≡ operator)
 
-  -- The first operator whose log doesn't tell its rows, and the first place at which it doesn't.
+  -- The first operator whose log doesn't match its rows, and the first position at which they
+  -- differ.
   abbrev pub IsFirstMismatch : List (List ℕ) → List (SessionLog O) → List (Row O) → List ℕ → ℕ → Type 0
   IsFirstMismatch operators logs rows operator place =
       (before later : List (List ℕ)) × (operators ≡ before ++ operator ∷ later) × All (IsTold logs rows) before × DiffersAt place (entries_of logs operator) (rows_of operator 1 rows)
 
-  -- The first fault of a run that isn't closed: the faults are looked for in this order.
+  -- The first fault of a run that isn't closed: the faults are checked in this order.
   abbrev pub IsFault : Entries → List (List ℕ) → List (SessionLog O) → Log O → CloseFault → Type 0
   IsFault given operators logs history (Missing operator) = IsFirstNot (HasLog logs) operators operator
   IsFault given operators logs history (Stranger operator) =

@@ -1,4 +1,4 @@
--- What happens in one hold of the lock.
+-- What happens while the lock is held once.
 use Rattle.std.specs.Prelude.{◌≡◌, ℕ, Bool, List, Some}
 use Rattle.footprint.specs.Inquiry.{Inquiry}
 use Rattle.footprint.specs.Operations.{Effect}
@@ -24,12 +24,12 @@ IsOfToggle (UndoRefused refusal) = Unit {0}
 IsOfToggle (Redid n) = Unit {0}
 IsOfToggle (RedoRefused refusal) = Unit {0}
 
--- What becomes of a plan that is committed. The reply that is returned with the number is that of the row.
+-- The result of committing a plan. The reply that is returned with the number is that of the row.
 abbrev pub Settles : {O : Type 0} → (O → Bool) → (O → Inquiry Effect) → Log O → List ℕ → Planned O → Log O → Settled (Planned O) → Type 0
 Settles asks meaning old operator plan new (Committed row) = IsCommit asks meaning old operator plan new (commits.Committed row.number) × IsReplyOf new.rows row.number row.reply
 Settles asks meaning old operator plan new (Stale kept at) = IsCommit asks meaning old operator plan new (commits.Stale kept at)
 
--- A plan that is stale is the one that was handed in.
+-- A stale plan is returned as it was passed in.
 abbrev pub KeepsPlan : {O : Type 0} → Planned O → Settled (Planned O) → Type 0
 KeepsPlan plan (Committed row) = Unit {0}
 KeepsPlan plan (Stale kept at) = kept ≡ plan

@@ -1,4 +1,4 @@
--- What holds of all events on all histories, each law the contract of a public function.
+-- What holds for all events on all histories; each law is the contract of a public function.
 use Rattle.std.specs.Prelude.{◌≡◌, ◌↔◌, ℕ, Bool, List, Some, None, set, slice_get}
 use Rattle.link_tree.specs.Trees.{Entries}
 use Rattle.footprint.specs.Inquiry.{Inquiry}
@@ -16,23 +16,24 @@ use Rattle.shared_admin.specs.declared.event.EventReply.TheVariants as replies
 use Rattle.shared_admin.specs.Events.{Slots, Calls, Happens, IsDriven}
 
 module _ {O : Type 0} (asks : O → Bool) (meaning : O → Inquiry Effect) where
-  -- What comes of a plan of this operation, made on this tree, when it is committed.
+  -- The result of committing a plan of this operation that was made on this tree.
   pub record CommitsAsCall (log : Log O) (operator : List ℕ) (c : O) (made_on : Entries) (new : Log O) (reply : EventReply) : Type 0 where
-    -- Exactly where the tree now agrees with all that the plan looked at, what happens is a call of the operation,
+    -- Exactly if the current tree agrees with all that the plan looked at, the event is a call of
+    -- the operation,
     pub called : AgreesWith asks meaning log (planned meaning c made_on) ↔ Calls asks meaning log (operator, Do c) new reply
-    -- and the operation, run now, comes to what the plan says.
+    -- and the operation, run now, has the outcome that the plan says.
     pub same : AgreesWith asks meaning log (planned meaning c made_on) ↔ (planned meaning c made_on ≡ planned meaning c (replay asks meaning log.first log.rows))
-    -- Else the reply is the first key at which the tree differs, and nothing is changed.
+    -- Otherwise the reply is the first key at which the tree differs, and nothing is changed.
     pub stale : (¬ AgreesWith asks meaning log (planned meaning c made_on))
         ↔ ((key : Key) × IsStaleAt asks meaning log (planned meaning c made_on) key × (reply ≡ replies.Stale key) × (new ≡ log))
 
-  -- That is so of each plan in a slot, and the slot keeps its snapshot alone.
+  -- That holds for each plan in a slot, and afterwards the slot keeps only its snapshot.
   abbrev pub PlansCommitAsCalls : Type 0
   PlansCommitAsCalls = (log new : Log O) (slots after : Slots O) (slot : ℕ) (operator : List ℕ) (kept : Kept (Planned O)) (c : O) (made_on : Entries) (reply : EventReply)
       → slice_get slots slot ≡ Some kept → kept.plan ≡ Some (planned meaning c made_on) → Happens asks meaning log slots (events.Commit slot operator) new after reply
       → CommitsAsCall log operator c made_on new reply × (after ≡ set slots slot (record { snapshot = kept.snapshot; plan = None }))
 
-  -- On the same tree the same events leave one history, and one reply each.
+  -- On the same tree the same events result in the same history and the same replies.
   abbrev pub EventsHaveOneOutcome : Type 0
   EventsHaveOneOutcome = (first : Entries) (given : List (Event O)) (new other : Log O) (replies others : List EventReply)
       → IsDriven asks meaning first given new replies → IsDriven asks meaning first given other others → (new ≡ other) × (replies ≡ others)

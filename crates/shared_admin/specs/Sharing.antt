@@ -10,7 +10,7 @@ use Rattle.shared_admin.specs.declared.shared.OpenError.TheVariants.{TooManySess
 abbrev pub is_among : List (List ℕ) → List ℕ → Bool
 is_among operators operator = list_any (bytes_eq operator) operators
 
--- The tree that was given, and the operators. What lies under the lock is known by its type alone.
+-- The tree that was given, and the operators. What the lock protects is known only by its type.
 pub record Opening : Type 0 where
   pub first : Entries
   pub operators : List (List ℕ)
@@ -24,11 +24,12 @@ of_opening_parts (first, operators) = record { first = first; operators = operat
 pub of_own_opening_parts : (opening : Opening) → of_opening_parts (opening_parts opening) ≡ opening
 of_own_opening_parts opening = refl
 
--- Who may share a history: at most sixteen operators, each once.
+-- Which operators may share a history: at most sixteen, each once.
 abbrev pub MayShare : List (List ℕ) → Type 0
 MayShare operators = (length operators ≤ 16) × IsDistinct bytes_eq operators
 
--- Why a history isn't shared, in the order in which the reasons are tried: want of memory comes last.
+-- Why a history can't be shared, in the order in which the reasons are checked: out of memory comes
+-- last.
 abbrev pub IsUnshared : List (List ℕ) → OpenError → Type 0
 IsUnshared operators TooManySessions = 16 < length operators
 IsUnshared operators SameOperator = (length operators ≤ 16) × (¬ IsDistinct bytes_eq operators)

@@ -11,22 +11,22 @@ use history::{History, Operator};
 use link_tree::Tree;
 use tree_steps::are_same;
 
-/// Why a run isn't closed, in the order in which the reasons are looked for.
+/// Why a run isn't closed, in the order in which the reasons are checked.
 #[derive(Clone, Copy, Debug)]
 pub enum CloseFault {
     /// This operator, the first such of those that share the history, has no log.
     Missing(Operator),
-    /// The first log that is of none of the operators, or of one that has a log before, is this
-    /// operator's; or else the first row that is of none.
+    /// This operator has the first log that belongs to none of the operators, or to one that has an
+    /// earlier log; or else the first row that belongs to none of them.
     Stranger(Operator),
-    /// The log of this operator, the first such, doesn't tell the operator's rows. They differ at
-    /// this place first, from 1 on.
+    /// The log of this operator, the first such, doesn't match the operator's rows. This position,
+    /// from 1 on, is the first at which they differ.
     Mismatch(Operator, u32),
     /// The history doesn't begin with the tree that was given.
     OtherTree,
 }
 
-/// A run that isn't closed, and why. The history and the logs are as they were.
+/// A run that isn't closed, and why. The history and the logs are unchanged.
 #[derive(Debug, Drop)]
 pub struct Unclosed<H, L> {
     pub fault: CloseFault,
@@ -35,8 +35,8 @@ pub struct Unclosed<H, L> {
 }
 
 /// Why a run isn't closed, if it isn't: the first that applies of what `CloseFault` lists.
-/// `SharedAdmin::close` asks this of its own history, tree and operators, with the logs that it is
-/// handed.
+/// `SharedAdmin::close` calls this with its own history, tree and operators, and with the logs that
+/// it was given.
 pub fn run_fault<O: Operation>(
     given: &Tree,
     operators: &[Operator],

@@ -25,9 +25,9 @@ pub struct Kept<P> {
     plan: Option<P>,
 }
 
-/// Lets events happen one after another, on a history of this tree without rows and with empty
-/// slots. Returns the history after them, which may have a million rows, and the reply to each
-/// event, in order.
+/// Runs events one after another, on a history of this tree without rows and with empty slots.
+/// Returns the history after them, which may have a million rows, and the reply to each event, in
+/// order.
 ///
 /// The slots of the events are from 0 to 15. Fails only if memory runs out.
 pub fn drive<O: Operation>(
@@ -45,7 +45,7 @@ pub fn drive<O: Operation>(
     Ok((history, replies))
 }
 
-/// Lets events happen one after another on a history, with slots that are empty at first.
+/// Runs events one after another on a history, with slots that are empty at first.
 fn drive_on<O: Operation>(
     alloc: Global,
     history: &mut History<O>,
@@ -63,7 +63,7 @@ fn drive_on<O: Operation>(
     Ok(replies)
 }
 
-/// Sixteen slots that keep nothing. Fails only if memory runs out.
+/// Sixteen empty slots. Fails only if memory runs out.
 pub fn empty_slots<P: Drop>(alloc: Global) -> Result<Vec<Kept<P>>, AllocError>
     ensures { IfOk result (λ slots. slots.items ≡ replicate 16 nothing_kept) }
 {
@@ -77,11 +77,11 @@ pub fn empty_slots<P: Drop>(alloc: Global) -> Result<Vec<Kept<P>>, AllocError>
     Ok(slots)
 }
 
-/// Lets one event happen on a history and its slots, for events that come one at a time: `drive`
-/// does the same with a list of them.
+/// Runs one event on a history and its slots, for events that arrive one at a time: `drive` does
+/// the same with a list of them.
 ///
 /// There are sixteen slots, and that of the event is from 0 to 15. Fails only if memory runs out,
-/// and then history and slots are as before. If the history is full, the reply is `Full`, whether
+/// and then history and slots are unchanged. If the history is full, the reply is `Full`, whether
 /// or not memory runs out.
 pub fn happen<O: Operation>(
     alloc: Global,
@@ -165,7 +165,7 @@ fn take_plan<O: Operation>(
     }
 }
 
-/// What a commit that made no row replies. If memory ran out, the plan is put back into the slot.
+/// The reply to a commit that made no row. If memory ran out, the plan is put back into the slot.
 fn uncommitted<O: Operation>(
     slot: &mut Kept<Plan<O>>,
     left: Uncommitted<Plan<O>>,
@@ -237,7 +237,7 @@ fn redo<O: Operation>(
     }
 }
 
-/// The reply to an event that made no row because the history is full. Out of memory is no reply:
+/// The reply to an event that made no row because the history is full. Out of memory isn't a reply:
 /// it is this function's error.
 fn no_row(why: CallError) -> Result<EventReply, AllocError>
     ensures full { IfOk result (λ reply. (reply ≡ replies.Full) × (why ≡ errors.Full)) }

@@ -7,15 +7,14 @@ use history::Operator;
 /// may keep a snapshot and a plan.
 #[derive(Debug, Drop)]
 pub enum Event<O> {
-    /// The slot keeps a snapshot of the history as it is. A plan in the slot stays.
+    /// The slot keeps a snapshot of the current history. A plan in the slot is unchanged.
     Snap(u8),
     /// The slot keeps a plan of the operation, made on its snapshot, instead of the plan that it
     /// had. If it has no snapshot, nothing happens.
     Plan(u8, O),
-    /// The operator commits the slot's plan. The slot doesn't keep the plan, whether or not a row
-    /// is made.
+    /// The operator commits the slot's plan. The slot drops the plan, whether or not a row is made.
     Commit(u8, Operator),
-    /// The operator calls an operation on the tree as it is.
+    /// The operator calls an operation on the current tree.
     Call(Operator, O),
     /// The operator undoes the row of this number, unless that is refused.
     Undo(Operator, u32),
@@ -23,7 +22,7 @@ pub enum Event<O> {
     Redo(Operator, u32),
 }
 
-/// What resulted from an event.
+/// The result of an event.
 #[derive(Debug, Drop)]
 pub enum EventReply {
     /// A snapshot was taken.
@@ -36,6 +35,6 @@ pub enum EventReply {
     Committed(u32),
     /// The tree differs from what the plan looked at, at this key first. No row was made.
     Stale(Key),
-    /// There are as many rows as there may be. No row was made.
+    /// The history has as many rows as it may have. No row was made.
     Full,
 }

@@ -1,4 +1,4 @@
-//! What happens while the lock is held: each function is lent the history.
+//! What happens while the lock is held: each function borrows the history.
 ghost use Rattle.std.specs.Prelude.{◌≡◌, ◌<◌, ◌↔◌, IfOk, IfErr, OnOk, OnErr, length};
 ghost use Rattle.history.specs.Plans.{AgreesWith};
 ghost use Rattle.history.specs.Rows.{rows_after, IdleStays};
@@ -15,11 +15,11 @@ use std::alloc::{AllocError, Global};
 #[derive(Debug, Drop)]
 pub struct NewRow {
     pub number: u32,
-    /// What the row says; it may be a refusal.
+    /// The row's reply; it may be a refusal.
     pub reply: RowReply,
 }
 
-/// What became of a plan that was committed.
+/// The result of committing a plan.
 #[derive(Debug, Drop)]
 pub enum Settled<P> {
     /// The tree agreed with all that the plan looked at, and this row was made.
@@ -29,7 +29,7 @@ pub enum Settled<P> {
 }
 
 /// Commits a plan. The reply is copied before the row is added, so that a row that is made is
-/// always reported.
+/// always reported. The reply of a plan that makes no row isn't copied.
 pub(crate) fn commit<O: Operation>(
     history: &mut History<O>,
     operator: Operator,
@@ -44,6 +44,9 @@ pub(crate) fn commit<O: Operation>(
 {
     if history.is_full() {
         return commit_to_full(history, operator, plan);
+    }
+    if !history.agrees_with(&plan) {
+        return commit_stale(history, operator, plan);
     }
     let copy = plan.answer().copy();
     match copy {
@@ -63,6 +66,27 @@ fn commit_to_full<O: Operation>(
     plan: Plan<O>,
 ) -> Result<Settled<Plan<O>>, Uncommitted<Plan<O>>>
     requires { length history.old.rows ≡ history.old.limit }
+    ensures first { history.new.first ≡ history.old.first }
+    ensures limit { history.new.limit ≡ history.old.limit }
+    ensures settled { IfOk result (λ settled. Settles O.asks O.meaning history.old operator plan history.new settled) }
+    ensures err { OnErr result (history.new ≡ history.old) }
+    ensures handed_back { IfErr result (λ left. left.plan ≡ plan) }
+    ensures full { IfErr result (λ left. (left.why ≡ errors.Full) ↔ (AgreesWith O.asks O.meaning history.old plan × (length history.old.rows ≡ history.old.limit))) }
+{
+    match history.commit(operator, plan) {
+        Ok(Commit::Committed(_)) => unreachable!(),
+        Ok(Commit::Stale { plan, at }) => Ok(Settled::Stale { plan, at }),
+        Err(left) => Err(left),
+    }
+}
+
+/// Commits a plan that the tree doesn't agree with.
+fn commit_stale<O: Operation>(
+    history: &mut History<O>,
+    operator: Operator,
+    plan: Plan<O>,
+) -> Result<Settled<Plan<O>>, Uncommitted<Plan<O>>>
+    requires { ¬ AgreesWith O.asks O.meaning history.old plan }
     ensures first { history.new.first ≡ history.old.first }
     ensures limit { history.new.limit ≡ history.old.limit }
     ensures settled { IfOk result (λ settled. Settles O.asks O.meaning history.old operator plan history.new settled) }
@@ -99,7 +123,7 @@ fn commit_with<O: Operation>(
     }
 }
 
-/// Runs an operation on the tree as it is. The reply is copied before the row is added.
+/// Runs an operation on the current tree. The reply is copied before the row is added.
 pub(crate) fn call<O: Operation>(
     history: &mut History<O>,
     alloc: Global,
@@ -134,8 +158,8 @@ pub(crate) fn call<O: Operation>(
     }
 }
 
-/// Undoes a row, unless that is refused. The reply is copied once the row is added, which takes no
-/// memory.
+/// Undoes a row, unless that is refused. The reply is copied after the row is added; copying it
+/// allocates no memory.
 pub(crate) fn undo<O: Operation>(
     history: &mut History<O>,
     alloc: Global,
@@ -158,8 +182,8 @@ pub(crate) fn undo<O: Operation>(
     Ok(NewRow { number, reply })
 }
 
-/// Redoes a row, unless that is refused. The reply is copied once the row is added, which takes no
-/// memory.
+/// Redoes a row, unless that is refused. The reply is copied after the row is added; copying it
+/// allocates no memory.
 pub(crate) fn redo<O: Operation>(
     history: &mut History<O>,
     alloc: Global,

@@ -1,18 +1,18 @@
-//! What sessions were answered.
+//! What replies sessions received.
 ghost use Rattle.std.specs.Prelude.{◌≡◌, ◌++◌, ◌∷◌, [], OnOk, OnErr};
 
 use history::{Operator, Request, RowReply};
 use std::alloc::{AllocError, Global};
 use std::marker::Model;
 
-/// A call of a session, as the session tells it.
+/// A call of a session, as the session recorded it.
 #[derive(Debug, Drop)]
 pub struct LogEntry<O> {
-    /// What it asked for.
+    /// Its request.
     pub request: Request<O>,
-    /// How many rows it had seen, or was told of, before.
+    /// How many rows the session had seen, or had been told about, before.
     pub seen: u32,
-    /// The number of the row that it made.
+    /// The number of the row that the call made.
     pub row: u32,
     pub reply: RowReply,
 }
@@ -40,7 +40,7 @@ impl<O> Model for LogEntries<O> {
 }
 
 impl<O: Drop> LogEntries<O> {
-    /// No entries. Takes no memory.
+    /// No entries. Allocates no memory.
     pub fn none(alloc: Global) -> LogEntries<O>
         ensures { result ≡ [] }
     {
@@ -49,7 +49,7 @@ impl<O: Drop> LogEntries<O> {
         }
     }
 
-    /// Adds an entry. Where memory runs out the list stays as it was.
+    /// Adds an entry. If memory runs out, the list is unchanged.
     pub fn push(&mut self, entry: LogEntry<O>) -> Result<(), AllocError>
         ensures ok { OnOk result (self.new ≡ self.old ++ entry ∷ []) }
         ensures err { OnErr result (self.new ≡ self.old) }
@@ -104,7 +104,7 @@ impl<O> Model for SessionLogs<O> {
 }
 
 impl<O: Drop> SessionLogs<O> {
-    /// No logs. Takes no memory.
+    /// No logs. Allocates no memory.
     pub fn none(alloc: Global) -> SessionLogs<O>
         ensures { result ≡ [] }
     {
@@ -113,7 +113,7 @@ impl<O: Drop> SessionLogs<O> {
         }
     }
 
-    /// Adds a log. Where memory runs out the list stays as it was.
+    /// Adds a log. If memory runs out, the list is unchanged.
     pub fn push(&mut self, log: SessionLog<O>) -> Result<(), AllocError>
         ensures ok { OnOk result (self.new ≡ self.old ++ log ∷ []) }
         ensures err { OnErr result (self.new ≡ self.old) }

@@ -1,4 +1,4 @@
-//! Who shares a history.
+//! The operators who share a history.
 ghost use Rattle.std.specs.Prelude.{◌≡◌, ◌<◌, ◌++◌, ◌∷◌, [], true, false, IsOk, OnOk, OnErr, length};
 ghost use Rattle.std.specs.List.{IsDistinct};
 ghost use Rattle.std.specs.Str.{bytes_eq};
@@ -12,7 +12,8 @@ use std::marker::Model;
 /// The most operators that may share a history.
 pub const MAX_SESSIONS: usize = 16;
 
-/// Operators, in an order. Contracts see the list of their names. Sixteen of them take no memory.
+/// Operators, in an order. Contracts see the list of their names. Up to sixteen of them allocate no
+/// memory.
 #[derive(Debug, Drop)]
 pub struct Operators {
     items: SmallVec<Operator, MAX_SESSIONS>,
@@ -39,7 +40,7 @@ impl Operators {
     }
 
     /// Adds an operator. Only the seventeenth and later ones need memory; if it runs out, the list
-    /// stays as it was.
+    /// is unchanged.
     pub fn push(&mut self, operator: Operator) -> Result<(), AllocError>
         ensures ok { OnOk result (self.new ≡ self.old ++ operator ∷ []) }
         ensures room { length self.old < 16 → IsOk result }
@@ -70,7 +71,7 @@ pub(crate) fn is_among(operators: &[Operator], operator: &Operator) -> bool
     operators.iter().any(|one| has_text(one, operator.text()))
 }
 
-/// Whether no operator is there twice.
+/// Whether no operator is in the list twice.
 pub(crate) fn are_distinct(operators: &[Operator]) -> bool
     ensures yes { result ≡ true → IsDistinct bytes_eq operators.now }
     ensures no { result ≡ false → ¬ IsDistinct bytes_eq operators.now }

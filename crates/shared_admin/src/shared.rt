@@ -18,7 +18,7 @@ use std::alloc::{AllocError, Global};
 use std::marker::Model;
 use std::sync::{Mutex, Wait};
 
-/// Why a history isn't shared. The first reason that applies is reported.
+/// Why a history can't be shared. The first reason that applies is reported.
 #[derive(Clone, Copy, Debug, PartialEq, Eq)]
 pub enum OpenError {
     /// There are more than sixteen operators.
@@ -29,9 +29,9 @@ pub enum OpenError {
 }
 
 /// A history that several operators share. Each call on it takes the lock once, and what happens
-/// while it is held is one step: [`History`] says which. Contracts see the tree that was given and
-/// the operators; of the history they see what its type says: whenever the lock is free, its rows
-/// are legal and its tree is their replay.
+/// while the lock is held is one step, which [`History`] describes. Contracts see the tree that was
+/// given and the operators; of the history they see only its type invariant: whenever the lock is
+/// free, its rows are legal and its tree is their replay.
 #[derive(Drop)]
 pub struct SharedAdmin<O: Operation> {
     first: Tree,
@@ -56,7 +56,7 @@ impl<O: Operation> Model for SharedAdmin<O> {
 
 impl<O: Operation> SharedAdmin<O> {
     /// A history of a tree, without rows, which these operators share; it may have a million rows.
-    /// The tree that was given is kept along with it.
+    /// The tree that was given is stored with it.
     ///
     /// There are at most sixteen operators, each once; there may be none. The error is
     /// `TooManySessions` if there are more, else `SameOperator` if one is in the list twice, else
@@ -99,14 +99,14 @@ impl<O: Operation> SharedAdmin<O> {
         })
     }
 
-    /// The history as it is now: its tree, which is shared and not copied, and how many rows there
-    /// are. Fails only if memory runs out.
+    /// A snapshot of the history: its current tree, which is shared and not copied, and how many
+    /// rows there are. Fails only if memory runs out.
     pub fn snapshot(&self, rt: &impl Wait) -> Result<Snapshot, AllocError> {
         snapshot_of(&*self.history.lock(rt))
     }
 
     /// Commits a plan, as `History::commit` does. The new row's number and its reply are returned;
-    /// a plan that makes no row comes back.
+    /// a plan that makes no row is returned.
     ///
     /// The error is `Full` if the tree agrees with all that the plan looked at and there are a
     /// million rows, else `OutOfMemory`. No row was made then.
@@ -122,8 +122,8 @@ impl<O: Operation> SharedAdmin<O> {
         holds::commit(&mut *self.history.lock(rt), operator, plan)
     }
 
-    /// Runs an operation on the tree as it is while the lock is held, as `History::call` does. The
-    /// new row's number and its reply are returned; an operation that makes no row comes back.
+    /// Runs an operation on the current tree while the lock is held, as `History::call` does. The
+    /// new row's number and its reply are returned; an operation that makes no row is returned.
     ///
     /// The error is `Full` if there are a million rows, else `OutOfMemory`. No row was made then.
     pub fn call(
@@ -139,7 +139,7 @@ impl<O: Operation> SharedAdmin<O> {
     }
 
     /// Undoes the row of this number, unless that is refused, as `History::undo` does: its changes
-    /// are taken back. The lock is taken once. The new row's number and its reply are returned; the
+    /// are reverted. The lock is taken once. The new row's number and its reply are returned; the
     /// reply is `Undid`, or `UndoRefused` with the reason.
     ///
     /// The error is `Full` if there are a million rows, else `OutOfMemory`. No row was made then,
@@ -171,11 +171,11 @@ impl<O: Operation> SharedAdmin<O> {
         holds::redo(&mut *self.history.lock(rt), alloc, operator, n)
     }
 
-    /// Ends the sharing, and says whether the run is closed: each operator has one log, which has
-    /// an entry for each of its rows, in their order, with the row's request and reply, and each
-    /// row was made after all that the session had seen; there is no other log and no other row;
-    /// and the history begins with the tree that was given. History and logs come back in any case,
-    /// as they were. Takes no memory.
+    /// Ends the sharing, and reports whether the run is closed: each operator has exactly one log,
+    /// which has an entry for each of the operator's rows, in their order, with the row's request
+    /// and reply, and each row was made after all rows that the session had seen; there is no other
+    /// log and no other row; and the history begins with the tree that was given. History and logs
+    /// are always returned, unchanged. Allocates no memory.
     pub fn close(
         self,
         logs: SessionLogs<O>,

@@ -9,7 +9,7 @@ use history::{History, Plan, Unrun};
 use link_tree::Tree;
 use std::alloc::{AllocError, Global};
 
-/// A history's tree as it was after so many rows. Calls on the history don't change it.
+/// A history's tree as it was after this many rows. Calls on the history don't change it.
 #[derive(Drop)]
 pub struct Snapshot {
     pub tree: Tree,
@@ -17,7 +17,8 @@ pub struct Snapshot {
     pub front: u32,
 }
 
-/// A history as it is. Its tree is shared, not copied, until one of the two is changed.
+/// A snapshot of a history as it is now. The tree is shared, not copied, until one of the two is
+/// changed.
 pub(crate) fn snapshot_of<O: Operation>(history: &History<O>) -> Result<Snapshot, AllocError>
     ensures { IfOk result (λ snapshot. snapshot ≡ snapshot_of O.asks O.meaning history.now) }
 {
@@ -27,8 +28,8 @@ pub(crate) fn snapshot_of<O: Operation>(history: &History<O>) -> Result<Snapshot
     })
 }
 
-/// Runs an operation on a snapshot, which stays as it is; no history is changed. Fails only if
-/// memory runs out, and then hands the operation back.
+/// Runs an operation on a snapshot, which is unchanged; no history is changed. Fails only if memory
+/// runs out, and then returns the operation.
 pub fn plan<O: Operation>(
     alloc: Global,
     snapshot: &Snapshot,

@@ -1,4 +1,4 @@
-//! Whether the logs and the rows are of the operators that share the history.
+//! Whether the logs and the rows belong to the operators that share the history.
 ghost use Rattle.std.specs.Prelude.{◌≡◌, true, false, All, IfNone, IfSome};
 ghost use Rattle.shared_admin.specs.Closing.{has_log, HasLog, IsOwnLog, AreOwnLogs, IsOwnRow, IsFirstNot, IsFirstStrangeLog, IsFirstStrangeRow};
 
@@ -31,7 +31,7 @@ pub(crate) fn missing<O: Operation>(
     None
 }
 
-/// Whether a log is of one of the operators, and none of those before it is of the same.
+/// Whether a log belongs to one of the operators, and no earlier log belongs to the same one.
 fn is_own_log<O: Operation>(
     operators: &[Operator],
     before: &[SessionLog<O>],
@@ -43,7 +43,8 @@ fn is_own_log<O: Operation>(
     is_among(operators, &log.operator) && !has_log(before, &log.operator)
 }
 
-/// The operator of the first log that is of none of the operators, or of one that has a log before.
+/// The operator of the first log that belongs to none of the operators, or to one that has an
+/// earlier log.
 pub(crate) fn strange_log<O: Operation>(
     operators: &[Operator],
     logs: &[SessionLog<O>],
@@ -60,7 +61,7 @@ pub(crate) fn strange_log<O: Operation>(
     None
 }
 
-/// The operator of the first row that is of none of the operators.
+/// The operator of the first row that belongs to none of the operators.
 pub(crate) fn strange_row<O: Operation>(operators: &[Operator], rows: &[Row<O>]) -> Option<Operator>
     ensures none { IfNone result (All (IsOwnRow operators.now) rows.now) }
     ensures some { IfSome result (λ operator. IsFirstStrangeRow operators.now rows.now operator) }

@@ -1,4 +1,4 @@
-//! Whether the operators' logs tell their rows.
+//! Whether the operators' logs match their rows.
 ghost use Rattle.std.specs.Prelude.{◌≡◌, ◌≤◌, true, false, Some, All, IfNone, IfSome, length, slice_get};
 ghost use Rattle.shared_admin.specs.declared.log.LogEntry.{LogEntry};
 ghost use Rattle.shared_admin.specs.Closing.{rows_of, entries_of, Tells, AreTold, DiffersAt, IsTold, IsFirstMismatch};
@@ -8,7 +8,8 @@ use crate::operators::has_text;
 use footprint::Operation;
 use history::{Operator, Row};
 
-/// The first operator whose log doesn't tell its rows, and the first place at which it doesn't.
+/// The first operator whose log doesn't match its rows, and the first position at which they
+/// differ.
 pub(crate) fn mismatch<O: Operation>(
     operators: &[Operator],
     logs: &[SessionLog<O>],
@@ -38,7 +39,7 @@ fn entries_of<'a, O: Operation>(logs: &'a [SessionLog<O>], operator: &Operator) 
     &[]
 }
 
-/// The first place, from 1 on, at which the entries don't tell the operator's rows.
+/// The first position, from 1 on, at which the entries don't match the operator's rows.
 fn differs_at<O: Operation>(
     operator: &Operator,
     entries: &[LogEntry<O>],
@@ -66,7 +67,7 @@ fn differs_at<O: Operation>(
     }
 }
 
-/// Whether there is an entry at the place, and it tells the row.
+/// Whether there is an entry at this position, and it matches the row.
 fn tells_at<O: Operation>(entries: &[LogEntry<O>], place: usize, number: u32, row: &Row<O>) -> bool
     ensures yes { result ≡ true → (entry : LogEntry O) × (slice_get entries.now place ≡ Some entry) × Tells entry (number, row.now) }
     ensures no { result ≡ false → (entry : LogEntry O) → slice_get entries.now place ≡ Some entry → ¬ Tells entry (number, row.now) }
@@ -77,7 +78,7 @@ fn tells_at<O: Operation>(entries: &[LogEntry<O>], place: usize, number: u32, ro
     }
 }
 
-/// Whether an entry tells the row of this number.
+/// Whether an entry matches the row of this number.
 fn tells<O: Operation>(entry: &LogEntry<O>, number: u32, row: &Row<O>) -> bool
     ensures yes { result ≡ true → Tells entry.now (number, row.now) }
     ensures no { result ≡ false → ¬ Tells entry.now (number, row.now) }

@@ -1,4 +1,4 @@
--- One line more of a script.
+-- One more line of a script.
 use Rattle.std.proofs.Common.{◌⊎◌, ◌∷◌, ◌++◌, append_assoc, inr, ◌≡◌, ℕ, ◌+◌, ◌-◌, ◌<◌, ◌≤◌, List, [], Option, None, Some, Result, Ok, Err, Bool, refl, sym, ap, ◌∙◌, arith, zero, suc, subst, true, false}
 use Rattle.std.specs.Prelude.{MatchBool}
 use Rattle.byte_streams.specs.Lines.{Front, Whole, Last, Long, front_line}
@@ -41,7 +41,7 @@ calls_at-step (suc more) number calls call bytes rest some e =
     let less : suc more - 1 ≡ more = omega arith in
     rw (less, e) refl
 
--- whole lines were taken, which give, with whatever follows them, what all of it gives
+-- whole lines were read, whose result, together with whatever follows them, is that of the whole
 pub record LinesTaken (number : ℕ) (calls : List Call) (taken : List ℕ) : Type 0 where
   pub gives : (more : List ℕ) → calls_at (2000001 - number) number calls more ≡ calls_at 2000000 1 [] (taken ++ more)
   pub ends : (taken ≡ []) ⊎ EndsLine taken
@@ -54,7 +54,7 @@ reached_rest first now number calls so_far bytes e =
     let at = so_far bytes e in
     (at.1, at.3, at.4.gives at.1 ∙ ap (calls_at 2000000 1 []) (sym at.2))
 
--- a line that had an end, and what is read of it whatever follows
+-- a line that had a line end, and what is read from it whatever follows
 whole_line : (bytes : List ℕ) (call : Option Call) (rest : List ℕ) → call_of_front (front_line 65536 bytes) ≡ Ok (call, Some rest) → (line : List ℕ) × (bytes ≡ line ++ 10 ∷ rest) × ((more : List ℕ) → call_of_front (front_line 65536 (line ++ 10 ∷ more)) ≡ Ok (call, Some more))
 whole_line bytes call rest is = of_front (front_line 65536 bytes) refl is
   where
@@ -116,7 +116,7 @@ module _ (first mid new : Option (List ℕ)) (number : ℕ) (calls : List Call) 
       let here : call_of_front (front_line 65536 at.0) ≡ Ok (found.call, None) = subst (λ (b : Bool). MatchBool b ((rest : List ℕ) × (new ≡ Some rest) × (call_of_front (front_line 65536 at.0) ≡ Ok (found.call, Some rest))) (call_of_front (front_line 65536 at.0) ≡ Ok (found.call, None))) last at.1 in
       sym at.2 ∙ calls_at-end (2000001 - number) number calls found.call at.0 (omega arith) here ∙ ap (λ (cs : List Call). Ok cs) (sym pushed)
 
-  -- with one whole line more
+  -- with one more whole line
   pub reached_more : (found : ReadCall) (calls' : List Call) → r ≡ Ok found → found.has_end ≡ true → calls' ≡ with_call calls found.call → (taken rest : List ℕ) × (bytes ≡ taken ++ rest) × (new ≡ Some rest) × LinesTaken (number + 1) calls' taken
   reached_more found calls' is more pushed =
       let at = so_far bytes e in

@@ -1,4 +1,4 @@
--- Escaped texts: their bytes one after another, and bytes that are escaped and read again.
+-- Escaped texts: their bytes one after another, and reading bytes back after they are escaped.
 use Rattle.std.proofs.Common.{◌≡◌, ◌≤◌, ℕ, ◌+◌, ◌<◌, Bool, true, false, cond, List, [], ◌∷◌, ◌++◌, Option, Some, None, refl, sym, ap, subst, ◌∙◌, drop, get_or, length, inl, inr}
 use Rattle.std.specs.Prelude.{◌==◌, codes}
 use Rattle.std.specs.List.{flat_map, list_all}
@@ -8,7 +8,7 @@ use Rattle.std.proofs.lemmas.Bool.{cases_Bool, eqb-true}
 use Rattle.unit_script.specs.Escapes.{is_backslash, meant, before, unescaped, escaped}
 use Rattle.unit_script.specs.Laws.{is_word_byte, EscapedIsRead, EscapedIsWord}
 
--- bytes with those that are still to come, if these are known
+-- the bytes so far with the remaining ones, if these are known
 abbrev pub after : List ℕ → Option (List ℕ) → Option (List ℕ)
 after bytes more = option_map (λ rest. bytes ++ rest) more
 
@@ -79,7 +79,7 @@ module _ (word : List ℕ) (i : ℕ) (bytes : List ℕ) (behind : Bool) (so_far 
     pub reading_ends : behind ≡ false → Some bytes ≡ unescaped false word
     reading_ends is = sym (good_end bytes behind is) ∙ done
 
--- what holds of each byte that has an escape and of all others holds of each
+-- what holds for each byte that has an escape and for all others holds for each byte
 by_escape : (P : ℕ → List ℕ → Type 0) → P 10 (codes "\\n") → P 9 (codes "\\t") → P 32 (codes "\\s") → P 92 (codes "\\\\")
     → ((b : ℕ) → (b == 10) ≡ false → (b == 32) ≡ false → is_backslash b ≡ false → P b (b ∷ [])) → (b : ℕ) → P b (escaped b)
 by_escape P end tab space slash other b = elim (cases_Bool (b == 10)) [

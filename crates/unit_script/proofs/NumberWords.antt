@@ -1,4 +1,4 @@
--- The number that the digits of a word write.
+-- The number that the digits of a word represent.
 use Rattle.std.proofs.Common.{◌≡◌, ℕ, ◌+◌, ◌-◌, ◌*◌, ◌^◌, ◌<◌, ◌≤◌, ◌&&◌, true, cond, List, [], ◌∷◌, None, Some, refl, sym, ap, ◌∙◌, inl, inr, arith}
 use Rattle.std.specs.Prelude.{nat_lt}
 use Rattle.std.specs.List.{list_all}
@@ -13,7 +13,7 @@ use Rattle.unit_script.specs.Laws.{NumbersAreDigits}
 value_of_digit : (b : ℕ) → is_ascii_digit b ≡ true → digit_value b ≡ b - 48
 value_of_digit b digit = let bounds = digit_bounds b digit in omega (arith, digit_value_digit b bounds, bounds)
 
--- more digits write no smaller number
+-- appending digits makes the number no smaller
 grows : (n : ℕ) (bs : List ℕ) → n ≤ digits_value_after 10 n bs
 grows n [] = omega arith
 grows n (b ∷ bs) = omega (arith, grows (n * 10 + digit_value b) bs)

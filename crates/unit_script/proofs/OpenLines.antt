@@ -36,7 +36,7 @@ use Rattle.unit_script.proofs.ScriptLines.{calls_behind, empty_line, no_line}
 ok_is_ok : {X E : Type 0} (r : Result X E) (x : X) → r ≡ Ok x → IsOk r
 ok_is_ok r x is = ap is_ok is
 
--- no byte more than a line may have
+-- no more bytes than a line may have
 pub none_open : (taken : List ℕ) → front_line 0 taken ≡ Last taken → taken ≡ []
 none_open taken is = none taken (last_is 0 taken taken is).1.few
   where
@@ -44,7 +44,7 @@ none_open taken is = none taken (last_is 0 taken taken is).1.few
     none [] few = refl
     none (b ∷ bs) few = absurd (omega (arith, few))
 
--- a reader of nothing, which failed
+-- a reader that read nothing, and failed
 abbrev failed : {F : Type 0} → ReadError F → Result (Unit {0}) (ReadError F)
 failed e = Err e
 
@@ -52,7 +52,7 @@ module _ (number : ℕ) (calls : List Call) (taken : List ℕ) (lines : LinesTak
   whole : IsOk (calls_at 2000000 1 [] taken)
   whole = ok_is_ok _ calls (ap (calls_at 2000000 1 []) (sym (append-nil taken)) ∙ sym (lines.gives []) ∙ no_line (2000001 - number) number calls)
 
-  -- nothing is decided behind whole lines
+  -- nothing is decided after whole lines
   at_line_end : IsOpenCalls taken
   at_line_end = record {
     lines = taken;
@@ -67,7 +67,7 @@ module _ (number : ℕ) (calls : List Call) (taken : List ℕ) (lines : LinesTak
   pub open_at_limit : (more : List ℕ) → more ≡ [] → IsOpenCalls (taken ++ more)
   open_at_limit more none = subst IsOpenCalls (sym (ap (λ l. taken ++ l) none ∙ append-nil taken)) at_line_end
 
-  -- nor in the next line
+  -- nor within the next line
   pub open_in_line : number ≤ 2000000 → (part : List ℕ) → front_line 65536 part ≡ Last part → IsOpenCalls (taken ++ part)
   open_in_line few part short = record {
     lines = taken;
@@ -84,7 +84,7 @@ module _ (number : ℕ) (calls : List Call) (taken : List ℕ) (lines : LinesTak
   }
 
 module _ (first mid new : Option (List ℕ)) (number : ℕ) (calls : List Call) (so_far : Reached first mid number calls) where
-  -- behind the last line that there may be
+  -- after the last line that is allowed
   pub stops_at_limit : (r : Result (Unit {0}) (ReadError ScriptFault)) (e : ReadError ScriptFault) → r ≡ Err e → StopsInTime (λ taken. taken ≡ []) r mid new → StopsInTime {X = Unit {0}} IsOpenCalls (Err e) first new
   stops_at_limit r e is stops =
       failed_later first mid new (λ taken. taken ≡ []) IsOpenCalls (λ bytes e. let at = so_far bytes e in (at.0, at.1, at.2, at.3, open_at_limit number calls at.0 at.4)) r (failed e) e is refl stops
@@ -93,7 +93,7 @@ module _ (first mid new : Option (List ℕ)) (number : ℕ) (calls : List Call) 
     behind_lines : Takes first mid (λ front rest. (taken : List ℕ) → front_line 65536 taken ≡ Last taken → IsOpenCalls (front ++ taken))
     behind_lines bytes e = let at = so_far bytes e in (at.0, at.1, at.2, at.3, open_in_line number calls at.0 at.4 few)
 
-    -- in a line that was not read
+    -- within a line that could not be read
     pub stops_in_line : {X : Type 0} (r : Result X (ReadError Reason)) (e : ReadError Reason) → r ≡ Err e → StopsInTime (λ taken. front_line 65536 taken ≡ Last taken) r mid new → StopsInTime {X = List Call} IsOpenCalls (Err (script_error_of number e)) first new
     stops_in_line r e is stops = as_script e (failed_later first mid new (λ taken. front_line 65536 taken ≡ Last taken) IsOpenCalls behind_lines r (failed e) e is refl stops)
       where
@@ -102,7 +102,7 @@ module _ (first mid new : Option (List ℕ)) (number : ℕ) (calls : List Call) 
         as_script reads.ReadFault stops = stops
         as_script reads.OutOfMemory stops = tt
 
--- in the first line
+-- within the first line
 pub stops_in_first_line : {X : Type 0} (r : Result X (ReadError ScriptFault)) (e : ReadError ScriptFault) (old new : Option (List ℕ)) → r ≡ Err e → StopsInTime (λ taken. front_line 8 taken ≡ Last taken) r old new → StopsInTime {X = Unit {0}} IsOpenScript (Err e) old new
 stops_in_first_line r e old new is stops = failed_sooner (λ taken. front_line 8 taken ≡ Last taken) IsOpenScript (λ taken still. inl still) r (failed e) e old new is refl stops
 
@@ -148,7 +148,7 @@ module _ (first mid new : Option (List ℕ)) (begins : (bytes : List ℕ) → fi
       let at = begins bytes e in
       (codes "== calls\n", at.0, calls_line_is bytes at.0 at.2, at.1, open_behind)) r stops
 
--- a script behind an inventory
+-- a script after an inventory
 pub input_behind : (first mid new : Option (List ℕ)) (tree : Entries) → ((bytes : List ℕ) → first ≡ Some bytes → (rest : List ℕ) × (mid ≡ Some rest) × (inventory_of bytes ≡ Ok (tree, rest))) → Takes mid new (λ taken rest. IsOpenScript taken) → Takes first new (λ taken rest. IsOpenInput taken)
 input_behind first mid new tree reads stops =
     takes_behind first mid new (λ taken rest. IsOpenScript taken) (λ taken rest. IsOpenInput taken) (λ bytes e.

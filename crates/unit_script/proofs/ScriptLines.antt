@@ -1,4 +1,4 @@
--- A script that is put together from lines is read as their calls, and then comes what it ends with.
+-- A script that is built from lines is read as their calls, followed by those of its tail.
 use Rattle.std.proofs.Common.{◌≡◌, ◌≢◌, ◌<◌, ◌≤◌, ◌+◌, ◌-◌, ℕ, zero, suc, true, false, not, ◌==◌, cond, List, [], ◌∷◌, ◌++◌, length, Option, None, Some, Result, Ok, Err, refl, sym, ap, ◌∙◌, arith, inl, inr}
 use Rattle.std.specs.Prelude.{codes, nat_le}
 use Rattle.std.specs.List.{list_all}
@@ -19,7 +19,7 @@ use Rattle.unit_script.specs.Script.{words_of, call_of_line, call_of_front, in_l
 use Rattle.unit_script.specs.Laws.{is_line_byte, is_line, lines_text, calls_of, ScriptIsLines, LastLineNeedsNoEnd, LongLineIsTold, OneLineMoreIsTold}
 use Rattle.unit_script.proofs.Calls.{calls_at-bad, calls_at-end, calls_at-limit, calls_at-step}
 
--- bytes of a line, none of which ends it
+-- the bytes of a line, none of which is a line end
 clean_line : (line : List ℕ) → list_all is_line_byte line ≡ true → HasNoLineEnd line
 clean_line [] all = All-nil (λ b. b ≢ 10)
 clean_line (b ∷ bs) all =
@@ -30,14 +30,14 @@ pub empty_line : call_of_line [] ≡ Ok None
 unfolding call_of_line words_of
 empty_line = refl
 
--- where nothing is left there are no more calls
+-- if nothing remains there are no more calls
 pub no_line : (more number : ℕ) (calls : List Call) → calls_at more number calls [] ≡ Ok calls
 no_line zero number calls = calls_at-limit zero number calls [] refl ∙ ap (at_limit number calls) (front_line-end 0)
 no_line (suc more) number calls =
     calls_at-end (suc more) number calls None [] (omega arith)
     (ap call_of_front (front_line-end 65536) ∙ ap (λ (r : Result (Option Call) Reason). r >>= λ call. Ok (call, None)) empty_line)
 
--- a line there is none more of
+-- a line after which no more are allowed
 no_room : (bytes : List ℕ) → bytes ≢ [] → is_no_line (front_line 0 bytes) ≡ false
 no_room [] some = absurd (some refl)
 no_room (b ∷ bs) some = elim (cases_Bool (b == 10)) [
@@ -45,14 +45,14 @@ no_room (b ∷ bs) some = elim (cases_Bool (b == 10)) [
   | inr other ↦ ap is_no_line (front_line-full b bs (λ same. false≢true (sym other ∙ eq-eqb b 10 same)))
 ]
 
--- what the line before all calls is for
+-- a script is the line `== calls` followed by the calls of the rest
 pub calls_behind : (text : List ℕ) → script_of (codes "== calls\n" ++ text) ≡ calls_at 2000000 1 [] text
 calls_behind text =
     ap (λ (f : Front). after_calls_line f >>= λ rest. option_map_or (calls_at 2000000 1 []) rest (Ok []))
     (line_is_whole 8 (codes "== calls") (clean_line (codes "== calls") refl) text (omega arith))
 
 module _ (tail : List ℕ) where
-  -- the calls of the lines, and then those of the tail
+  -- the calls of the lines, followed by those of the tail
   abbrev then_tail : ℕ → ℕ → List Call → Result (List Call) ScriptFault → Result (List Call) ScriptFault
   then_tail more number calls read = read >>= λ found. calls_at more number (calls ++ found) tail
 
@@ -138,7 +138,7 @@ with_call-last : (calls : List Call) (call : Option Call) → with_call calls ca
 with_call-last calls None = sym (append-nil calls)
 with_call-last calls (Some call) = refl
 
--- a line more behind all others
+-- one more line after all others
 abbrev and_last : ℕ → Result (Option Call) Reason → Result (List Call) ScriptFault → Result (List Call) ScriptFault
 and_last number read before = before >>= λ found. (in_line number read >>= λ call. Ok (found ++ with_call [] call))
 

@@ -7,7 +7,7 @@ use Rattle.byte_streams.specs.declared.read_error.ReadError.TheVariants as error
 use Rattle.unit_script.specs.declared.reason.Reason.{Reason}
 use Rattle.byte_streams.specs.Reads.{IsFaultOf}
 
--- what is left begins with the word that is read
+-- the rest begins with the word that is read
 pub left_more : {A : Type 0} (f : A → List ℕ) (words : List A) (i : ℕ) (d : A) → i < length words → map f (drop i words) ≡ f (get_or words i d) ∷ map f (drop (i + 1) words)
 left_more f words i d within = ap (map f) (drop_more words i d within)
 
@@ -28,7 +28,7 @@ by_fault true why word reason h = cc
 by_fault false why word reason h = (cc, refl)
 
 module _ (test : List ℕ → Bool) (why : Reason) where
-  -- with a word that fails, none are read
+  -- if a word fails, none is returned
   words_fail : (word : List ℕ) (words all : List (List ℕ)) (e : ReadError Reason) → IsFaultOf e (tested test why word) → list_all test (word ∷ words) ≡ list_all test all → IsFaultOf e (all_tested test why all)
   words_fail word words all (errors.Fault reason) h same =
       let fault = by_fault (test word) why word reason h in
@@ -37,7 +37,7 @@ module _ (test : List ℕ → Bool) (why : Reason) where
   words_fail word words all errors.ReadFault h same = absurd h
   words_fail word words all errors.OutOfMemory h same = tt
 
-  -- where all pass, they are read
+  -- if all pass, they are returned
   words_end : (all values : List (List ℕ)) → values ++ [] ≡ all → list_all test [] ≡ list_all test all → all_tested test why all ≡ Ok values
   words_end all values is same = rw (← same) (ap (λ (words : List (List ℕ)). Ok words) (sym is ∙ append-nil values))
 

@@ -1,4 +1,5 @@
--- For the proofs alone: each command of a script keeps the laws of operations, as the operation does of which it is made.
+-- For the proofs only: each command of a script satisfies the laws of operations because the
+-- operation it consists of does.
 use Rattle.std.proofs.Common.{sym}
 use Rattle.std.proofs.lemmas.Bool.{true≢false}
 use Rattle.footprint.specs.Operations.{OperationLaws}

@@ -1,4 +1,4 @@
--- What each command of a script means: what it asks of a tree, and the effect that it has.
+-- What each command of a script means: what it looks up in a tree, and its effect.
 use Rattle.std.specs.Prelude.{Bool, true, false}
 use Rattle.footprint.specs.Inquiry.{Inquiry}
 use Rattle.footprint.specs.Operations.{Effect}

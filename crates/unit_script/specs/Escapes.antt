@@ -1,12 +1,12 @@
--- Texts of files, as a script writes them in one word. `unescaped` goes through the word byte by byte; the law
--- `EscapedIsRead` (Laws.antt) says what it gives for any bytes that are escaped.
+-- The escaped text of a file, as one word of a script. `unescaped` processes the word byte by byte;
+-- the law `EscapedIsRead` (Laws.antt) states its result for any escaped bytes.
 use Rattle.std.specs.Prelude.{ℕ, Bool, true, false, ◌==◌, if◌then◌else◌, List, [], ◌∷◌, Option, Some, None, codes}
 use Prim.Native.Char.{code}
 
 abbrev pub is_backslash : ℕ → Bool
 is_backslash b = b == code "\\"
 
--- the byte that a backslash and the byte behind it stand for, if they stand for any
+-- the byte that a backslash and the byte after it represent, if they represent any
 abbrev pub meant : ℕ → Option ℕ
 meant b =
     if b == code "n" then Some (code "\n")
@@ -21,19 +21,19 @@ before (Some b) (Some bs) = Some (b ∷ bs)
 before (Some b) None = None
 before None bs = None
 
--- the bytes that a text stands for; with `true`, those of a text whose first byte has a backslash before it. A backslash stands only
--- before a byte that has a meaning with it
+-- the bytes that a text represents; with `true`, those of a text whose first byte has a backslash
+-- before it. A backslash is allowed only before a byte that has a meaning with it
 unfoldable pub unescaped : Bool → List ℕ → Option (List ℕ)
 unescaped false [] = Some []
 unescaped false (b ∷ bs) = if is_backslash b then unescaped true bs else before (Some b) (unescaped false bs)
 unescaped true [] = None
 unescaped true (b ∷ bs) = before (meant b) (unescaped false bs)
 
--- the bytes that a word stands for
+-- the bytes that a word represents
 abbrev pub text_of : List ℕ → Option (List ℕ)
 text_of word = unescaped false word
 
--- how a byte is written, so that it can stand in a word
+-- how a byte is escaped, so that it can be part of a word
 abbrev pub escaped : ℕ → List ℕ
 escaped b =
     if b == code "\n" then codes "\\n"

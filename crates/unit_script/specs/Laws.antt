@@ -1,4 +1,4 @@
--- Laws of scripts, each the contract of a public function.
+-- Laws of scripts; each is the contract of a public function.
 use Rattle.std.specs.Prelude.{◌≡◌, ◌≢◌, ◌↔◌, ◌^◌, ◌<◌, ◌≤◌, ◌+◌, ℕ, Bool, true, not, ◌&&◌, ◌==◌, nat_le, List, [], ◌∷◌, ◌++◌, length, Some, Result, Ok, Err, codes}
 use Rattle.std.specs.List.{flat_map, list_all}
 use Rattle.link_tree.specs.Inventory.{◌>>=◌}
@@ -16,14 +16,14 @@ use Prim.Native.Char.{code}
 abbrev pub is_line_byte : ℕ → Bool
 is_line_byte b = not (b == code "\n")
 
--- a line holds no line end, and isn't too long
+-- a line contains no line end, and isn't too long
 abbrev pub is_line : List ℕ → Bool
 is_line text = list_all is_line_byte text && nat_le (length text) 65536
 
 abbrev pub lines_text : List (List ℕ) → List ℕ
 lines_text lines = flat_map (λ line. line ++ codes "\n") lines
 
--- the calls of lines from this number on, or the first bad one
+-- the calls of lines from this number on, or the first bad line
 abbrev pub calls_of : ℕ → List (List ℕ) → Result (List Call) ScriptFault
 calls_of number [] = Ok []
 calls_of number (line ∷ lines) = do
@@ -31,37 +31,38 @@ calls_of number (line ∷ lines) = do
   calls ← calls_of (number + 1) lines
   Ok (with_call [] call ++ calls)
 
--- A script is its lines: it gives the calls of all of them in order, or the first that is bad.
+-- A script is its lines: its result is the calls of all of them in order, or the first bad line.
 abbrev pub ScriptIsLines : Type 0
 ScriptIsLines = (lines : List (List ℕ)) → list_all is_line lines ≡ true → length lines ≤ 2000000 → script_of (codes "== calls\n" ++ lines_text lines) ≡ calls_of 1 lines
 
--- A last line needs no end.
+-- A last line needs no line end.
 abbrev pub LastLineNeedsNoEnd : Type 0
 LastLineNeedsNoEnd = (lines : List (List ℕ)) (last : List ℕ) → list_all is_line lines ≡ true → is_line last ≡ true → length lines < 2000000
     → script_of (codes "== calls\n" ++ (lines_text lines ++ last)) ≡ calls_of 1 (lines ++ last ∷ [])
 
--- A line of more than 65,536 bytes is a fault, unless one before it is bad,
+-- A line of more than 65,536 bytes is a fault, unless an earlier one is bad,
 abbrev pub LongLineIsTold : Type 0
 LongLineIsTold = (lines : List (List ℕ)) (long rest : List ℕ) → list_all is_line lines ≡ true → length lines < 2000000 → list_all is_line_byte long ≡ true → 65536 < length long
     → script_of (codes "== calls\n" ++ (lines_text lines ++ (long ++ rest))) ≡ (calls_of 1 lines >>= λ calls. Err (Bad (length lines + 1) LineTooLong))
 
--- and so is whatever follows the 2,000,000th line.
+-- and so is anything after the 2,000,000th line.
 abbrev pub OneLineMoreIsTold : Type 0
 OneLineMoreIsTold = (lines : List (List ℕ)) (rest : List ℕ) → list_all is_line lines ≡ true → length lines ≡ 2000000 → rest ≢ []
     → script_of (codes "== calls\n" ++ (lines_text lines ++ rest)) ≡ (calls_of 1 lines >>= λ calls. Err (Bad 2000001 TooManyLines))
 
--- no space and no line end, so that it can stand in a word of a line
+-- no space and no line end, so that the byte can be part of a word of a line
 abbrev pub is_word_byte : ℕ → Bool
 is_word_byte b = not (is_space b) && is_line_byte b
 
--- Bytes that are escaped are read again, whatever they are,
+-- If any bytes are escaped, reading the word returns them,
 abbrev pub EscapedIsRead : Type 0
 EscapedIsRead = (bytes : List ℕ) → text_of (flat_map escaped bytes) ≡ Some bytes
 
--- and they can stand in one word.
+-- and the escaped bytes can be one word.
 abbrev pub EscapedIsWord : Type 0
 EscapedIsWord = (bytes : List ℕ) → list_all is_word_byte (flat_map escaped bytes) ≡ true
 
--- A word is the number of a row exactly where all its bytes are digits, one at least, and their value is the number, below 2^32.
+-- A word is the number of a row exactly if all its bytes are digits, at least one, and their value
+-- is the number, below 2^32.
 abbrev pub NumbersAreDigits : Type 0
 NumbersAreDigits = (word : List ℕ) (n : ℕ) → (number_of word ≡ Some n) ↔ ((word ≢ []) × (list_all is_ascii_digit word ≡ true) × (digits_value 10 word ≡ n) × (n < 2 ^ 32))

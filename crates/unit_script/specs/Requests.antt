@@ -1,4 +1,4 @@
--- What verbs ask for, with the words that follow them.
+-- The requests that verbs and the words after them specify.
 use Rattle.std.specs.Prelude.{ℕ, Bool, true, false, if◌then◌else◌, List, [], ◌∷◌, Result, Ok, Err, codes}
 use Rattle.std.specs.Str.{bytes_eq}
 use Rattle.std.specs.Option.{option_map_or}
@@ -16,7 +16,7 @@ use Rattle.unit_script.specs.declared.reason.Reason.{Reason}
 use Rattle.unit_script.specs.declared.reason.Reason.TheVariants.{UnknownVerb, WrongArguments, BadNumber}
 use Rattle.unit_script.specs.Words.{number_of, name_of, names_of, units_of, path_of, given_paths, link_of, file_of}
 
--- what a verb that takes one word asks for
+-- the request of a verb that takes one word
 abbrev pub of_one : (List ℕ → Result (Request Action) Reason) → List (List ℕ) → Result (Request Action) Reason
 of_one read [] = Err WrongArguments
 of_one read (word ∷ []) = read word
@@ -25,7 +25,7 @@ of_one read (word ∷ other ∷ words) = Err WrongArguments
 abbrev pub is_runtime : List ℕ → Bool
 is_runtime word = bytes_eq word (codes "--runtime")
 
--- the scope that an option before all arguments sets
+-- the scope that an option before all arguments selects
 abbrev pub scope_of : List (List ℕ) → Scope
 scope_of [] = Etc
 scope_of (word ∷ words) = if is_runtime word then Run else Etc
@@ -56,7 +56,7 @@ unmask_of words = units_of (arguments_of words) >>= λ units. Ok (Do (actions.Un
 abbrev pub link_units_of : List (List ℕ) → Result (Request Action) Reason
 link_units_of words = given_paths (arguments_of words) >>= λ paths. Ok (Do (actions.LinkUnits (record { scope = scope_of words; paths = paths })))
 
--- the units that a target is to depend on, of which one at least is given
+-- the units that a target will depend on, at least one
 abbrev pub add_units : Scope → AddedDependency → List ℕ → List (List ℕ) → Result (Request Action) Reason
 add_units scope dependency target [] = Err WrongArguments
 add_units scope dependency target (unit ∷ units) = do
@@ -64,7 +64,7 @@ add_units scope dependency target (unit ∷ units) = do
   units ← names_of (unit ∷ units)
   Ok (Do (actions.AddTo (record { scope = scope; dependency = dependency; target = target; units = units })))
 
--- a target, and the units that it is to depend on
+-- a target, and the units that it will depend on
 abbrev pub add_arguments : Scope → AddedDependency → List (List ℕ) → Result (Request Action) Reason
 add_arguments scope dependency [] = Err WrongArguments
 add_arguments scope dependency (target ∷ units) = add_units scope dependency target units
@@ -109,7 +109,7 @@ remove_at word = path_of word >>= λ path. Ok (Do (actions.RemoveEntry (record {
 abbrev pub is_enabled_for : List ℕ → Result (Request Action) Reason
 is_enabled_for word = name_of word >>= λ unit. Ok (Do (actions.IsEnabled (record { unit = unit })))
 
--- no word follows
+-- checks that no word follows
 abbrev pub get_default_of : List (List ℕ) → Result (Request Action) Reason
 get_default_of [] = Ok (Do (actions.GetDefault (record {})))
 get_default_of (word ∷ words) = Err WrongArguments
@@ -120,7 +120,7 @@ is_reverse word = bytes_eq word (codes "--reverse")
 abbrev pub dependencies_for : (reverse : Bool) → List ℕ → Result (Request Action) Reason
 dependencies_for reverse word = name_of word >>= λ unit. Ok (Do (actions.Dependencies (record { unit = unit; reverse = reverse })))
 
--- one unit, after the option if that is given
+-- one unit, after the option if there is one
 abbrev pub dependencies_of : List (List ℕ) → Result (Request Action) Reason
 dependencies_of [] = Err WrongArguments
 dependencies_of (word ∷ words) = if is_reverse word then of_one (dependencies_for true) words else of_one (dependencies_for false) (word ∷ words)
@@ -133,7 +133,7 @@ undo_row word = option_map_or (λ n. Ok (Undo n)) (number_of word) (Err BadNumbe
 abbrev pub redo_row : List ℕ → Result (Request Action) Reason
 redo_row word = option_map_or (λ n. Ok (Redo n)) (number_of word) (Err BadNumber)
 
--- what a verb asks for with the words after it
+-- the request that a verb and the words after it specify
 unfoldable pub request_of_verb : List ℕ → List (List ℕ) → Result (Request Action) Reason
 request_of_verb verb words =
     if bytes_eq verb (codes "enable") then enable_of words

@@ -1,5 +1,6 @@
--- What a run writes for an input, and what its faults say. The contract of `run` cites `outcome_of`, `WritesAll`, `FaultOf`, `Silent` and
--- `FaultCause`, that of `read_input` `input_of`, `GivesInput`, `InputCause` and `InputStops`.
+-- What a run writes for an input, and what its errors mean. The contract of `run` cites
+-- `outcome_of`, `WritesAll`, `FaultOf`, `Silent` and `FaultCause`; that of `read_input` cites
+-- `input_of`, `GivesInput`, `InputCause` and `InputStops`.
 use Rattle.std.specs.Prelude.{◌≡◌, ℕ, nat_lt, if◌then◌else◌, List, length, Option, Some, Result, Ok, Err}
 use Rattle.std.specs.Io.KnownBytes.{Appends, Keeps}
 use Rattle.byte_streams.specs.Streams.{HasCause, StopsIn, Takes}
@@ -34,14 +35,15 @@ in_script (Err fault) = Err (Script fault)
 unfoldable pub text_of_calls : Entries → List Call → Result (List ℕ) InputFault
 text_of_calls tree calls = if nat_lt 1000000 (length calls) then Err Full else Ok (text_of tree (rows_of tree calls))
 
--- The tree and the calls of an input, or its first fault: that of the inventory, then that of the script behind it.
+-- The tree and the calls of an input, or its first fault: that of the inventory, then that of the
+-- script after it.
 abbrev pub input_of : List ℕ → Result (Entries × List Call) InputFault
 input_of input = do
   found ← in_inventory (inventory_of input)
   calls ← in_script (script_of found.1)
   Ok (found.0, calls)
 
--- The output for an input, or the input's first fault: too many calls are told last.
+-- The output for an input, or the input's first fault: too many calls are reported last.
 abbrev pub outcome_of : List ℕ → Result (List ℕ) InputFault
 outcome_of input = do
   given ← input_of input
@@ -51,7 +53,7 @@ outcome_of input = do
 abbrev pub WritesAll : Option (List ℕ) → Option (List ℕ) → Result (List ℕ) InputFault → Type 0
 WritesAll old new given = (text : List ℕ) × (given ≡ Ok text) × Appends old new text
 
--- What each fault of a run says of the input, and what was written before a write fault.
+-- What each error of a run means for the input, and what was written before a write fault.
 abbrev pub FaultOf : RunFault → Option (List ℕ) → Option (List ℕ) → Result (List ℕ) InputFault → Type 0
 FaultOf (runs.WriteFault n) old new given = (text : List ℕ) × (given ≡ Ok text) × StopsIn old new text n
 FaultOf (runs.Inventory fault n) old new given = given ≡ Err (Inventory fault n)
@@ -62,12 +64,12 @@ FaultOf (runs.InventoryRead n) old new given = Unit {0}
 FaultOf runs.ReadFault old new given = Unit {0}
 FaultOf runs.OutOfMemory old new given = Unit {0}
 
--- With any other fault than one of the sink, nothing was written.
+-- On any error other than a write fault, nothing was written.
 abbrev pub Silent : RunFault → Option (List ℕ) → Option (List ℕ) → Type 0
 Silent (runs.WriteFault n) old new = Unit {0}
 Silent e old new = Keeps old new
 
--- A read or write fault stands only where the source or sink failed, or was interrupted too often.
+-- A read or write fault occurs only if the source or sink failed, or was interrupted too often.
 abbrev pub FaultCause : RunFault → (source_old source_new sink_old sink_new : Counters) → Type 0
 FaultCause (runs.WriteFault n) source_old source_new sink_old sink_new = HasCause sink_old sink_new
 FaultCause (runs.InventoryRead n) source_old source_new sink_old sink_new = HasCause source_old source_new
@@ -81,7 +83,7 @@ FaultsAs (inputs.InventoryRead n) read = Unit {0}
 FaultsAs inputs.ReadFault read = Unit {0}
 FaultsAs inputs.OutOfMemory read = Unit {0}
 
--- What was read is what the input gives, unless the source failed or memory ran out.
+-- What was read is the input's tree and calls, unless the source failed or memory ran out.
 abbrev pub GivesInput : {X A : Type 0} → (X → A) → Result X InputError → Result A InputFault → Type 0
 GivesInput view (Ok x) read = read ≡ Ok (view x)
 GivesInput view (Err e) read = FaultsAs e read
@@ -93,21 +95,22 @@ InputCause inputs.ReadFault old new = HasCause old new
 InputCause (inputs.Fault fault) old new = Unit {0}
 InputCause inputs.OutOfMemory old new = Unit {0}
 
--- How far the input was read at a read fault.
+-- How far the input was read when a read fault occurred.
 abbrev pub InputStops : InputError → (old new : Option (List ℕ)) → Type 0
 InputStops (inputs.InventoryRead n) old new = Takes old new (λ taken rest. IsUndecided n taken)
 InputStops inputs.ReadFault old new = Takes old new (λ taken rest. IsOpenInput taken)
 InputStops (inputs.Fault fault) old new = Unit {0}
 InputStops inputs.OutOfMemory old new = Unit {0}
 
--- for the proofs: how far the script was read at a read fault
+-- for the proofs: how far the script was read when a read fault occurred
 abbrev pub ScriptStops : InputError → (old new : Option (List ℕ)) → Type 0
 ScriptStops (inputs.InventoryRead n) old new = ⊥
 ScriptStops inputs.ReadFault old new = Takes old new (λ taken rest. IsOpenScript taken)
 ScriptStops (inputs.Fault fault) old new = Unit {0}
 ScriptStops inputs.OutOfMemory old new = Unit {0}
 
--- for the proofs: the tree that was read is the inventory's, and the source has what follows it left
+-- for the proofs: the tree that was read is the inventory's, and what follows the inventory remains
+-- in the source
 abbrev pub TreeOfInput : Option (List ℕ) → Result Entries InputError → Result (Entries × List ℕ) InputFault → Type 0
 TreeOfInput left (Ok tree) read = (rest : List ℕ) × (left ≡ Some rest) × (read ≡ Ok (tree, rest))
 TreeOfInput left (Err e) read = FaultsAs e read

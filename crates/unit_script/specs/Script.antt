@@ -1,5 +1,5 @@
--- Scripts, as texts: the calls, or the first bad line. `calls_at` goes through the lines one by one, as reading does; the law
--- `ScriptIsLines` (Laws.antt) says the same of all lines together.
+-- Scripts, as texts: the calls, or the first bad line. `calls_at` processes the lines one by one,
+-- as reading does; the law `ScriptIsLines` (Laws.antt) states the same for all lines together.
 use Rattle.std.specs.Prelude.{ℕ, ◌+◌, Bool, true, false, ◌==◌, if◌then◌else◌, List, [], ◌∷◌, ◌++◌, Option, Some, None, Result, Ok, Err, codes, zero, suc}
 use Rattle.std.specs.List.{filter, slice_split}
 use Rattle.std.specs.Str.{bytes_eq}
@@ -19,19 +19,20 @@ use Prim.Native.Char.{code}
 abbrev pub is_space : ℕ → Bool
 is_space b = b == code " "
 
--- the words of a line, which spaces separate
+-- the words of a line, separated by spaces
 unfoldable pub words_of : List ℕ → List (List ℕ)
 words_of line = filter is_word (slice_split is_space line)
 
 -- the call of an operator with the words after its name
-unfoldable pub call_of : List ℕ → List (List ℕ) → Result (Option Call) Reason
-call_of operator words =
-    if is_operator operator then (request_of words >>= λ request. Ok (Some (record { operator = operator; request = request })))
+unfoldable pub call_of_words : List ℕ → List (List ℕ) → Result Call Reason
+call_of_words operator words =
+    if is_operator operator then (request_of words >>= λ request. Ok (record { operator = operator; request = request }))
     else Err BadOperator
 
-abbrev pub call_of_words : List (List ℕ) → Result (Option Call) Reason
-call_of_words [] = Ok None
-call_of_words (operator ∷ words) = call_of operator words
+-- the call made of all words of a line, if there are any
+abbrev pub call_if_any : List (List ℕ) → Result (Option Call) Reason
+call_if_any [] = Ok None
+call_if_any (operator ∷ words) = call_of_words operator words >>= λ call. Ok (Some call)
 
 abbrev pub is_comment : List ℕ → Bool
 is_comment [] = false
@@ -39,9 +40,9 @@ is_comment (b ∷ bs) = b == code "#"
 
 -- a line's call; comments and lines without a word are skipped
 unfoldable pub call_of_line : List ℕ → Result (Option Call) Reason
-call_of_line line = if is_comment line then Ok None else call_of_words (words_of line)
+call_of_line line = if is_comment line then Ok None else call_if_any (words_of line)
 
--- the call of the first line, and the bytes behind the line, if it had an end
+-- the call of the first line, and the bytes after the line, if it had a line end
 abbrev pub call_of_front : Front → Result (Option Call × Option (List ℕ)) Reason
 call_of_front Long = Err LineTooLong
 call_of_front (Last line) = call_of_line line >>= λ call. Ok (call, None)
@@ -52,7 +53,7 @@ abbrev pub in_line : {A : Type 0} → ℕ → Result A Reason → Result A Scrip
 in_line number (Ok x) = Ok x
 in_line number (Err reason) = Err (Bad number reason)
 
--- with one call more, or with none for a line that is skipped
+-- with one more call, or with none for a line that is skipped
 abbrev pub with_call : List Call → Option Call → List Call
 with_call calls None = calls
 with_call calls (Some call) = calls ++ call ∷ []
@@ -63,11 +64,12 @@ is_no_line (Last []) = true
 is_no_line (Last (b ∷ bs)) = false
 is_no_line (Whole line rest) = false
 
--- after the last line that there may be: nothing is left, or else the next line is one too many
+-- after the last line that is allowed: nothing remains, or else the next line is one too many
 abbrev pub at_limit : ℕ → List Call → Front → Result (List Call) ScriptFault
 at_limit number calls front = if is_no_line front then Ok calls else Err (Bad number TooManyLines)
 
--- the calls so far with those of the bytes, which begin with the line of this number; at most so many lines may come
+-- the calls so far with those of the bytes, which begin with the line of this number; at most the
+-- first argument's number of lines may follow
 unfoldable pub calls_at : ℕ → ℕ → List Call → List ℕ → Result (List Call) ScriptFault
 calls_at zero number calls bytes = at_limit number calls (front_line 0 bytes)
 calls_at (suc more) number calls bytes = do
@@ -77,7 +79,7 @@ calls_at (suc more) number calls bytes = do
 abbrev pub is_calls_line : List ℕ → Bool
 is_calls_line line = bytes_eq line (codes "== calls")
 
--- what follows the line `== calls`, if that had an end
+-- what follows the line `== calls`, if that had a line end
 abbrev pub after_calls_line : Front → Result (Option (List ℕ)) ScriptFault
 after_calls_line Long = Err NoCalls
 after_calls_line (Last line) = if is_calls_line line then Ok None else Err NoCalls

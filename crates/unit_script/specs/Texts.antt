@@ -28,7 +28,7 @@ use Rattle.history.specs.Rows.{row_at}
 use Rattle.unit_script.specs.declared.action.Action.{Action}
 use Rattle.unit_script.specs.Machine.{replay}
 
--- a line for an entry, after a sign: how many bytes a file has, or where a link leads
+-- a line for an entry, after a sign: the length of a file, or the target of a link
 abbrev pub entry_text : List ℕ → List ℕ → Entry → List ℕ
 entry_text sign path (File contents) = sign ++ path ++ codes " file " ++ decimal (length contents) ++ codes "\n"
 entry_text sign path (Link target) = sign ++ path ++ codes " -> " ++ target ++ codes "\n"
@@ -77,7 +77,7 @@ state_text states.Static = codes "static"
 state_text states.Indirect = codes "indirect"
 state_text states.Disabled = codes "disabled"
 
--- the words that systemctl counts as success
+-- the states that systemctl counts as success
 abbrev pub is_success : StateWord → Bool
 is_success states.Alias = true
 is_success states.Enabled = true
@@ -101,7 +101,7 @@ answer_text (Refused refusal) = codes "refused: " ++ refusal_text refusal
 abbrev pub name_line : List ℕ → List ℕ
 name_line name = codes "  " ++ name ++ codes "\n"
 
--- the lines of the names that are answered
+-- the lines of the names in the answer
 abbrev pub names_lines : RowReply → List ℕ
 names_lines (Answered (Done notices)) = []
 names_lines (Answered (State state)) = []
@@ -162,8 +162,8 @@ abbrev pub changes_at : Option (Row Action) → List Change
 changes_at None = []
 changes_at (Some row) = row.changes
 
--- What a row shows as changed: an accepted undo shows the inverse of the changes of the row that it
--- names, and an accepted redo shows these changes as they are.
+-- The changes that a row shows: an accepted undo shows the inverse of the changes of the row that
+-- it names, and an accepted redo shows these changes as they are.
 abbrev pub shown_changes : List (Row Action) → RowReply → List Change → List Change
 shown_changes rows (Answered answer) changes = changes
 shown_changes rows (Undid n) changes = inverse_of (changes_at (row_at rows n))
@@ -175,7 +175,8 @@ shown_changes rows (RedoRefused refusal) changes = changes
 abbrev pub row_line : ℕ → Row Action → List ℕ
 row_line number row = numbered [] number (codes " ") ++ row.operator ++ codes " " ++ reply_text (number_asked row.request) row.reply ++ codes "\n"
 
--- the lines of a row among all: its reply, the names that it answers, what it changed, and what it skipped
+-- the lines of a row among all: its reply, the names in the answer, what it changed, and what it
+-- skipped
 abbrev pub row_text : List (Row Action) → ℕ → Row Action → List ℕ
 row_text all number row =
     row_line number row ++ names_lines row.reply ++ flat_map change_text (shown_changes all row.reply row.changes) ++ notices_text row.reply
@@ -185,6 +186,6 @@ abbrev pub rows_text : List (Row Action) → ℕ → List (Row Action) → List 
 rows_text all number [] = []
 rows_text all number (row ∷ rows) = row_text all number row ++ rows_text all (number + 1) rows
 
--- the whole output: the rows, and the tree that they leave
+-- the whole output: the rows, and the resulting tree
 abbrev pub text_of : Entries → List (Row Action) → List ℕ
 text_of first rows = rows_text rows 1 rows ++ codes "== tree\n" ++ inventory_text (replay first rows)

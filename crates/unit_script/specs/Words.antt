@@ -19,23 +19,23 @@ is_word (b ∷ bs) = true
 abbrev pub is_digit : ℕ → Bool
 is_digit b = nat_le (code "0") b && nat_le b (code "9")
 
--- the number whose decimal digits are those of n and then these, if it is below 2^32
+-- the number whose decimal digits are those of n followed by these, if it is below 2^32
 unfoldable pub number_from : ℕ → List ℕ → Option ℕ
 number_from n [] = Some n
 number_from n (b ∷ bs) = if is_digit b && nat_lt (n * 10 + (b - code "0")) (2 ^ 32) then number_from (n * 10 + (b - code "0")) bs else None
 
--- the number of a word of digits
+-- the number that a word of digits represents
 unfoldable pub number_of : List ℕ → Option ℕ
 number_of word = if is_word word then number_from 0 word else None
 
 unfoldable pub name_of : List ℕ → Result (List ℕ) Reason
 name_of word = if is_unit_name word then Ok word else Err BadName
 
--- words that are all names of units
+-- words, all of which must be names of units
 unfoldable pub names_of : List (List ℕ) → Result (List (List ℕ)) Reason
 names_of words = if list_all is_unit_name words then Ok words else Err BadName
 
--- the names of units, of which one at least is given
+-- the names of units, at least one
 abbrev pub units_of : List (List ℕ) → Result (List (List ℕ)) Reason
 units_of [] = Err WrongArguments
 units_of (word ∷ words) = names_of (word ∷ words)
@@ -43,11 +43,11 @@ units_of (word ∷ words) = names_of (word ∷ words)
 unfoldable pub path_of : List ℕ → Result (List ℕ) Reason
 path_of word = if is_path word then Ok word else Err BadPath
 
--- words that are all paths
+-- words, all of which must be paths
 unfoldable pub paths_of : List (List ℕ) → Result (List (List ℕ)) Reason
 paths_of words = if list_all is_path words then Ok words else Err BadPath
 
--- paths, of which one at least is given
+-- paths, at least one
 abbrev pub given_paths : List (List ℕ) → Result (List (List ℕ)) Reason
 given_paths [] = Err WrongArguments
 given_paths (word ∷ words) = paths_of (word ∷ words)
@@ -56,10 +56,10 @@ given_paths (word ∷ words) = paths_of (word ∷ words)
 unfoldable pub link_of : List ℕ → Result Entry Reason
 link_of word = if is_target word then Ok (Link word) else Err BadTarget
 
--- the file that holds these bytes
+-- the file that contains these bytes
 unfoldable pub file_with : List ℕ → Result Entry Reason
 file_with bytes = if is_contents bytes then Ok (File bytes) else Err BadText
 
--- the file that holds the bytes that a word stands for
+-- the file that contains the bytes that a word represents
 abbrev pub file_of : List ℕ → Result Entry Reason
 file_of word = option_map_or file_with (text_of word) (Err BadText)

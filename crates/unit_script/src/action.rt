@@ -1,4 +1,4 @@
-//! The commands and questions that a script can give, as one type of operation.
+//! The commands and questions of scripts, as one type of operation.
 
 use footprint::{Operation, Outcome};
 use install_commands::{Disable, Enable, Preset, Reenable};
@@ -9,10 +9,11 @@ use std::alloc::{AllocError, Global};
 
 /// A command or a question of a script with its arguments. systemctl(1), "Unit File Commands".
 ///
-/// Each variant is an operation of `install_commands`, `slot_commands` or `states`, and does as that does: its meaning, and so its answer, its
-/// changes and what it looks at, are that operation's. Those of `states` are questions, which change nothing and count as no command.
+/// Each variant is an operation of `install_commands`, `slot_commands` or `states`, and behaves as
+/// that one does: its meaning, and so its answer, its changes and what it looks at, are that
+/// operation's. Those of `states` are questions, which change nothing and aren't commands.
 ///
-/// `run` and `copy` fail only for want of memory, and then nothing has changed.
+/// `run` and `copy` fail only if memory runs out, and then nothing has changed.
 #[derive(Debug, Drop)]
 pub enum Action {
     /// `enable`
@@ -33,15 +34,15 @@ pub enum Action {
     AddTo(AddTo),
     /// `set-default`
     SetDefault(SetDefault),
-    /// `place`, which systemctl doesn't have: an entry is put at an empty slot.
+    /// `place`, which systemctl doesn't have: puts an entry at an empty slot.
     PlaceEntry(PlaceEntry),
-    /// `remove`, which systemctl doesn't have: the entry at a slot is taken away.
+    /// `remove`, which systemctl doesn't have: removes the entry at a slot.
     RemoveEntry(RemoveEntry),
     /// `is-enabled`
     IsEnabled(IsEnabled),
     /// `get-default`
     GetDefault(GetDefault),
-    /// `dependencies`, which is `list-dependencies` of systemctl, by links alone.
+    /// `dependencies`, which is `list-dependencies` of systemctl, but follows only links.
     Dependencies(Dependencies),
 }
 

@@ -1,4 +1,4 @@
-//! Texts of files, as a script writes them in one word.
+//! The escaped text of a file, as one word of a script.
 ghost use Rattle.std.specs.Prelude.{◌≡◌, IfOk};
 ghost use Rattle.std.specs.Option.{option_map};
 ghost use Rattle.unit_script.specs.Escapes.{is_backslash, meant, text_of};
@@ -27,8 +27,8 @@ fn meant(b: u8) -> Option<u8>
     }
 }
 
-/// The bytes that a word stands for: `\n`, `\t`, `\s` and `\\` in it stand for LF, TAB, a space and a backslash. Any
-/// other use of a backslash is none of these, and there is no text.
+/// The bytes that a word represents: `\n`, `\t`, `\s` and `\\` in it represent LF, TAB, a space and
+/// a backslash. Any other use of a backslash is invalid, and there is no text.
 pub(crate) fn unescaped(alloc: Global, word: &[u8]) -> Result<Option<Vec<u8>>, AllocError>
     ensures { IfOk result (λ text. option_map (λ bytes. bytes.items) text ≡ text_of word.now) }
 {

@@ -5,38 +5,39 @@ ghost use Rattle.unit_script.specs.ScriptReads.{script_error_of};
 use byte_streams::ReadError;
 use thiserror::Error;
 
-/// Why a line of a script is refused: the first of these that holds. Of the last five the first bad word from the left
-/// decides.
+/// Why a line of a script is refused: the first of these that applies. Among the last five, the
+/// first bad word from the left decides.
 #[derive(Clone, Copy, Debug, PartialEq, Eq, Error)]
 pub enum Reason {
-    /// It is the 2,000,001st after `== calls`, skipped ones counted.
+    /// It is the 2,000,001st after `== calls`, including skipped ones.
     #[error("too many lines")]
     TooManyLines,
-    /// It has over 65,536 bytes before its end, also where it would be skipped.
+    /// It has over 65,536 bytes before its line end, even if it would be skipped.
     #[error("line too long")]
     LineTooLong,
     /// The first word isn't 1 to 32 of `a` to `z`, `0` to `9` and `-`.
     #[error("bad operator")]
     BadOperator,
-    /// The second word is no verb, or there is none.
+    /// The second word isn't a verb, or is missing.
     #[error("unknown verb")]
     UnknownVerb,
-    /// The verb takes more or fewer words, or what is to be placed is neither `link` nor `file`.
+    /// The verb takes more or fewer words, or the kind of entry to place is neither `link` nor
+    /// `file`.
     #[error("wrong arguments")]
     WrongArguments,
-    /// A word that is to name a unit is no unit's name. systemd.unit(5).
+    /// A word that must name a unit isn't a unit's name. systemd.unit(5).
     #[error("bad name")]
     BadName,
-    /// A word that is to be a path is none.
+    /// A word that must be a path isn't one.
     #[error("bad path")]
     BadPath,
-    /// A word that is to be a link's target is none.
+    /// A word that must be a link's target isn't one.
     #[error("bad target")]
     BadTarget,
-    /// A backslash in a file's text begins none of `\n`, `\t`, `\s` and `\\`.
+    /// A backslash in a file's text is followed by none of `n`, `t`, `s` and `\`.
     #[error("bad text")]
     BadText,
-    /// A word that is to number a row isn't decimal digits, or 2^32 or more.
+    /// A word that must be a row's number isn't decimal digits, or is 2^32 or more.
     #[error("bad number")]
     BadNumber,
 }
@@ -52,7 +53,7 @@ pub enum ScriptFault {
     Bad(u32, Reason),
 }
 
-/// The error of a script whose line of this number was not read.
+/// The error of a script whose line of this number could not be read.
 pub(crate) fn in_line(number: u32, e: ReadError<Reason>) -> ReadError<ScriptFault>
     ensures { result ≡ script_error_of number e }
 {

@@ -1,5 +1,5 @@
 //! The texts of replies.
-ghost use Rattle.std.specs.Prelude.{◌≡◌, ◌++◌, ◌≤◌, OnOk, codes, length};
+ghost use Rattle.std.specs.Prelude.{◌≡◌, ◌++◌, ◌≤◌, OnOk, OnErr, codes, length};
 ghost use Rattle.std.specs.List.{flat_map};
 ghost use Rattle.std.specs.Option.{option_copied};
 ghost use Rattle.link_tree.specs.Trees.{inverse_of};
@@ -64,10 +64,19 @@ fn push_sides(
     push_side(out, b"  + ", path, after)
 }
 
-/// Appends the lines of changes: for each the entry that was at the path, as `  - PATH -> TARGET` or
-/// `  - PATH file LENGTH`, and with a `+` the one that is there now. If memory runs out, a part of
-/// the text may have been appended.
+/// Appends the lines of changes: for each the entry that was at the path, as `  - PATH -> TARGET`
+/// or `  - PATH file LENGTH`, and with a `+` the one that is there now. If memory runs out, nothing
+/// is appended.
 pub fn push_changes(out: &mut Vec<u8>, changes: &[Change]) -> Result<(), AllocError>
+    ensures ok { OnOk result (out.new.items ≡ out.old.items ++ flat_map change_text changes.now) }
+    ensures err { OnErr result (out.new.items ≡ out.old.items) }
+{
+    let mut text = Vec::new(*out.allocator());
+    push_each_change(&mut text, changes)?;
+    out.extend_from_slice(&text)
+}
+
+fn push_each_change(out: &mut Vec<u8>, changes: &[Change]) -> Result<(), AllocError>
     ensures { OnOk result (out.new.items ≡ out.old.items ++ flat_map change_text changes.now) }
 {
     for change in changes {
@@ -76,7 +85,7 @@ pub fn push_changes(out: &mut Vec<u8>, changes: &[Change]) -> Result<(), AllocEr
     Ok(())
 }
 
-/// The lines of the changes that take these back.
+/// The lines of the changes that revert these.
 fn push_inverse(out: &mut Vec<u8>, changes: &[Change]) -> Result<(), AllocError>
     ensures { OnOk result (out.new.items ≡ out.old.items ++ flat_map change_text (inverse_of changes.now)) }
 {
@@ -95,7 +104,7 @@ fn subject_text(subject: &Subject) -> &[u8]
     }
 }
 
-/// A subject, and what is said of it.
+/// A subject, and what is reported about it.
 fn push_said(out: &mut Vec<u8>, subject: &[u8], said: &[u8]) -> Result<(), AllocError>
     ensures { OnOk result (out.new.items ≡ out.old.items ++ subject.now ++ said.now) }
 {
@@ -104,8 +113,17 @@ fn push_said(out: &mut Vec<u8>, subject: &[u8], said: &[u8]) -> Result<(), Alloc
 }
 
 /// Appends why an operation was refused: the text after `refused: ` in the reply to it. If memory
-/// runs out, a part of the text may have been appended.
+/// runs out, nothing is appended.
 pub fn push_refusal(out: &mut Vec<u8>, refusal: &Refusal) -> Result<(), AllocError>
+    ensures ok { OnOk result (out.new.items ≡ out.old.items ++ refusal_text refusal.now) }
+    ensures err { OnErr result (out.new.items ≡ out.old.items) }
+{
+    let mut text = Vec::new(*out.allocator());
+    push_reason(&mut text, refusal)?;
+    out.extend_from_slice(&text)
+}
+
+fn push_reason(out: &mut Vec<u8>, refusal: &Refusal) -> Result<(), AllocError>
     ensures { OnOk result (out.new.items ≡ out.old.items ++ refusal_text refusal.now) }
 {
     match refusal {
@@ -126,7 +144,8 @@ pub fn push_refusal(out: &mut Vec<u8>, refusal: &Refusal) -> Result<(), AllocErr
     }
 }
 
-fn state_text(state: StateWord) -> &'static str
+/// The state as `is-enabled` prints it: systemctl(1), `is-enabled`.
+pub fn state_text(state: StateWord) -> &'static str
     ensures { result.now ≡ state_text state }
 {
     match state {
@@ -144,18 +163,30 @@ fn state_text(state: StateWord) -> &'static str
     }
 }
 
-/// Whether systemctl counts the state as success.
-fn success_text(state: StateWord) -> &'static str
-    ensures { result.now ≡ success_text (is_success state) }
+/// Whether systemctl counts the state as enabled, so that `is-enabled` exits with 0: systemctl(1),
+/// `is-enabled`.
+pub fn is_success(state: StateWord) -> bool
+    ensures { result ≡ is_success state }
 {
     match state {
         StateWord::Alias
         | StateWord::Enabled
         | StateWord::EnabledRuntime
         | StateWord::Static
-        | StateWord::Indirect => " yes",
-        _ => " no",
+        | StateWord::Indirect => true,
+        StateWord::NotFound
+        | StateWord::Masked
+        | StateWord::MaskedRuntime
+        | StateWord::Linked
+        | StateWord::LinkedRuntime
+        | StateWord::Disabled => false,
     }
+}
+
+fn success_text(state: StateWord) -> &'static str
+    ensures { result.now ≡ success_text (is_success state) }
+{
+    if is_success(state) { " yes" } else { " no" }
 }
 
 fn push_state(out: &mut Vec<u8>, state: StateWord) -> Result<(), AllocError>
@@ -182,12 +213,12 @@ fn push_answer(out: &mut Vec<u8>, answer: &Answer) -> Result<(), AllocError>
         }
         Answer::Refused(refusal) => {
             out.extend_from_slice(b"refused: ")?;
-            push_refusal(out, refusal)
+            push_reason(out, refusal)
         }
     }
 }
 
-/// The lines of the names that are answered.
+/// The lines of the names in the answer.
 fn push_names(out: &mut Vec<u8>, reply: &RowReply) -> Result<(), AllocError>
     ensures { OnOk result (out.new.items ≡ out.old.items ++ names_lines reply.now) }
 {
@@ -261,8 +292,8 @@ fn push_redo_refusal(out: &mut Vec<u8>, n: u32, refusal: RedoRefusal) -> Result<
     }
 }
 
-/// The row that an undo or a redo names; 0 for anything else.
-fn number_asked(request: &Request<Action>) -> u32
+/// The row that an undo or a redo names; 0 for a command or a question.
+pub fn number_asked(request: &Request<Action>) -> u32
     ensures { result ≡ number_asked request.now }
 {
     match request {
@@ -309,8 +340,8 @@ fn row_at(rows: &[Row<Action>], n: u32) -> Option<&Row<Action>>
     rows.get(n as usize - 1)
 }
 
-/// The changes of row n, or none if there is no such row.
-fn changes_at(rows: &[Row<Action>], n: u32) -> &[Change]
+/// The changes of row `n`, counted from 1; none if there is no such row.
+pub fn changes_at(rows: &[Row<Action>], n: u32) -> &[Change]
     ensures { result.now ≡ changes_at (row_at rows.now n) }
 {
     match row_at(rows, n) {
@@ -320,22 +351,40 @@ fn changes_at(rows: &[Row<Action>], n: u32) -> &[Change]
 }
 
 /// The lines of what a row changed. An accepted undo shows the changes of the row that it names
-/// turned round, and an accepted redo shows them as they are.
+/// reverted, and an accepted redo shows them as they are.
 fn push_shown(out: &mut Vec<u8>, rows: &[Row<Action>], row: &Row<Action>) -> Result<(), AllocError>
     ensures { OnOk result (out.new.items ≡ out.old.items ++ flat_map change_text (shown_changes rows.now row.now.reply row.now.changes)) }
 {
     match &row.reply {
-        RowReply::Answered(_) => push_changes(out, row.changes.as_slice()),
+        RowReply::Answered(_) => push_each_change(out, row.changes.as_slice()),
         RowReply::Undid(n) => push_inverse(out, changes_at(rows, *n)),
-        RowReply::Redid(n) => push_changes(out, changes_at(rows, *n)),
+        RowReply::Redid(n) => push_each_change(out, changes_at(rows, *n)),
         RowReply::UndoRefused(_) | RowReply::RedoRefused(_) => {
-            push_changes(out, row.changes.as_slice())
+            push_each_change(out, row.changes.as_slice())
         }
     }
 }
 
-/// The lines of a row.
-fn push_row(
+/// Appends the reply to one call of a history: the line `ROW OPERATOR` with the answer, the names
+/// in the answer, what it changed, and which words were skipped. The rows are all of the history,
+/// and `number` is the row's among them, from 1: an undo shows the changes of the row that it
+/// names. If memory runs out, nothing is appended.
+pub fn push_row(
+    out: &mut Vec<u8>,
+    rows: &[Row<Action>],
+    number: u32,
+    row: &Row<Action>,
+) -> Result<(), AllocError>
+    ensures ok { OnOk result (out.new.items ≡ out.old.items ++ row_text rows.now number row.now) }
+    ensures err { OnErr result (out.new.items ≡ out.old.items) }
+{
+    let mut text = Vec::new(*out.allocator());
+    push_lines(&mut text, rows, number, row)?;
+    out.extend_from_slice(&text)
+}
+
+/// The same, but if memory runs out, a part of the text may have been appended.
+fn push_lines(
     out: &mut Vec<u8>,
     rows: &[Row<Action>],
     number: u32,
@@ -350,15 +399,26 @@ fn push_row(
 }
 
 /// Appends the replies to all calls of a history: for each row, numbered from 1, the line
-/// `ROW OPERATOR` with the answer, the names that it answers, what it changed, and which words were
-/// skipped. If memory runs out, a part of the text may have been appended.
+/// `ROW OPERATOR` with the answer, the names in the answer, what it changed, and which words were
+/// skipped. If memory runs out, nothing is appended.
 pub fn push_rows(out: &mut Vec<u8>, rows: &[Row<Action>]) -> Result<(), AllocError>
+    requires { length rows.now ≤ MAX_ROWS }
+    ensures ok { OnOk result (out.new.items ≡ out.old.items ++ rows_text rows.now 1 rows.now) }
+    ensures err { OnErr result (out.new.items ≡ out.old.items) }
+{
+    let mut text = Vec::new(*out.allocator());
+    push_each_row(&mut text, rows)?;
+    out.extend_from_slice(&text)
+}
+
+/// The same, but if memory runs out, a part of the text may have been appended.
+pub(crate) fn push_each_row(out: &mut Vec<u8>, rows: &[Row<Action>]) -> Result<(), AllocError>
     requires { length rows.now ≤ MAX_ROWS }
     ensures { OnOk result (out.new.items ≡ out.old.items ++ rows_text rows.now 1 rows.now) }
 {
     let mut number = 1;
     for row in rows {
-        push_row(out, rows, number, row)?;
+        push_lines(out, rows, number, row)?;
         number += 1;
     }
     Ok(())

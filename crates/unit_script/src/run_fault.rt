@@ -6,7 +6,7 @@ use crate::reason::{Reason, ScriptFault};
 use link_tree::InventoryFault;
 use thiserror::Error;
 
-/// The first fault of an input, which is an inventory with a script behind it.
+/// The first fault of an input, which is an inventory followed by a script.
 #[derive(Clone, Copy, Debug, PartialEq, Eq, Error)]
 pub enum InputFault {
     /// A fault in the inventory, with the number of the entry.
@@ -20,7 +20,7 @@ pub enum InputFault {
     Full,
 }
 
-/// Why an input can't be run: its fault, or that it wasn't read whole.
+/// Why an input can't be run: its fault, or that it wasn't read completely.
 #[derive(Clone, Copy, Debug, PartialEq, Eq, Error)]
 pub enum InputError {
     /// The first fault of the input.
@@ -36,8 +36,8 @@ pub enum InputError {
     OutOfMemory,
 }
 
-/// Why a run failed. Its text is what the program says; an inventory's entries count from 1, the header is 0, and the
-/// line `end` counts as the next entry.
+/// Why a run failed. Its text is the program's message; an inventory's entries count from 1, the
+/// header is 0, and the line `end` counts as the next entry.
 #[derive(Clone, Copy, Debug, PartialEq, Eq, Error)]
 pub enum RunFault {
     /// The inventory is refused at the entry of this number.
@@ -58,7 +58,7 @@ pub enum RunFault {
     /// The script has over 1,000,000 calls.
     #[error("history is full")]
     Full,
-    /// The sink failed when it had taken just so many bytes of the output.
+    /// The sink failed after accepting exactly this number of bytes of the output.
     #[error("write fault after {0} bytes")]
     WriteFault(usize),
     /// Memory ran out before the first byte was written.
@@ -67,7 +67,7 @@ pub enum RunFault {
 }
 
 impl InputError {
-    /// The fault of a run on such an input.
+    /// The error of a run on such an input.
     pub fn run_fault(self) -> RunFault
         ensures { result ≡ run_fault_of self }
     {

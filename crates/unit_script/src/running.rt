@@ -1,4 +1,4 @@
-//! A run: from an inventory and a script to the replies and the inventory that is left.
+//! A run: from an inventory and a script to the replies and the resulting inventory.
 ghost use Rattle.std.specs.Prelude.{◌≡◌, ◌<◌, ◌≤◌, ◌++◌, ℕ, List, length, Option, Some, true, OnOk, IfOk, IfErr};
 ghost use Rattle.std.specs.Io.KnownBytes.{Appends};
 ghost use Rattle.link_tree.specs.Reads.{AccountsWrite, SentBefore};
@@ -17,7 +17,7 @@ ghost use Rattle.unit_script.specs.Runs.{InputStops, ScriptStops, TreeOfInput, i
 
 use crate::action::Action;
 use crate::call::Call;
-use crate::reply::push_rows;
+use crate::reply::push_each_row;
 use crate::run_fault::{InputError, InputFault, RunFault};
 use crate::script::read_script;
 use byte_streams::{ReadError, Sink, Source};
@@ -26,7 +26,7 @@ use link_tree::{InventoryError, Tree, WriteError, read_inventory, write_before_i
 use std::alloc::{AllocError, Global};
 use std::mem::forget;
 
-/// Makes one call, which adds one row. There is room for it, so that only memory can run out.
+/// Makes one call, which adds one row. The history isn't full, so it fails only if memory runs out.
 fn make(history: &mut History<Action>, alloc: Global, call: Call) -> Result<(), AllocError>
     requires room { length history.old.rows < history.old.limit }
     ensures first { history.new.first ≡ history.old.first }
@@ -118,7 +118,7 @@ fn read_calls<S: Source>(alloc: Global, source: &mut S) -> Result<Vec<Call>, Inp
     }
 }
 
-/// What a run is given: the tree of an inventory, and the calls of the script after it.
+/// The input of a run: the tree of an inventory, and the calls of the script after it.
 #[derive(Debug, Drop)]
 pub struct Input {
     pub tree: Tree,
@@ -133,7 +133,7 @@ pub struct Input {
 /// The first in the order of reading: `Fault` of the inventory or of the script, as
 /// `read_inventory` and `read_script` report it; `InventoryRead` or `ReadFault` if the source
 /// failed in the inventory or in the script, or was interrupted 1,000 times in a row there.
-/// `OutOfMemory` may come before any of them.
+/// `OutOfMemory` may occur before any of them.
 pub fn read_input<S: Source>(alloc: Global, source: &mut S) -> Result<Input, InputError>
     ensures input { (input : List ℕ) → S.left source.old ≡ Some input → GivesInput (λ given. (given.tree, given.calls.items)) result (input_of input) }
     ensures stops { IfErr result (λ e. InputStops e (S.left source.old) (S.left source.new)) }
@@ -154,24 +154,24 @@ fn history_of_input<S: Source>(alloc: Global, source: &mut S) -> Result<History<
     history_of_calls(alloc, tree, calls)
 }
 
-/// The replies and the line `== tree`: the output up to the inventory.
+/// The replies and the line `== tree`: the output before the inventory.
 fn text_of_replies(alloc: Global, history: &History<Action>) -> Result<Vec<u8>, AllocError>
     ensures { IfOk result (λ text. text.items ++ inventory_text (replay history.now.first history.now.rows) ≡ text_of history.now.first history.now.rows) }
 {
     let mut out = Vec::new(alloc);
-    push_rows(&mut out, history.rows())?;
+    push_each_row(&mut out, history.rows())?;
     out.extend_from_slice(b"== tree\n")?;
     Ok(out)
 }
 
 /// Writes the reply to each call of a history, the line `== tree`, and the inventory of the tree
-/// that the calls leave. All memory is taken before the first byte is written: the replies' text,
+/// after the calls. All memory is allocated before the first byte is written: the replies' text,
 /// and a buffer.
 ///
 /// # Errors
 ///
-/// `Fault` with the number of bytes that the sink took, if it failed, was interrupted 1,000 times
-/// in a row or wasn't flushed; `OutOfMemory`, and then nothing was written.
+/// `Fault` with the number of bytes that the sink accepted, if it failed, was interrupted 1,000
+/// times in a row or wasn't flushed; `OutOfMemory`, and then nothing was written.
 pub fn write_history<K: Sink>(
     alloc: Global,
     history: &History<Action>,
@@ -189,13 +189,13 @@ pub fn write_history<K: Sink>(
 }
 
 /// Reads an inventory and a script up to the end of the source, makes the script's calls one after
-/// another, and writes to the sink a reply to each call and the inventory of the tree that they
-/// leave. systemctl(1), "Unit File Commands".
+/// another, and writes to the sink a reply to each call and the inventory of the resulting tree.
+/// systemctl(1), "Unit File Commands".
 ///
-/// A call that is refused is no error: its reply says why, and the next call is made. All lines are
-/// read before the first call is made, and all memory is taken before the first byte is written. So
-/// unless the sink fails, the output is written whole and flushed, or nothing is written. The
-/// process should end next: the history is not freed.
+/// A call that is refused is not an error: its reply has the reason, and the next call is made. All
+/// lines are read before the first call is made, and all memory is allocated before the first byte
+/// is written. So unless the sink fails, the output is written completely and flushed, or nothing
+/// is written. The process should end next: the history is not freed.
 ///
 /// # Errors
 ///
@@ -208,9 +208,9 @@ pub fn write_history<K: Sink>(
 /// - `ReadFault`: the source failed in the script, or was interrupted 1,000 times in a row.
 /// - `Full`: the script has over 1,000,000 calls (`MAX_ROWS`).
 /// - `WriteFault`: the sink failed, was interrupted 1,000 times in a row or wasn't flushed. It had
-///   taken the first bytes of the output, exactly as many as the fault says.
+///   accepted the first bytes of the output, exactly as many as the fault reports.
 ///
-/// `OutOfMemory` may come before any of them but `WriteFault`; nothing was written then.
+/// `OutOfMemory` may occur before any of them but `WriteFault`; nothing was written then.
 pub fn run<S: Source, K: Sink>(alloc: Global, source: &mut S, sink: &mut K) -> Result<(), RunFault>
     ensures ok { OnOk result ((input : List ℕ) → S.left source.old ≡ Some input → WritesAll (K.written sink.old) (K.written sink.new) (outcome_of input)) }
     ensures flushed { OnOk result (K.flushed sink.new ≡ true) }
@@ -222,7 +222,8 @@ pub fn run<S: Source, K: Sink>(alloc: Global, source: &mut S, sink: &mut K) -> R
     match history_of_input(alloc, source) {
         Ok(history) => {
             let written = write_history(alloc, &history, sink);
-            // The process gives back all its memory at once; to free each entry takes a tenth of the time.
+            // The process frees all its memory at once when it ends; freeing each entry takes a
+            // tenth of the time.
             forget(history);
             match written {
                 Ok(()) => Ok(()),

@@ -16,10 +16,11 @@ use std::alloc::{AllocError, Global};
 /// The longest line of a script, in bytes before its end.
 pub const MAX_LINE: usize = 65_536;
 
-/// The most lines after `== calls`, skipped ones counted.
+/// The most lines after `== calls`, including skipped ones.
 pub const MAX_LINES: u32 = 2_000_000;
 
-/// A line's call, if it isn't skipped, and whether the line had an end: a line without one is the script's last.
+/// A line's call, if it isn't skipped, and whether the line had a line end: a line without one is
+/// the script's last.
 #[derive(Debug, Drop)]
 struct ReadCall {
     call: Option<Call>,
@@ -60,7 +61,7 @@ fn is_no_line(line: Line) -> bool
     }
 }
 
-/// Checks that nothing is left: else the line of this number is one too many.
+/// Checks that nothing remains: otherwise the line of this number is one too many.
 fn read_end<S: Source>(
     alloc: Global,
     source: &mut S,
@@ -135,7 +136,7 @@ fn calls_line_of(line: Line) -> Result<bool, ReadError<ScriptFault>>
     }
 }
 
-/// Reads the line before all calls, and answers whether it had an end.
+/// Reads the line before all calls, and returns whether it had a line end.
 fn read_calls_line<S: Source>(alloc: Global, source: &mut S) -> Result<bool, ReadError<ScriptFault>>
     ensures first { (bytes : List ℕ) → S.left source.old ≡ Some bytes → CallsLineOf (S.left source.new) result (after_calls_line (front_line 8 bytes)) }
     ensures stops { StopsInTime (λ taken. front_line 8 taken ≡ Last taken) result (S.left source.old) (S.left source.new) }
@@ -145,21 +146,24 @@ fn read_calls_line<S: Source>(alloc: Global, source: &mut S) -> Result<bool, Rea
     calls_line_of(line)
 }
 
-/// Reads a whole script, up to the end of the source: the line `== calls`, and a call from each line after it that
-/// isn't skipped. Skipped are lines without a word and those that begin with `#`. The last line, be it `== calls`, may
-/// lack its line end, and then the source isn't asked again.
+/// Reads a whole script, up to the end of the source: the line `== calls`, and a call from each
+/// line after it that isn't skipped. Lines without a word and those that begin with `#` are
+/// skipped. The last line, even if it is `== calls`, may lack its line end, and then the source
+/// isn't read again.
 ///
 /// # Errors
 ///
 /// The first of these in the order of reading:
 ///
 /// - `Fault(NoCalls)`: the first line isn't `== calls`.
-/// - `Fault(Bad(n, reason))`: line n is refused, counted from 1 after `== calls`, skipped ones too; `Reason` has the
-///   order. A line may have `MAX_LINE` bytes before its end, and there may be `MAX_LINES` lines after `== calls`.
+/// - `Fault(Bad(n, reason))`: line n is refused, counted from 1 after `== calls`, including skipped
+///   ones; `Reason` lists the reasons in the order of the checks. A line may have `MAX_LINE` bytes
+///   before its line end, and there may be `MAX_LINES` lines after `== calls`.
 /// - `ReadFault`: the source failed, or was interrupted 1,000 times in a row.
 /// - `OutOfMemory`.
 ///
-/// A fault is told with the byte that decides it, or at the end, and a read fault comes only while nothing is decided.
+/// A fault is reported with the byte that decides it, or at the end, and a read fault occurs only
+/// while nothing is decided.
 pub fn read_script<S: Source>(
     alloc: Global,
     source: &mut S,

@@ -35,7 +35,7 @@ fn number_of_digits(word: &[u8]) -> Option<u32>
     Some(number)
 }
 
-/// The number that a word of digits makes, if it is below 2^32.
+/// The number that a word of digits represents, if it is below 2^32.
 #[tactic(auto, unfolding(crate::specs::Words::number_of))]
 pub(crate) fn number_of(word: &[u8]) -> Option<u32>
     ensures { result ≡ number_of word.now }
@@ -57,7 +57,7 @@ pub(crate) fn name_of(alloc: Global, word: &[u8]) -> Result<UnitName, ReadError<
     }
 }
 
-/// Words that are all names of units.
+/// Words, all of which must be names of units.
 pub(crate) fn names_of(alloc: Global, words: &[&[u8]]) -> Result<Units, ReadError<Reason>>
     ensures { Gives (λ x. x) result (names_of (map (λ word. word.now) words.now)) }
 {
@@ -71,7 +71,7 @@ pub(crate) fn names_of(alloc: Global, words: &[&[u8]]) -> Result<Units, ReadErro
     Ok(units)
 }
 
-/// The names of units, of which one at least is given.
+/// The names of units, at least one.
 pub(crate) fn units_of(alloc: Global, words: &[&[u8]]) -> Result<Units, ReadError<Reason>>
     ensures { Gives (λ x. x) result (units_of (map (λ word. word.now) words.now)) }
 {
@@ -106,7 +106,7 @@ fn paths_of(alloc: Global, words: &[&[u8]]) -> Result<Paths, ReadError<Reason>>
     Ok(paths)
 }
 
-/// Paths, of which one at least is given.
+/// Paths, at least one.
 pub(crate) fn given_paths(alloc: Global, words: &[&[u8]]) -> Result<Paths, ReadError<Reason>>
     ensures { Gives (λ x. x) result (given_paths (map (λ word. word.now) words.now)) }
 {
@@ -139,7 +139,7 @@ fn file_with(alloc: Global, bytes: &[u8]) -> Result<Entry, ReadError<Reason>>
     }
 }
 
-/// The file that holds the bytes that a word stands for.
+/// The file that contains the bytes that a word represents.
 pub(crate) fn file_of(alloc: Global, word: &[u8]) -> Result<Entry, ReadError<Reason>>
     ensures { Gives (λ x. x) result (file_of word.now) }
 {

@@ -1,4 +1,4 @@
--- The status with which the program ends where it fails.
+-- The exit status of the program if it fails.
 use Rattle.std.specs.Prelude.{ℕ}
 use Rattle.arguments.specs.Statuses.{status_of}
 use Rattle.unitadm.specs.declared.program.Failure.{Failure}

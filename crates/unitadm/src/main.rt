@@ -10,7 +10,7 @@ fn main(rt: HostRuntime) -> ExitCode {
     match run_program(&rt) {
         Ok(()) => ExitCode::SUCCESS,
         Err(failure) => {
-            // The status tells, also where nothing can be said.
+            // The exit status reports the error, even if no message can be written.
             let _said = eprintln!(rt; "unitadm: {failure}");
             ExitCode::from(failure.status())
         }

@@ -1,4 +1,4 @@
-//! The program: its words, and a run from standard input to standard output.
+//! The program: its command-line arguments, and a run from standard input to standard output.
 ghost use Rattle.std.specs.Prelude.{◌≡◌};
 ghost use Rattle.unitadm.specs.Statuses.{failure_status};
 
@@ -25,7 +25,7 @@ pub(crate) enum Failure {
 }
 
 impl Failure {
-    /// The status with which the program ends.
+    /// The exit status of the program.
     pub fn status(self) -> u8
         ensures { result ≡ failure_status self }
     {
@@ -50,10 +50,10 @@ fn read_arguments<R: Env + AllocGlobal>(rt: &R) -> Result<Arguments, ArgumentErr
     arguments_of(rt.alloc(), &words)
 }
 
-/// How many bytes of standard input are asked for at a time.
+/// How many bytes of standard input are requested at a time.
 const READ_ROOM: usize = 32768;
 
-/// Runs what standard input holds, and writes to standard output.
+/// Runs the script on standard input, and writes to standard output.
 fn run_standard<R: Input + Print + AllocGlobal + Threads + Wait + Sync>(
     rt: &R,
     sessions: bool,
@@ -62,7 +62,8 @@ fn run_standard<R: Input + Print + AllocGlobal + Threads + Wait + Sync>(
         return Err(Failure::Run(RunFault::OutOfMemory));
     };
     let mut source = FromRead::new(reader);
-    // No buffer around the writer: the output comes whole, and a fault is to tell how much of it went out.
+    // No buffer around the writer: the output is written in one piece, and an error must report how
+    // much of it was written.
     let mut sink = ToWrite::new(io::writer(rt));
     if sessions {
         match run_with_sessions(rt, rt.alloc(), &mut source, &mut sink) {

@@ -1,4 +1,4 @@
-//! What is written where two operators come in either order.
+//! What is written if two operators' calls may be made in either order.
 
 use crate::{SessionsFault, run_with_sessions};
 use byte_streams::{FromRead, ToWrite};
@@ -34,7 +34,7 @@ fn written<R: Threads + Wait + Sync>(rt: &R, alloc: Global) -> Result<Vec<u8>, S
     Ok(out)
 }
 
-/// What is written before the tree, where alice comes first or bob does.
+/// What is written before the tree, if alice's call comes first or bob's does.
 const ALICE_FIRST: &[u8] = b"1 alice ok\n  \
     + /etc/systemd/system/multi-user.target.wants/ssh.service -> /usr/lib/systemd/system/ssh.service\n  \
     + /etc/systemd/system/sshd.service -> /usr/lib/systemd/system/ssh.service\n\

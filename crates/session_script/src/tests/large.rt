@@ -24,7 +24,7 @@ const SERVER: &[u8] = b"unitadm-inventory 1\n\
     end\n\
     == calls\n";
 
-/// What the operators want, in turn.
+/// The operators' requests, in turn.
 const WANTED: [&[u8]; 11] = [
     b"enable ssh.service",
     b"disable ssh.service",
@@ -91,7 +91,7 @@ fn text_of(alloc: Global, history: &History<Action>) -> Result<Vec<u8>, AllocErr
     Ok(text)
 }
 
-/// Whether one thread answers as the sessions were answered, and each call made a row.
+/// Whether one thread gets the same replies as the sessions, and each call made a row.
 fn is_as_one_thread(alloc: Global, history: &History<Action>) -> Result<bool, AllocError> {
     let again = replayed(alloc, history)?;
     let text = text_of(alloc, history)?;

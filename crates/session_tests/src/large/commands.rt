@@ -1,6 +1,8 @@
 //! Runs of real commands.
 
-use crate::commands::{Ran, feed_lines, push_answers, push_left, run_lines};
+use crate::commands::{
+    OF_ONE_UNIT, OF_TWO_UNITS, Ran, SSH, feed_lines, push_answers, push_left, run_lines,
+};
 use crate::large::Meeting;
 use crate::scripts::Open;
 use link_tree::push_decimal;
@@ -13,29 +15,6 @@ use std::sync::atomic::{AtomicU64, Ordering};
 use std::test::Fail;
 use std::thread::Threads;
 use std::time::Clock;
-
-/// Bob masks the unit that alice enables, and asks for its state: whichever of his question and her
-/// second attempt comes first.
-const OF_ONE_UNIT: &[u8] = b"\
-    alice enable ssh.service\n\
-    #\n\
-    bob mask ssh.service\n\
-    bob is-enabled ssh.service\n";
-
-/// Bob masks another unit, asks for the state of alice's unit before she commits, and for that of
-/// his before she does or after it.
-const OF_TWO_UNITS: &[u8] = b"\
-    alice enable ssh.service\n\
-    #\n\
-    bob mask x.service\n\
-    bob is-enabled ssh.service\n\
-    bob is-enabled x.service\n";
-
-/// The inventory of one unit.
-const SSH: &[u8] = b"unitadm-inventory 1\n\
-    F\t56\t/usr/lib/systemd/system/ssh.service\n\
-    [Install]\nWantedBy=multi-user.target\nAlias=sshd.service\n\n\
-    end\n";
 
 const EMPTY: &[u8] = b"unitadm-inventory 1\nend\n";
 

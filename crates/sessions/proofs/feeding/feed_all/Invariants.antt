@@ -3,7 +3,7 @@ use Rattle.std.specs.Vec.Iter.{into_iter_items}
 use Rattle.sessions.specs.Fed.{AreOf, jobs_of}
 use Rattle.sessions.proofs.feeding.feed_all.Given as goal
 
--- those that are left are of the operators; a job was issued for each of the others
+-- the remaining requests are of the operators; a job was issued for each of the others
 abbrev pub invariant-loop-ask : goal.invariant-loop-ask
 invariant-loop-ask g l = record {
   left : AreOf l.fn.operators (into_iter_items l.ask-iterator);

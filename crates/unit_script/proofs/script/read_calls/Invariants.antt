@@ -3,7 +3,7 @@ use Rattle.byte_streams.specs.Streams.{IsCalm}
 use Rattle.unit_script.proofs.Calls.{Reached}
 use Rattle.unit_script.proofs.script.read_calls.Given as goal
 
--- what is left gives what all of it gives
+-- the result for the rest is that for the whole
 abbrev pub invariant-lines : goal.invariant-lines
 invariant-lines g l = record {
   calm : IsCalm (g.S.Source.counters l.fn.source) (g.S.Source.counters l.source);

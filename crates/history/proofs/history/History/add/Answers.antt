@@ -14,7 +14,7 @@ make_room-requires-clause-few g c =
     let room : length c.self.inside.rows.items < c.self.inside.limit = subst (λ (v : Log g.row.O.Denot). length v.rows < v.limit) (sym c.self.view_is) c.requires.room in
     omega (arith, room, c.self.invariant.0.bounded)
 
--- the row is not there yet, so it is listed nowhere
+-- the row doesn't exist yet, so it isn't listed
 pub make_room-requires-clause-fresh : goal.make_room-requires-clause-fresh
 make_room-requires-clause-fresh g c = λ k.
     let rows = c.self.inside.rows.items in
@@ -39,7 +39,7 @@ invariant_of-self-in-Ok g c =
           (linked_push c.self.inside.links.items rows (answered c.args.operator c.plan.inside.operation c.plan.inside.outcome) refl c.self.invariant.2),
     )
 
--- if memory runs out, the index lists what it listed
+-- if memory runs out, the index is unchanged
 pub invariant_of-self : goal.invariant_of-self
 invariant_of-self g c = (
   rw (c.make_room.ensures.items, c.in-Err.ensures.err) c.self.invariant.0,

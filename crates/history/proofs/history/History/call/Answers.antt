@@ -4,7 +4,7 @@ use Rattle.history.specs.Rows.{replay}
 use Rattle.history.proofs.Agreed.{new_plan_agrees}
 use Rattle.history.proofs.history.History.call.Goals as goal
 
--- the plan was made on the tree as it is
+-- the plan was made on the current tree
 pub add-requires-clause-agrees : goal.add-requires-clause-agrees
 add-requires-clause-agrees g c =
     let meaning = g.O.Operation.meaning in

@@ -29,7 +29,7 @@ invariant_of-result g c =
       few = omega arith;
       bounded = c.requires.few;
     } in (
-      subst (λ (first : Entries). IsKept g.O.Operation.asks g.O.Operation.meaning first c.args.tree c.new.result.items c.args.limit) (sym c.in_ok-copy.ensures)
+      subst (λ (first : Entries). IsKept g.O.Operation.asks g.O.Operation.meaning first c.args.tree c.new.result.items c.args.limit) (sym c.in_ok-share.ensures)
           (subst (λ (rows : List (Row _)). IsKept g.O.Operation.asks g.O.Operation.meaning c.args.tree c.args.tree rows c.args.limit) (sym c.new.ensures.items) kept),
       (λ key i. c.none.ensures key i ∙ sym (ap (λ (rows : List (Row _)). is_reader g.O.Operation.asks (row_at rows i) key) c.new.ensures.items ∙ ap (λ row. is_reader g.O.Operation.asks row key) (no_row i))),
       rw (c.new.ensures.items, c.new-2.ensures.items) no_links,

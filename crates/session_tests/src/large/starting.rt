@@ -1,0 +1,48 @@
+//! Workers that can't be started: `tests/no-worker` refuses one thread after another.
+
+use crate::running::ran;
+use crate::scripts::{Open, Ran};
+use sessions::RunError;
+use std::alloc::{AllocError, Global};
+use std::sync::Wait;
+use std::test::Fail;
+use std::thread::Threads;
+use std::{env, str};
+
+/// What three operators ask for.
+const WORKS: &[u8] = b"alice put:a / bob put:b / carol put:c";
+
+fn word_of(ran: &Ran) -> &'static [u8] {
+    match ran {
+        Ok(_) => b"ran",
+        Err(RunError::NoWorker) => b"no-worker",
+        Err(_) => b"another-error",
+    }
+}
+
+/// What results from the run.
+fn end_of_run<R: Threads + Wait + Sync>(
+    rt: &R,
+    alloc: Global,
+) -> Result<&'static [u8], AllocError> {
+    Ok(word_of(&*ran(rt, alloc, WORKS, &Open)?))
+}
+
+/// What results if the thread of this number is refused: `tools/refuse_thread.c` reads it, too.
+fn wanted_of(number: &[u8]) -> &'static [u8] {
+    match number {
+        b"1" | b"2" | b"3" => b"no-worker",
+        _ => b"ran",
+    }
+}
+
+#[test]
+fn a_worker_that_cannot_be_started_is_reported(rt: HostRuntime) -> Result<(), Fail> {
+    let wanted = match env::var(&rt, "REFUSE_THREAD") {
+        Ok(number) => wanted_of(number.as_bytes()),
+        Err(_) => wanted_of(b""),
+    };
+    let end = end_of_run(&rt, rt.alloc())?;
+    assert!(rt; end == wanted, "{:?}", str::from_utf8(end));
+    Ok(())
+}
