@@ -4,3 +4,6 @@ pub mod Directories
 pub mod Covering
 pub mod Followed
 pub mod Whole
+pub mod DependencyDirectories
+pub mod SlotAreas
+pub mod Parts

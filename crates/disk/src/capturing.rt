@@ -1,4 +1,4 @@
-//! Capturing what a disk holds.
+//! Captures what a disk holds.
 ghost use Rattle.std.specs.Prelude.{◌≡◌, ℕ, IfOk, IfErr, IfSome};
 ghost use Rattle.link_tree.specs.Shape.{IsTree};
 ghost use Rattle.disk.specs.Captures.{IsCapture, IsReasonAgainst, failures_after_capture};
@@ -21,7 +21,7 @@ fn copies(alloc: Global, paths: &[TreePath]) -> Result<Vec<TreePath>, AllocError
     Ok(copies)
 }
 
-/// What stands at slots, and what is to be followed.
+/// What is at slots, and the links that must be followed.
 fn slots_taken<D: Disk>(
     alloc: Global,
     disk: &mut D,
@@ -43,7 +43,7 @@ fn slots_taken<D: Disk>(
     Ok(taken)
 }
 
-/// What stands at slots, and what is reached from there.
+/// What is at slots, and what links lead to from there.
 fn found<D: Disk>(alloc: Global, disk: &mut D, also: &[TreePath]) -> Result<Captured, CaptureError>
     ensures found { IfOk result (λ found. IfSome (D.holds disk.old) (λ t. IsCapture t also.now found)) }
     ensures reason { IfErr result (λ e. IfSome (D.holds disk.old) (λ t. IsReasonAgainst t also.now e)) }
@@ -56,18 +56,22 @@ fn found<D: Disk>(alloc: Global, disk: &mut D, also: &[TreePath]) -> Result<Capt
     Ok(found)
 }
 
-/// What stands at slots, at the paths that are asked for besides, and where links lead from there, link after link, as the tree of an
-/// inventory. Slots are the paths at which commands place entries, in the four directories of units and the three of presets. Links
-/// are followed by their texts, as `link_tree::canonical` does, and none to `/dev/null`; where one leads to nothing, or to something
-/// odd, nothing is captured. Nothing else is looked at, and nothing is changed.
+/// Captures what is at slots and at the other paths that were requested, and where links lead from
+/// there, link after link, as the tree of an inventory. Slots are the paths at which commands place
+/// entries, in the four directories of units and the three of presets. Links are followed by their
+/// texts, as in `link_tree::canonical`, except those to `/dev/null`; if a link leads to nothing, or
+/// to something odd, nothing is captured at its target. No other path is read, and nothing is
+/// changed.
 ///
 /// # Errors
 ///
-/// - `Odd`: at a slot stands a directory, a device, a file of over 1,048,576 bytes, or a link whose target no inventory can have.
-/// - `NoDirectory`: something else stands in place of a directory of slots.
-/// - `TooMany`: these are over 65,536 entries.
-/// - `BadShape`: one of them lies beneath another, or above a slot. No disk that holds a tree answers so.
-/// - `Failed`: the disk failed. Want of memory.
+/// - `Odd`: a directory, a device, a file of over 1,048,576 bytes, or a link whose target no
+///   inventory can contain, is at a slot.
+/// - `NoDirectory`: something else exists instead of a directory of slots.
+/// - `TooMany`: there are over 65,536 entries.
+/// - `BadShape`: one of them is beneath another, or above a slot. No disk that holds a tree results
+///   in this.
+/// - `Failed`: the disk failed. `OutOfMemory`.
 pub fn capture<D: Disk>(
     alloc: Global,
     disk: &mut D,
@@ -79,5 +83,5 @@ pub fn capture<D: Disk>(
     ensures counted { D.failures disk.new ≡ failures_after_capture (D.failures disk.old) result }
 {
     let found = found(alloc, disk, also)?;
-    found.into_tree(alloc)
+    found.to_tree(alloc)
 }

@@ -1,4 +1,5 @@
-//! The inventory of what was captured. A tree is built of entries outside the slots by reading alone.
+//! The inventory of what was captured. A tree with entries outside the slots can only be built by
+//! reading an inventory.
 ghost use Rattle.std.specs.Prelude.{◌≡◌, ◌++◌, ℕ, IfOk, IfErr, OnOk};
 ghost use Rattle.link_tree.specs.Shape.{IsTree};
 ghost use Rattle.link_tree.specs.Trees.{entry_line, inventory_text};
@@ -39,21 +40,21 @@ fn push_entry(text: &mut Vec<u8>, path: &TreePath, entry: &Entry) -> Result<(), 
 
 impl Captured {
     /// The inventory of these entries.
-    fn inventory(self, alloc: Global) -> Result<Vec<u8>, AllocError>
-        ensures { IfOk result (λ text. text.items ≡ inventory_text self) }
+    fn inventory(&self, alloc: Global) -> Result<Vec<u8>, AllocError>
+        ensures { IfOk result (λ text. text.items ≡ inventory_text self.now) }
     {
         let mut text = Vec::from_slice(alloc, b"unitadm-inventory 1\n")?;
-        for (path, entry) in self.by_path {
-            push_entry(&mut text, &path, &entry)?;
+        for (path, entry) in self.by_path.iter() {
+            push_entry(&mut text, path, entry)?;
         }
         text.extend_from_slice(b"end\n")?;
         Ok(text)
     }
 
     /// The tree of these entries.
-    pub(crate) fn into_tree(self, alloc: Global) -> Result<Tree, CaptureError>
-        ensures tree { IfOk result (λ tree. IsTree self → tree ≡ self) }
-        ensures shape { IfErr result (IsShapeError self) }
+    pub(crate) fn to_tree(&self, alloc: Global) -> Result<Tree, CaptureError>
+        ensures tree { IfOk result (λ tree. IsTree self.now → tree ≡ self.now) }
+        ensures shape { IfErr result (IsShapeError self.now) }
         ensures calm { (old : ℕ) → failures_after_capture old result ≡ old }
     {
         let _few = self.len();
@@ -62,7 +63,7 @@ impl Captured {
         match read_inventory(alloc, &mut FromRead::new(text.as_slice())) {
             Ok(tree) => Ok(tree),
             Err(InventoryError::Fault(_, _)) => Err(CaptureError::BadShape),
-            // A reader of bytes that are there doesn't fail.
+            // (reading bytes from memory doesn't fail)
             Err(InventoryError::ReadFault(_)) => Err(CaptureError::OutOfMemory),
             Err(InventoryError::OutOfMemory) => Err(CaptureError::OutOfMemory),
         }

@@ -1,4 +1,5 @@
-//! A tree as files and links on a disk: captured from there, and changed there in steps, all or none.
+//! A tree as files and links on a disk: captured from there, and changed there by steps, of which
+//! all or none are made.
 #![tactic(auto)]
 
 mod applying;
@@ -10,11 +11,15 @@ mod error;
 mod following;
 mod inventory;
 mod leading;
+mod partial;
+mod path_set;
 mod step;
 mod taking;
+mod taking_parts;
 
 pub use applying::apply;
 pub use capture_error::CaptureError;
 pub use capturing::capture;
 pub use disk::{Disk, Found, Listing, Oddity};
 pub use error::{ApplyError, DiskError, StepError};
+pub use partial::{Area, Partial};

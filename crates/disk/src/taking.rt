@@ -1,4 +1,4 @@
-//! Taking what stands at slots.
+//! Takes what is at slots: reads it from the disk, and adds it to what was captured.
 ghost use Rattle.std.specs.Prelude.{◌≡◌, ◌++◌, None, true, List, ℕ, IfOk, IfErr, IfSome, OnOk};
 ghost use Rattle.std.specs.FinMap as map;
 ghost use Rattle.unit_paths.specs.Slots.{is_slot};
@@ -14,7 +14,7 @@ use crate::leading::leads_to;
 use link_tree::{Entry, PathError, Place, Slot, TreePath};
 use std::alloc::{AllocError, Global};
 
-/// What was taken, and where links lead that are to be followed.
+/// What was captured so far, and where links lead that must still be followed.
 #[derive(Drop)]
 pub(crate) struct Taken {
     pub(crate) found: Captured,
@@ -33,7 +33,12 @@ impl Taken {
     }
 
     /// Adds an entry, and notes where it leads.
-    fn add(&mut self, alloc: Global, path: TreePath, entry: Entry) -> Result<(), CaptureError>
+    pub(crate) fn add(
+        &mut self,
+        alloc: Global,
+        path: TreePath,
+        entry: Entry,
+    ) -> Result<(), CaptureError>
         requires { map.get self.old.found path ≡ None }
         ensures adds { Adds self.old.found self.new.found result path entry }
         ensures wanted { OnOk result (self.new.wanted.items ≡ self.old.wanted.items ++ optional (leads_to path entry)) }
@@ -43,8 +48,8 @@ impl Taken {
         self.found.add(path, entry)
     }
 
-    /// Takes what stands at a slot.
-    fn take<D: Disk>(
+    /// Takes what is at a slot.
+    pub(crate) fn take<D: Disk>(
         &mut self,
         alloc: Global,
         disk: &mut D,
@@ -58,15 +63,14 @@ impl Taken {
         if self.found.has(slot) {
             return Ok(());
         }
-        let path = slot.copy()?;
         match disk.look(alloc, slot)? {
             Found::Nothing => Ok(()),
-            Found::Entry(entry) => self.add(alloc, path, entry),
-            Found::Odd(oddity) => Err(CaptureError::Odd(path, oddity)),
+            Found::Entry(entry) => self.add(alloc, slot.copy()?, entry),
+            Found::Odd(oddity) => Err(CaptureError::Odd(slot.copy()?, oddity)),
         }
     }
 
-    /// Takes what stands at a path, if that is a slot.
+    /// Takes what is at a path, if that is a slot.
     fn take_if_slot<D: Disk>(
         &mut self,
         alloc: Global,
@@ -83,7 +87,7 @@ impl Taken {
         self.take(alloc, disk, path)
     }
 
-    /// Takes what stands at those of the paths that are slots.
+    /// Takes what is at those of the paths that are slots.
     fn take_slots<D: Disk>(
         &mut self,
         alloc: Global,
@@ -100,8 +104,8 @@ impl Taken {
         Ok(())
     }
 
-    /// Takes what stands at the slots in a directory.
-    fn take_directory<D: Disk>(
+    /// Takes what is at the slots in a directory.
+    pub(crate) fn take_directory<D: Disk>(
         &mut self,
         alloc: Global,
         disk: &mut D,
@@ -115,7 +119,7 @@ impl Taken {
         self.take_slots(alloc, disk, &paths)
     }
 
-    /// Takes what stands at a path in a directory of units: at a slot, or in a directory of slots.
+    /// Takes what is at a path in a directory of units: at a slot, or in a directory of slots.
     fn take_in_units<D: Disk>(
         &mut self,
         alloc: Global,
@@ -135,7 +139,7 @@ impl Taken {
         self.take_directory(alloc, disk, path)
     }
 
-    /// The same at each of the paths.
+    /// The same for each of the paths.
     fn take_all_in_units<D: Disk>(
         &mut self,
         alloc: Global,
@@ -152,8 +156,8 @@ impl Taken {
         Ok(())
     }
 
-    /// Takes what stands at the slots of a directory of units, and in the directories of dependencies there.
-    fn take_units<D: Disk>(
+    /// Takes what is at the slots of a directory of units, and in its directories of dependencies.
+    pub(crate) fn take_units<D: Disk>(
         &mut self,
         alloc: Global,
         disk: &mut D,
@@ -168,7 +172,7 @@ impl Taken {
         self.take_all_in_units(alloc, disk, &paths)
     }
 
-    /// Takes what stands at the slots of a directory of presets.
+    /// Takes what is at the slots of a directory of presets.
     fn take_presets<D: Disk>(
         &mut self,
         alloc: Global,
@@ -183,7 +187,7 @@ impl Taken {
         self.take_directory(alloc, disk, &directory)
     }
 
-    /// Takes what stands at the slots of these directories of units.
+    /// Takes what is at the slots of these directories of units.
     pub(crate) fn take_all_units<D: Disk>(
         &mut self,
         alloc: Global,
@@ -200,7 +204,7 @@ impl Taken {
         Ok(())
     }
 
-    /// Takes what stands at the slots of the directories of presets beside these.
+    /// Takes what is at the slots of the directories of presets next to these.
     pub(crate) fn take_all_presets<D: Disk>(
         &mut self,
         alloc: Global,
@@ -218,7 +222,7 @@ impl Taken {
     }
 }
 
-fn path_of_units(alloc: Global, place: Place) -> Result<TreePath, AllocError>
+pub(crate) fn path_of_units(alloc: Global, place: Place) -> Result<TreePath, AllocError>
     ensures { IfOk result (λ path. path ≡ unit_directory place) }
 {
     match TreePath::parse(alloc, place.directory().as_bytes()) {
@@ -238,8 +242,8 @@ fn path_of_presets(alloc: Global, place: Place) -> Result<TreePath, AllocError>
     }
 }
 
-/// The paths in a directory, at least those with entries.
-fn listed<D: Disk>(
+/// The paths in a directory, including all those with an entry at or beneath them.
+pub(crate) fn listed<D: Disk>(
     alloc: Global,
     disk: &mut D,
     directory: &TreePath,

@@ -1,4 +1,5 @@
-//! Tests of `tree_steps` and `disk`, from outside: with tests of its own a crate would be proved twice.
+//! Tests of `tree_steps` and `disk`, as a crate of their own: a crate that has tests is proved a
+//! second time for them.
 #![tactic(auto)]
 
 #[cfg(test)]

@@ -2,4 +2,5 @@ mod applying;
 mod capturing;
 mod fake;
 mod large;
+mod parts;
 mod root;

@@ -1,4 +1,4 @@
-//! Steps on a disk that fails at each call in turn.
+//! Making steps on a disk that fails at each call in turn.
 use super::fake::{Failing, Fake};
 use disk::{ApplyError, Oddity, StepError, apply};
 use link_tree::{Change, Tree};
@@ -15,7 +15,8 @@ b
 end
 ";
 
-/// Three steps from the first: `c.service` is put, `a.service` becomes another link, `b.service` is removed.
+/// The result of three steps from the tree above: `c.service` is put, `a.service` becomes another
+/// link, `b.service` is removed.
 const NEW: &[u8] = b"unitadm-inventory 1
 L\t/etc/systemd/system/a.service\tc.service
 F\t1\t/etc/systemd/system/c.service
@@ -23,7 +24,7 @@ c
 end
 ";
 
-/// The first, but for the bytes of the file that is removed last.
+/// The first tree, except for the bytes of the file that is removed last.
 const OTHER: &[u8] = b"unitadm-inventory 1
 L\t/etc/systemd/system/a.service\tb.service
 F\t1\t/etc/systemd/system/b.service
@@ -85,15 +86,15 @@ fn is_memory_gone(applied: Result<(), ApplyError>) -> bool {
     }
 }
 
-/// Texts of the tree that a disk holds, and of those between which the steps lead.
+/// Inventories: of the tree that the disk holds, and of the two trees between which the steps are.
 #[derive(Clone, Copy, Debug)]
 struct Way {
     held: &'static [u8],
     old: &'static [u8],
     new: &'static [u8],
-    /// Whether all steps come a second time.
+    /// Whether all steps are made twice.
     is_repeated: bool,
-    /// What is wherever the disk has no entry.
+    /// The odd thing that is at every path without an entry.
     odd: Option<Oddity>,
 }
 
@@ -160,7 +161,7 @@ fn made(
     })
 }
 
-/// What the steps of a way result in.
+/// What making the steps resulted in.
 fn between(alloc: Global, way: Way, failing: Failing) -> Result<Outcome, AllocError> {
     let held = tree(alloc, way.held)?;
     let new = tree(alloc, way.new)?;

@@ -1,4 +1,4 @@
-//! What is captured of roots.
+//! Capturing roots.
 use super::fake::Failing;
 use super::root::Root;
 use disk::{CaptureError, Oddity, capture};
@@ -10,7 +10,7 @@ use std::test::Fail;
 use tree_steps::are_same;
 use unit_name::ample;
 
-/// Slots of each kind, chains of links out of them, and much that is none of these.
+/// Slots of each kind, chains of links out of them, and many entries that are neither.
 const WHOLE: &[u8] = b"unitadm-inventory 1
 L\t/etc/systemd/system/a.service\t/opt/a.service
 F\t1\t/etc/systemd/system/a.service.d/drop-in.conf
@@ -79,7 +79,7 @@ r
 end
 ";
 
-/// A link to a link, whose text leads beneath that.
+/// A link to a link, and a target that leads beneath the second link.
 const THROUGH: &[u8] = b"unitadm-inventory 1
 L\t/etc/systemd/system/a.service\t/opt/app
 L\t/etc/systemd/system/b.service\t/opt/app/b.service
@@ -141,7 +141,7 @@ fn read_trees(alloc: Global) -> Result<Trees, AllocError> {
 
 /// What a capture resulted in.
 #[derive(Clone, Copy, Debug, PartialEq, Eq)]
-enum Came {
+pub(crate) enum Came {
     Equal,
     Other(usize),
     Odd(Oddity),
@@ -149,6 +149,18 @@ enum Came {
     TooMany,
     BadShape,
     Failed,
+}
+
+/// What an error is reported as. If memory ran out, the result is `AllocError`.
+pub(crate) fn came_of(error: CaptureError) -> Result<Came, AllocError> {
+    match error {
+        CaptureError::Odd(_slot, oddity) => Ok(Came::Odd(oddity)),
+        CaptureError::NoDirectory(_directory) => Ok(Came::NoDirectory),
+        CaptureError::TooMany => Ok(Came::TooMany),
+        CaptureError::BadShape => Ok(Came::BadShape),
+        CaptureError::Failed => Ok(Came::Failed),
+        CaptureError::OutOfMemory => Err(AllocError),
+    }
 }
 
 fn capture_on(
@@ -163,28 +175,31 @@ fn capture_on(
         } else {
             Came::Other(tree.len())
         }),
-        Err(CaptureError::Odd(_slot, oddity)) => Ok(Came::Odd(oddity)),
-        Err(CaptureError::NoDirectory(_directory)) => Ok(Came::NoDirectory),
-        Err(CaptureError::TooMany) => Ok(Came::TooMany),
-        Err(CaptureError::BadShape) => Ok(Came::BadShape),
-        Err(CaptureError::Failed) => Ok(Came::Failed),
-        Err(CaptureError::OutOfMemory) => Err(AllocError),
+        Err(error) => came_of(error),
     }
 }
 
-fn shared_root(alloc: Global, tree: &Tree, failing: Failing) -> Result<Box<Root>, AllocError> {
+pub(crate) fn shared_root(
+    alloc: Global,
+    tree: &Tree,
+    failing: Failing,
+) -> Result<Box<Root>, AllocError> {
     let tree = Box::new(alloc, tree.share()?)?;
     Root::new(alloc, tree, failing)
 }
 
-/// Puts something strange into a root. If it is none of these, the answer is `AllocError`, by which a test fails.
-fn put_strange(
+/// Puts something odd into a root. If it is none of these, the result is `AllocError`, which makes
+/// a test fail.
+pub(crate) fn put_strange(
     alloc: Global,
     root: &mut Root,
     strange: &[u8],
     at: &[u8],
 ) -> Result<(), AllocError> {
     if strange == b"capture".as_slice() || strange == b"asked for".as_slice() {
+        return Ok(());
+    }
+    if strange == b"take".as_slice() {
         return Ok(());
     }
     let at = path(alloc, at)?;
@@ -215,7 +230,7 @@ fn asked_for(alloc: Global, row: &Row) -> Result<Vec<TreePath>, AllocError> {
     Ok(paths)
 }
 
-fn word_of(came: Came) -> &'static str {
+pub(crate) fn word_of(came: Came) -> &'static str {
     match came {
         Came::Equal => "as wanted",
         Came::Other(_) => "other",
@@ -253,7 +268,8 @@ fn slots_and_what_links_lead_to(rt: HostRuntime) -> Result<(), Fail> {
     Ok(())
 }
 
-/// Whether a capture of which one call fails reports that, and failed once; or if there is no such call, whether all is captured.
+/// Whether a capture in which one call fails reports that, and the root counts one failure; or if
+/// there is no such call, whether all is captured.
 fn is_reported(alloc: Global, trees: &Trees, call: u32) -> Result<bool, AllocError> {
     let mut root = shared_root(alloc, &trees.whole, Failing::once(call))?;
     let came = capture_on(alloc, &mut root, &[], &trees.captured)?;
@@ -266,7 +282,7 @@ fn is_reported(alloc: Global, trees: &Trees, call: u32) -> Result<bool, AllocErr
     Ok(came == expected && root.failures == u64::from(has_failed))
 }
 
-/// The first of so many calls whose failure isn't reported, if there is one.
+/// The first of this number of calls whose failure isn't reported, if there is one.
 fn unreported(alloc: Global, calls: u32) -> Result<Option<u32>, AllocError> {
     let trees = read_trees(alloc)?;
     for call in 0..calls {

@@ -1,4 +1,4 @@
-//! A disk that holds a tree, and fails where it is told to.
+//! A disk that holds a tree, and fails at chosen calls.
 ghost use Rattle.std.specs.Prelude.{◌≡◌, Some, Err};
 ghost use Rattle.disk.specs.Disks.{Held, Sets, failures_after};
 
@@ -11,7 +11,7 @@ use std::alloc::Global;
 pub(crate) struct Failing {
     first: u32,
     last: u32,
-    /// One more, on its own.
+    /// One more call that fails.
     again: u32,
 }
 
@@ -47,16 +47,16 @@ impl Failing {
     }
 }
 
-/// A tree as a disk. It puts entries at slots alone, and lists nothing.
+/// A tree as a disk. It can only put entries at slots, and can't list directories.
 #[derive(Drop)]
 pub(crate) struct Fake {
     pub(crate) tree: Tree,
     pub(crate) failing: Failing,
     pub(crate) calls: u32,
-    /// How often it put or took an entry.
+    /// How often it put or removed an entry.
     pub(crate) changes: u32,
     pub(crate) failures: u64,
-    /// What stands at each path that has no entry.
+    /// The odd thing at every path that has no entry.
     pub(crate) odd: Option<Oddity>,
 }
 

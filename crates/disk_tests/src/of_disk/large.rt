@@ -1,9 +1,9 @@
-//! Roots of 65,536 entries and one more.
+//! Roots with 65,536 entries and with one more.
 use super::fake::Failing;
 use super::root::Root;
 use crate::slots::set;
-use disk::{CaptureError, capture};
-use link_tree::Tree;
+use disk::{Area, CaptureError, Partial, capture};
+use link_tree::{Place, Tree};
 use sample_values::{link, path};
 use std::alloc::{AllocError, Global};
 use std::test::Fail;
@@ -20,7 +20,7 @@ fn mask(alloc: Global, tree: &mut Tree, number: u32) -> Result<(), AllocError> {
     set(tree, &slot, link(alloc, b"/dev/null")?)
 }
 
-/// So many masked units.
+/// This number of masked units.
 fn tree(alloc: Global, entries: u32) -> Result<Box<Tree>, AllocError> {
     let mut tree = Box::new(alloc, Tree::empty(alloc)?)?;
     for number in 0..entries {
@@ -29,7 +29,7 @@ fn tree(alloc: Global, entries: u32) -> Result<Box<Tree>, AllocError> {
     Ok(tree)
 }
 
-/// How many entries are captured, or none where there are too many.
+/// How many entries are captured, or `None` if there are too many.
 fn captured(alloc: Global, entries: u32) -> Result<Option<usize>, AllocError> {
     let mut root = Root::new(alloc, tree(alloc, entries)?, Failing::NEVER)?;
     match capture(alloc, &mut *root, &[]) {
@@ -39,13 +39,27 @@ fn captured(alloc: Global, entries: u32) -> Result<Option<usize>, AllocError> {
     }
 }
 
+/// How many entries are found in one area, or `None` if there are too many.
+fn captured_in_area(alloc: Global, entries: u32) -> Result<Option<usize>, AllocError> {
+    let mut root = Root::new(alloc, tree(alloc, entries)?, Failing::NEVER)?;
+    let mut partial = Partial::none(alloc);
+    match partial.take_area(alloc, &mut *root, Area::Units(Place::Etc)) {
+        Ok(()) => Ok(Some(partial.len())),
+        Err(CaptureError::TooMany) => Ok(None),
+        Err(_) => Err(AllocError),
+    }
+}
+
 #[test]
 fn as_many_as_a_tree_may_have_are_captured(rt: HostRuntime) -> Result<(), Fail> {
     let alloc = rt.alloc();
-    assert_eq!(rt;
-        ample!(captured(alloc, ENTRIES), AllocError)?,
-        Some(ENTRIES as usize)
-    );
+    let most = Some(ENTRIES as usize);
+    assert_eq!(rt; ample!(captured(alloc, ENTRIES), AllocError)?, most);
     assert_eq!(rt; ample!(captured(alloc, ENTRIES + 1), AllocError)?, None);
+    assert_eq!(rt; ample!(captured_in_area(alloc, ENTRIES), AllocError)?, most);
+    assert_eq!(rt;
+        ample!(captured_in_area(alloc, ENTRIES + 1), AllocError)?,
+        None
+    );
     Ok(())
 }

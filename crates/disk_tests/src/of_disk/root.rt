@@ -7,22 +7,22 @@ use disk::{Disk, DiskError, Found, Listing, Oddity};
 use link_tree::{Entry, FileError, PathError, Tree, TreePath};
 use std::alloc::{AllocError, Global};
 
-/// A tree with some odd things among its entries, of which nothing is claimed.
+/// A tree with some odd things among its entries, about which no contract claims anything.
 #[derive(Drop)]
 pub(crate) struct Root {
     pub(crate) tree: Box<Tree>,
     pub(crate) failing: Failing,
     pub(crate) calls: u32,
     pub(crate) failures: u64,
-    /// Here stands a directory.
+    /// A directory is here.
     pub(crate) odd: Option<TreePath>,
-    /// Here stands no directory.
+    /// Something that is no directory is here.
     pub(crate) no_directory: Option<TreePath>,
-    /// Here stands a file that isn't in the tree, and can't be.
+    /// A file is here that isn't in the tree, and can't be in it.
     pub(crate) beneath: Option<TreePath>,
 }
 
-/// The path in a directory on the way to another path.
+/// The path directly in a directory on the way to another path.
 fn child(
     alloc: Global,
     directory: &TreePath,

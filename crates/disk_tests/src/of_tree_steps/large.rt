@@ -1,5 +1,5 @@
-//! Steps between trees of 65,536 entries: no contract says when memory runs out, so a call that gave up on such trees would be
-//! proved.
+//! Steps between trees of 65,536 entries. No contract says when memory runs out, so code that gave
+//! up on such trees would be proved too; these tests show that it doesn't give up.
 use crate::slots::set;
 use link_tree::{Change, Entry, Tree, TreePath};
 use sample_values::{file, link, path};
@@ -14,7 +14,7 @@ const LAST: u32 = 165_535;
 
 const ENTRIES: usize = 65_536;
 
-/// The slot of the unit of this number: half of the units are `/usr`'s.
+/// The slot of the unit of this number: half of the units are in `/usr`.
 fn slot(alloc: Global, number: u32) -> Result<TreePath, AllocError> {
     let text = if number % 2 == 0 {
         format!(in alloc; "/etc/systemd/system/{number}.service")?
@@ -24,8 +24,8 @@ fn slot(alloc: Global, number: u32) -> Result<TreePath, AllocError> {
     path(alloc, text.as_bytes())
 }
 
-/// A link to `/dev/null`, or to the file of the unit of this number. No two lead to the same file: each further link to one name would copy
-/// the list of all links to it.
+/// A link to `/dev/null`, or to a file for the unit of this number. No two links lead to the same
+/// file: each further link to one file would copy the list of all links to it.
 fn unit_link(alloc: Global, number: u32, is_null: bool) -> Result<Entry, AllocError> {
     if is_null {
         return link(alloc, b"/dev/null");
@@ -34,7 +34,8 @@ fn unit_link(alloc: Global, number: u32, is_null: bool) -> Result<Entry, AllocEr
     link(alloc, target.as_bytes())
 }
 
-/// Puts the unit of this number into a tree: a link, or for every third unit a file, if there may be files.
+/// Puts the unit of this number into a tree: a link, or for every third unit a file, if files are
+/// allowed.
 fn put(
     alloc: Global,
     tree: &mut Tree,
@@ -66,7 +67,8 @@ fn files_put(steps: &[Change]) -> usize {
         .count()
 }
 
-/// How many changes and steps there are between two trees, how many of the steps put a file, and whether the trees are the same.
+/// The number of changes and of steps between two trees, how many of the steps put a file, and
+/// whether the trees are equal.
 fn counted(
     alloc: Global,
     old: &Tree,
@@ -77,7 +79,7 @@ fn counted(
     Ok((changes, steps.len(), files_put(&steps), are_same(old, new)))
 }
 
-/// The same from a tree of links to `/dev/null`, which may have files, to one with files.
+/// The same, from a tree of links to `/dev/null`, which may have files, to a tree with files.
 fn counted_from(
     alloc: Global,
     old_has_files: bool,
