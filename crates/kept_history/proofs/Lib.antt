@@ -1,0 +1,10 @@
+pub mod Staying
+pub mod Mending
+pub mod Crashes
+pub mod Losses
+pub mod Fronts
+pub mod Pending
+pub mod Lasting
+pub mod Since
+pub mod Parts
+pub mod Finishing

@@ -1,0 +1,14 @@
+use Rattle.std.proofs.Common.{map as list_map}
+use Rattle.kept_history.specs.Roots.{Withdraw, Make}
+use Rattle.kept_history.specs.Runs.{way_back, ending}
+use Rattle.kept_history.proofs.Fronts.{stops_first, stops_later, stops_back}
+use Rattle.kept_history.proofs.running.withdraw.Goals as goal
+
+pub returns-in-Err-end_withdrawal-clause-done : goal.returns-in-Err-end_withdrawal-clause-done
+returns-in-Err-end_withdrawal-clause-done g c =
+    stops_later _ _ _ (list_map Make (way_back c.args.steps.now)) (ending Withdraw c.args.steps.now) c.in-Ok.ensures.done c.in-Err-end_withdrawal.ensures.done
+
+pub returns-in-Err-clause-done : goal.returns-in-Err-clause-done
+returns-in-Err-clause-done g c =
+    stops_first _ _ (list_map Make (way_back c.args.steps.now)) (ending Withdraw c.args.steps.now)
+    (stops_back _ _ c.in-Err.left.step c.args.steps.now c.in-Err.ensures.some_done)

@@ -1,0 +1,44 @@
+-- What the call for recovery does.
+use Rattle.std.specs.Prelude.{◌≡◌, ℕ, List, [], ◌∷◌, Option, Result, Ok, Err, IfSome}
+use Rattle.link_tree.specs.declared.change.Change.{Change}
+use Rattle.link_tree.specs.Trees.{Entries}
+use Rattle.tree_steps.specs.Steps.{steps_between}
+use Rattle.disk.specs.declared.disk.Oddity.{Oddity}
+use Rattle.disk.specs.Disks.{Held, StandsOddly, of_disk}
+use Rattle.disk.specs.Steps.{failures_with}
+use Rattle.disk.specs.Applied.{Stops}
+use Rattle.kept_history.specs.Roots.{Event}
+use Rattle.kept_history.specs.Recovery.{due_steps, finishing}
+use Rattle.kept_history.specs.Doing.{Does}
+use Rattle.kept_history.specs.declared.recovery.FinishError.{FinishError}
+use Rattle.kept_history.specs.declared.recovery.FinishError.TheVariants.{DiskFailed, NotMade}
+
+-- Nothing odd is at the path: no directory, no device.
+abbrev pub IsPlain : Held → List ℕ → Type 0
+IsPlain h path = (oddity : Oddity) → StandsOddly h path oddity → ⊥
+
+-- Nothing odd is at the paths of these steps.
+abbrev pub HasNothingOdd : Held → List Change → Type 0
+HasNothingOdd h [] = Unit {0}
+HasNothingOdd h (step ∷ steps) = IsPlain h step.path × HasNothingOdd h steps
+
+-- A step that was not made has a reason.
+abbrev pub HasCause : {T : Type 0} → Option Held → Result T FinishError → (due : List Change) → Type 0
+HasCause held (Ok x) due = Unit {0}
+HasCause held (Err (DiskFailed why)) due = Unit {0}
+HasCause held (Err (NotMade why)) due = (step : ℕ) × Stops held due step why
+
+-- The steps that are due are made, and the new history replaces the old one, or an error ends that
+-- after the first n events.
+abbrev pub Finishes : {T : Type 0} → (held : Option Held) (old new : Option (List Event)) → Result T FinishError → (before after : Entries) → Type 0
+Finishes held old new result before after =
+    (due : List Change)
+    × IfSome held (λ h. HasNothingOdd h (steps_between before after) → due ≡ due_steps before after h.entries)
+    × Does old new result (finishing (steps_between before after) due)
+    × HasCause held result due
+
+-- Each failure that ended a recovery is counted, and there is no other.
+abbrev pub failures_after_finish : {T : Type 0} → ℕ → Result T FinishError → ℕ
+failures_after_finish old (Ok x) = old
+failures_after_finish old (Err (DiskFailed why)) = failures_with old (of_disk why)
+failures_after_finish old (Err (NotMade why)) = failures_with old why

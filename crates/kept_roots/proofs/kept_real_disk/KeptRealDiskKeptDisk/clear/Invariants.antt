@@ -1,0 +1,6 @@
+use Rattle.std.proofs.Common.{◌≡◌}
+use Rattle.kept_roots.proofs.kept_real_disk.KeptRealDiskKeptDisk.clear.Given as goal
+
+-- nothing has failed
+abbrev pub invariant-loop-i : goal.invariant-loop-i
+invariant-loop-i l = l.self.failures ≡ l.fn.self.failures

@@ -1,0 +1,151 @@
+//! A directory that this run has locked.
+
+use crate::error::{DirectoryFault, HistoryError, if_there, refused};
+use real_roots::{GivenTime, Hold, Identity, Patience, Trouble, at, changed, hold_root};
+use std::fs::{File, Metadata};
+use std::os::unix::fs::MetadataExt;
+use std::{env, fs};
+
+/// Only for its owner.
+pub(crate) const DIRECTORY_MODE: u32 = 0o700;
+
+/// The bits of a mode that say who may do what.
+const RIGHTS: u32 = 0o777;
+
+/// A directory by two names.
+#[derive(Clone, Copy)]
+pub(crate) struct Name<'n> {
+    /// In the working directory, or an absolute path.
+    pub opened: &'n str,
+    /// The path that messages have.
+    pub shown: &'n str,
+}
+
+/// A directory, which is locked by flock(2) until it is dropped.
+#[derive(Drop)]
+pub(crate) struct Held<'a> {
+    pub(crate) rt: &'a HostRuntime,
+    /// Its absolute path.
+    pub(crate) path: String,
+    /// The path that messages have.
+    pub(crate) shown: String,
+    /// The time of what is made or changed.
+    pub(crate) time: GivenTime,
+    /// Whose directory it is.
+    pub(crate) owner: u32,
+    identity: Identity,
+    /// Kept open for its lock.
+    lock: File,
+}
+
+/// Refuses anything but a directory of mode 700.
+fn check_directory(rt: &HostRuntime, shown: &str, found: &Metadata) -> Result<(), HistoryError> {
+    if found.is_symlink() {
+        return Err(refused(rt.alloc(), shown, DirectoryFault::Link));
+    }
+    if !found.is_dir() {
+        return Err(refused(rt.alloc(), shown, DirectoryFault::NoDirectory));
+    }
+    if found.mode() & RIGHTS != DIRECTORY_MODE {
+        return Err(refused(rt.alloc(), shown, DirectoryFault::Mode));
+    }
+    Ok(())
+}
+
+fn hold(
+    rt: &HostRuntime,
+    shown: &str,
+    lock: &File,
+    hold: Hold,
+    patience: Patience,
+) -> Result<(), HistoryError> {
+    match hold_root(rt, shown, lock, hold, patience) {
+        Ok(()) => Ok(()),
+        Err(Trouble::Busy) => Err(HistoryError::Busy),
+        Err(trouble) => Err(HistoryError::Trouble(trouble)),
+    }
+}
+
+impl<'a> Held<'a> {
+    /// Locks a directory. If it doesn't exist, the result is `None`.
+    pub fn take(
+        rt: &'a HostRuntime,
+        name: Name<'_>,
+        kind: Hold,
+        patience: Patience,
+    ) -> Result<Option<Held<'a>>, HistoryError> {
+        let (alloc, shown) = (rt.alloc(), name.shown);
+        let Some(found) = at(
+            alloc,
+            shown,
+            if_there(fs::symlink_metadata(rt, name.opened)),
+        )?
+        else {
+            return Ok(None);
+        };
+        check_directory(rt, shown, &found)?;
+        let path = at(alloc, shown, fs::canonicalize(rt, name.opened))?.into_string();
+        let lock = at(alloc, shown, File::open(rt, &path))?;
+        let opened = at(alloc, shown, lock.metadata())?;
+        if Identity::of(&opened) != Identity::of(&found) {
+            return Err(HistoryError::Trouble(changed(alloc, shown)));
+        }
+        hold(rt, shown, &lock, kind, patience)?;
+        Ok(Some(Held {
+            rt,
+            path,
+            shown: String::from_str(alloc, shown)?,
+            time: GivenTime::of_environment(rt)?,
+            owner: found.uid(),
+            identity: Identity::of(&found),
+            lock,
+        }))
+    }
+
+    /// Makes it the working directory.
+    pub fn enter(&self) -> Result<(), Trouble> {
+        let (alloc, shown) = (self.rt.alloc(), self.shown.as_str());
+        at(alloc, shown, env::set_current_dir(self.rt, &self.path))?;
+        if Identity::here(self.rt, shown)? == self.identity {
+            Ok(())
+        } else {
+            Err(changed(alloc, shown))
+        }
+    }
+
+    /// Gives it the time that the environment gives, if it does.
+    pub fn set_time(&self) -> Result<(), Trouble> {
+        at(self.rt.alloc(), &self.shown, self.time.set_on(&self.lock))
+    }
+
+    /// Syncs it, after giving it its time.
+    pub fn sync(&self) -> Result<(), Trouble> {
+        self.enter()?;
+        self.set_time()?;
+        at(self.rt.alloc(), &self.shown, self.lock.sync_all())
+    }
+
+    /// The path of a file in it, for messages.
+    pub fn shown_path(&self, name: &str) -> Result<String, Trouble> {
+        let shown = self.shown.as_str();
+        Ok(format!(in self.rt.alloc(); "{shown}/{name}")?)
+    }
+}
+
+/// Syncs the directory that contains a path, after giving it its time.
+pub(crate) fn sync_above(rt: &HostRuntime, name: Name<'_>, time: GivenTime) -> Result<(), Trouble> {
+    let (alloc, shown) = (rt.alloc(), name.shown);
+    let (above, _name) = split_name(name.opened);
+    let directory = at(alloc, shown, File::open(rt, above))?;
+    at(alloc, shown, time.set_on(&directory))?;
+    at(alloc, shown, directory.sync_all())
+}
+
+/// The directory that contains a path, and the name in it.
+pub(crate) fn split_name(path: &str) -> (&str, &str) {
+    match path.rsplit_once('/') {
+        Some(("", name)) => ("/", name),
+        Some((above, name)) => (above, name),
+        None => (".", path),
+    }
+}

@@ -1,0 +1,157 @@
+//! The files of a history: rename(2), fsync(2).
+
+use crate::error::{HistoryError, if_there};
+use crate::held::Held;
+use crate::leftovers::{NEW, check_owner, clear, create_new};
+use real_roots::{Hold, Identity, Trouble, at, changed};
+use std::fs;
+use std::fs::File;
+use std::io::{Read, Write};
+
+/// At most this number of bytes of a history is read, unless a larger limit is given: 64 MiB.
+pub const MOST_BYTES: u64 = 67_108_864;
+
+pub(crate) const HISTORY: &str = "history";
+
+const NEXT: &str = "history.next";
+
+/// A file of a history.
+#[derive(Clone, Copy, Debug, PartialEq, Eq)]
+pub enum HistoryFile {
+    /// `history`: no run is in progress.
+    Current,
+    /// `history.next`: a run is promised.
+    Next,
+}
+
+impl HistoryFile {
+    fn name(self) -> &'static str {
+        match self {
+            HistoryFile::Current => HISTORY,
+            HistoryFile::Next => NEXT,
+        }
+    }
+}
+
+/// The directory of a history, which this run has locked until it is dropped. Its methods make it
+/// the working directory, so `RealDisk::leave` must be called before the root's disk is used again:
+/// `KeptRealDisk` does that.
+#[derive(Drop)]
+pub struct HistoryDirectory<'a> {
+    pub(crate) held: Held<'a>,
+}
+
+impl<'a> HistoryDirectory<'a> {
+    /// A directory that was just locked. If it is held alone, it must belong to this user, and what
+    /// runs left there that were cut short is removed.
+    pub(crate) fn taken(held: Held<'a>, hold: Hold) -> Result<HistoryDirectory<'a>, HistoryError> {
+        if hold == Hold::Alone {
+            check_owner(&held)?;
+            clear(&held)?;
+        }
+        Ok(HistoryDirectory { held })
+    }
+
+    pub(crate) fn runtime(&self) -> &'a HostRuntime {
+        self.held.rt
+    }
+
+    /// Its absolute path.
+    pub fn path(&self) -> &str {
+        self.held.path.as_str()
+    }
+
+    /// The path that messages have: in the root that from the root on, else as it was given.
+    pub fn shown_path(&self) -> &str {
+        self.held.shown.as_str()
+    }
+
+    /// What a file contains; `None` if there is no such file. No link is followed.
+    ///
+    /// Errors: `TooLarge`: it has over `most` bytes; `NoFile`; the system's own.
+    pub fn read(&self, file: HistoryFile, most: u64) -> Result<Option<Vec<u8>>, HistoryError> {
+        let (rt, alloc, name) = (self.held.rt, self.held.rt.alloc(), file.name());
+        let path = self.held.shown_path(name)?;
+        self.held.enter()?;
+        let Some(found) = at(alloc, &path, if_there(fs::symlink_metadata(rt, name)))? else {
+            return Ok(None);
+        };
+        if !found.is_file() {
+            return Err(HistoryError::NoFile(path));
+        }
+        let opened = at(alloc, &path, File::open(rt, name))?;
+        let metadata = at(alloc, &path, opened.metadata())?;
+        if Identity::of(&metadata) != Identity::of(&found) {
+            return Err(HistoryError::Trouble(changed(alloc, &path)));
+        }
+        let mut bytes = Vec::new(alloc);
+        let limit = most.saturating_add(1);
+        at(alloc, &path, opened.take(limit).read_to_end(&mut bytes))?;
+        if bytes.len() as u64 > most {
+            return Err(HistoryError::TooLarge(path, most));
+        }
+        Ok(Some(bytes))
+    }
+
+    /// Writes a text to `history.new`, and syncs that file.
+    fn write_new(&self, text: &[u8]) -> Result<(), Trouble> {
+        let alloc = self.held.rt.alloc();
+        let path = self.held.shown_path(NEW)?;
+        let mut file = create_new(&self.held)?;
+        at(alloc, &path, file.write_all(text))?;
+        at(alloc, &path, self.held.time.set_on(&file))?;
+        at(alloc, &path, file.sync_all())
+    }
+
+    fn rename(&self, from: &str, to: &str) -> Result<(), Trouble> {
+        self.held.enter()?;
+        let renamed = fs::rename(self.held.rt, from, to);
+        at(self.held.rt.alloc(), &self.held.shown_path(to)?, renamed)
+    }
+
+    /// Writes a text to a new file, and renames that. If it fails, the new file is removed.
+    fn put(&self, text: &[u8], name: &str) -> Result<(), Trouble> {
+        let put = match self.write_new(text) {
+            Ok(()) => self.rename(NEW, name),
+            Err(trouble) => Err(trouble),
+        };
+        if put.is_err() {
+            // (if this fails too, the next run removes it)
+            let _removed = fs::remove_file(self.held.rt, NEW);
+        }
+        put
+    }
+
+    /// Begins a history: `history` appears with this text in one step, and is synced.
+    ///
+    /// Errors: the system's own: nothing has changed; `MayNotLast`.
+    pub fn begin(&self, text: &[u8]) -> Result<(), HistoryError> {
+        self.put(text, HISTORY)?;
+        match self.sync() {
+            Ok(()) => Ok(()),
+            Err(trouble) => Err(HistoryError::MayNotLast(trouble)),
+        }
+    }
+
+    /// Writes a text to `history.next`: either all of it, or the file doesn't exist.
+    pub fn promise(&self, text: &[u8]) -> Result<(), Trouble> {
+        self.put(text, NEXT)
+    }
+
+    /// Renames `history.next` to `history`.
+    pub fn commit(&self) -> Result<(), Trouble> {
+        self.rename(NEXT, HISTORY)
+    }
+
+    /// Removes `history.next`.
+    pub fn withdraw(&self) -> Result<(), Trouble> {
+        self.held.enter()?;
+        let removed = fs::remove_file(self.held.rt, NEXT);
+        at(self.held.rt.alloc(), &self.held.shown_path(NEXT)?, removed)
+    }
+
+    /// Syncs the directory.
+    pub fn sync(&self) -> Result<(), Trouble> {
+        self.held.sync()
+    }
+}

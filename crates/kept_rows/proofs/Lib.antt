@@ -1,0 +1,12 @@
+pub mod Meeting
+pub mod SlotsAlone
+pub mod Leading
+pub mod Refusals
+pub mod LineWords
+pub mod OneWord
+pub mod OtherLines
+pub mod LineKinds
+pub mod LineTexts
+pub mod Appended
+pub mod Redone
+pub mod Written

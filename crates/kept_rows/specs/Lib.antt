@@ -1,0 +1,5 @@
+pub mod Others
+pub mod Lines
+pub mod Kinds
+pub mod Texts
+pub mod Laws

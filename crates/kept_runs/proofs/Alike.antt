@@ -1,0 +1,33 @@
+-- Lists that are alike in what is shown of each element.
+use Rattle.std.proofs.Common.{◌≡◌, ℕ, suc, ◌+◌, ◌<◌, ◌≤◌, List, [], ◌∷◌, ◌++◌, length, take, get_or, map as list_map, refl, sym, ap, ◌∙◌, arith}
+use Rattle.std.proofs.Math.Seq.{take-suc}
+use Rattle.std.proofs.lemmas.List.{take_all}
+
+-- the first elements, with one more
+one_longer : {X : Type 0} (xs : List X) (i : ℕ) (x : X) → x ≡ get_or xs i x → i < length xs → take (i + 1) xs ≡ take i xs ++ x ∷ []
+one_longer xs i x is within = let next : i + 1 ≡ suc i = omega arith in ap (λ n. take n xs) next ∙ take-suc xs i x within ∙ ap (λ y. take i xs ++ y ∷ []) (sym is)
+
+map-push : {X Y : Type 0} (f : X → Y) (xs : List X) (x : X) → list_map f (xs ++ x ∷ []) ≡ list_map f xs ++ f x ∷ []
+map-push f [] x = refl
+map-push f (y ∷ ys) x = ap (λ rest. f y ∷ rest) (map-push f ys x)
+
+pub map_same : {X : Type 0} (xs : List X) → list_map (λ x. x) xs ≡ xs
+map_same [] = refl
+map_same (x ∷ xs) = ap (λ rest. x ∷ rest) (map_same xs)
+
+module _ {X Y Z : Type 0} (f : X → Z) (g : Y → Z) (xs : List X) (ys : List Y) (i : ℕ) where
+  -- The first of them are alike.
+  abbrev pub FirstAlike : Type 0
+  FirstAlike = (length xs ≡ length ys) × (list_map f (take i xs) ≡ list_map g (take i ys))
+
+  pub all_alike : length xs ≤ i → FirstAlike → list_map f xs ≡ list_map g ys
+  all_alike over h =
+      let same : length xs ≡ length ys = h.0 in
+      sym (ap (list_map f) (take_all i xs over)) ∙ h.1 ∙ ap (list_map g) (take_all i ys (omega (arith, over, same)))
+
+  pub one_more_alike : (x : X) (y : Y) → x ≡ get_or xs i x → i < length xs → y ≡ get_or ys i y → f x ≡ g y → list_map f (take i xs) ≡ list_map g (take i ys) → length xs ≡ length ys
+      → list_map f (take (i + 1) xs) ≡ list_map g (take (i + 1) ys)
+  one_more_alike x y is within also same before both =
+      ap (list_map f) (one_longer xs i x is within) ∙ map-push f (take i xs) x
+      ∙ (λ j. before j ++ same j ∷ [])
+      ∙ sym (ap (list_map g) (one_longer ys i y also (omega (arith, within, both))) ∙ map-push g (take i ys) y)

@@ -1,0 +1,11 @@
+mod answers;
+mod contents;
+mod cutting;
+mod failing;
+mod files;
+mod large;
+mod memory_disk;
+mod names;
+mod recovering;
+mod running;
+mod trees;

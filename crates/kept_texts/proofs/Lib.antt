@@ -1,0 +1,9 @@
+mod CallLines
+mod LineReadings
+mod LineSplits
+mod LinesBack
+mod PartBytes
+mod Parts
+mod SumBytes
+mod TextsBack
+mod Times

@@ -1,0 +1,11 @@
+use Rattle.unit_script.proofs.Numbers.{number_ends, number_stops, number_goes}
+use Rattle.kept_texts.proofs.line_words.number_of.Goals as goal
+
+pub returns-in-None : goal.returns-in-None
+returns-in-None c = number_stops _ _ _ c.loop-b.invariant c.loop-b-test.true _ c.with_digit.ensures c.in-None.is
+
+pub loop-b-preserved : goal.loop-b-preserved
+loop-b-preserved c = number_goes _ _ _ c.loop-b.invariant c.loop-b-test.true _ c.with_digit.ensures _ c.in-Some.is
+
+pub returns : goal.returns
+returns c = number_ends _ _ _ c.loop-b.invariant c.loop-b-test.false

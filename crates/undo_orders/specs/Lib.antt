@@ -1,0 +1,2 @@
+pub mod ToUndo
+pub mod Laws
