@@ -1,51 +1,82 @@
 //! The files beneath a root, as entries of trees.
 
+use crate::allowance::Allowance;
+use crate::changing::Made;
 use crate::identity::{Identity, found_under};
-use crate::making::{enter_made, put_under, sync_here};
+use crate::layout::{DIRECTORIES, check_etc, has_own_lib};
+use crate::locking::{Hold, Patience};
+use crate::making::{Kept, Maker};
 use crate::names::{is_for_dependencies, may_go_astray, spot_of, text_of};
 use crate::reading::look_under;
+use crate::reserved::is_reserved;
 use crate::root::{Reached, Root};
-use crate::trouble::{Hindrance, Trouble, at, changed, hindered};
+use crate::trouble::{Hindrance, Trouble, at, hindered};
 use crate::way::Way;
 use disk::{Found, Listing};
-use link_tree::{Change, Entry, PathError, Slot, Target, TreePath, canonical};
+use link_tree::{Entry, PathError, Target, TreePath, canonical};
 use std::alloc::Global;
-use std::collections::{BTreeMap, BTreeSet};
+use std::collections::BTreeMap;
 use std::fs::DirEntry;
 use std::{fs, io};
 
-/// The files beneath a root, and which directories were gone through.
+/// The files beneath a root, which directories were read, and what was changed.
 #[derive(Drop)]
 pub(crate) struct RootFiles<'a> {
-    rt: &'a HostRuntime,
-    root: Root,
-    /// By which path a directory was gone through.
+    pub(crate) rt: &'a HostRuntime,
+    pub(crate) root: Root,
+    pub(crate) allowance: Allowance,
+    /// The path by which each directory was read.
     known: BTreeMap<Identity, String>,
-}
-
-/// A change whose directory could not be written, by its number, and why.
-#[derive(Debug, Drop)]
-pub(crate) struct Unsettled {
-    pub change: usize,
-    pub trouble: Trouble,
+    /// Whether /lib/systemd is another directory than /usr/lib/systemd.
+    has_own_lib: bool,
+    pub(crate) maker: Maker<'a>,
+    /// The directories in which something was changed, by their paths.
+    pub(crate) changed: BTreeMap<String, Identity>,
+    /// The directories that were made, each after the one that contains it.
+    pub(crate) made: Vec<Made>,
+    /// The mode and owner of the entries that were replaced or removed, by their paths.
+    pub(crate) kept: BTreeMap<String, Kept>,
 }
 
 impl<'a> RootFiles<'a> {
-    /// Takes a root for this run alone.
-    pub fn take(rt: &'a HostRuntime, root: &str) -> Result<RootFiles<'a>, Trouble> {
-        let mut root = Root::take(rt, root)?;
-        let lib = identity_of(rt, &mut root, "/lib/systemd")?;
-        if lib.is_some() && lib != identity_of(rt, &mut root, "/usr/lib/systemd")? {
-            return Err(hindered(rt.alloc(), "/lib/systemd", Hindrance::SplitUsr));
-        }
-        Ok(RootFiles {
+    /// Locks a root for this run, which may read this number of MiB of it.
+    pub fn take(
+        rt: &'a HostRuntime,
+        root: &str,
+        hold: Hold,
+        patience: Patience,
+        most: u32,
+    ) -> Result<RootFiles<'a>, Trouble> {
+        let mut root = Root::take(rt, root, hold, patience)?;
+        check_etc(rt, &mut root)?;
+        let mut files = RootFiles {
             rt,
+            has_own_lib: has_own_lib(rt, &mut root)?,
             root,
+            allowance: Allowance::of(most),
             known: BTreeMap::new(rt.alloc()),
-        })
+            maker: Maker::new(rt)?,
+            changed: BTreeMap::new(rt.alloc()),
+            made: Vec::new(rt.alloc()),
+            kept: BTreeMap::new(rt.alloc()),
+        };
+        files.know_all()?;
+        // (another root may become the working directory before this one is read)
+        let _last = files.root.forget("/");
+        Ok(files)
     }
 
-    /// Notes a directory that is gone through. One that is known by another path is reached twice.
+    /// Notes the directories of units and of presets that exist: no two of them are the same.
+    fn know_all(&mut self) -> Result<(), Trouble> {
+        for directory in DIRECTORIES {
+            if let Reached::There(here) = self.root.reach(self.rt, directory)? {
+                self.know(directory, here.identity)?;
+            }
+        }
+        Ok(())
+    }
+
+    /// Notes a directory that is read. It is an error if it was read by another path before.
     fn know(&mut self, path: &str, identity: Identity) -> Result<(), Trouble> {
         if self.is_known_elsewhere(path, identity) {
             return Err(hindered(self.rt.alloc(), path, Hindrance::ReachedTwice));
@@ -55,7 +86,7 @@ impl<'a> RootFiles<'a> {
         Ok(())
     }
 
-    /// Whether a directory was gone through by another path.
+    /// Whether a directory was read by another path before.
     fn is_known_elsewhere(&self, path: &str, identity: Identity) -> bool {
         match self.known.get(&identity) {
             Some(known) => known.as_str() != path,
@@ -63,14 +94,9 @@ impl<'a> RootFiles<'a> {
         }
     }
 
-    /// Whether another directory was gone through by this path.
-    fn was_another(&self, path: &str, identity: Identity) -> bool {
-        !self.known.contains_key(&identity)
-            && self.known.values().any(|known| known.as_str() == path)
-    }
-
-    /// Whether a link stands in place of a directory in which links of dependencies are to stand: inventories have none there.
-    fn is_link_for_dependencies(
+    /// Whether there is a link instead of a directory for links of dependencies: inventories have
+    /// none there.
+    pub(crate) fn is_link_for_dependencies(
         &mut self,
         alloc: Global,
         directory: &TreePath,
@@ -88,7 +114,7 @@ impl<'a> RootFiles<'a> {
         }
     }
 
-    /// The paths of what stands in a directory.
+    /// The paths of what is in a directory.
     pub fn list(&mut self, alloc: Global, directory: &TreePath) -> Result<Listing, Trouble> {
         let text = text_of(alloc, directory.text())?;
         if self.is_link_for_dependencies(alloc, directory)? {
@@ -102,36 +128,51 @@ impl<'a> RootFiles<'a> {
         self.list_here(alloc, text)
     }
 
-    /// The paths of what stands in the working directory.
-    fn list_here(&self, alloc: Global, text: &str) -> Result<Listing, Trouble> {
+    /// The paths of what is in the working directory.
+    fn list_here(&mut self, alloc: Global, text: &str) -> Result<Listing, Trouble> {
         let mut paths = Vec::new(alloc);
         for found in at(alloc, text, fs::read_dir(self.rt, "."))? {
+            self.allowance.take(alloc, text, length_of(text, &found))?;
             push_found(alloc, text, found, &mut paths)?;
         }
         Ok(Listing::Paths(paths))
     }
 
-    /// What stands at a path.
+    /// What is at a path. If the way to it has too many links, that is nothing.
     pub fn look(&mut self, alloc: Global, path: &TreePath) -> Result<Found, Trouble> {
         let text = text_of(alloc, path.text())?;
         let spot = spot_of(alloc, path)?;
-        let Reached::There(here) = self.root.reach(self.rt, spot.directory)? else {
+        let reached = or_nowhere(self.root.reach(self.rt, spot.directory), Reached::Nowhere)?;
+        let Reached::There(here) = reached else {
             return Ok(Found::Nothing);
         };
         if self.is_known_elsewhere(spot.directory, here.identity) {
             return Err(hindered(alloc, text, Hindrance::ReachedTwice));
         }
         let found = look_under(self.rt, text, spot.name)?;
+        self.allowance.take(alloc, text, bytes_of(&found))?;
         if let Found::Entry(Entry::Link(target)) = &found
-            && may_go_astray(target.text(), here.is_straight)
+            && let Some(why) = self.may_be_misread(target, here.is_straight)
             && !self.leads_as_written(alloc, path, target)?
         {
-            return Err(hindered(alloc, text, Hindrance::LeadsAstray));
+            return Err(hindered(alloc, text, why));
         }
         Ok(found)
     }
 
-    /// Whether a link leads to the directory beneath the root to which it leads by its text, through whatever links the way goes.
+    /// Why a link may lead elsewhere than inventories assume.
+    fn may_be_misread(&self, target: &Target, is_straight: bool) -> Option<Hindrance> {
+        if may_go_astray(target.text(), is_straight) {
+            Some(Hindrance::LeadsAstray)
+        } else if self.has_own_lib {
+            Some(Hindrance::LeadsIntoLib)
+        } else {
+            None
+        }
+    }
+
+    /// Whether a link, with all links on the way followed, leads to the directory beneath the root
+    /// to which it leads by its text.
     fn leads_as_written(
         &mut self,
         alloc: Global,
@@ -158,14 +199,14 @@ impl<'a> RootFiles<'a> {
             return Ok(false);
         }
         let really = if target.starts_with('/') {
-            self.root.way(self.rt, above)?
+            or_nowhere(self.root.way(self.rt, above), None)?
         } else {
             self.way_from(alloc, path, above)?
         };
         self.is_way_to(alloc, written, &really)
     }
 
-    /// The way from the directory of a path.
+    /// The way that starts in the directory of a path.
     fn way_from(
         &mut self,
         alloc: Global,
@@ -174,106 +215,56 @@ impl<'a> RootFiles<'a> {
     ) -> Result<Option<Way>, Trouble> {
         let spot = spot_of(alloc, path)?;
         let joined = format!(in alloc; "{}/{rest}", spot.directory)?;
-        self.root.way(self.rt, joined.as_str())
+        or_nowhere(self.root.way(self.rt, joined.as_str()), None)
     }
 
-    /// Whether this is the way to the directory of a path.
+    /// Whether this way leads to the directory of a path, or both lead nowhere.
     fn is_way_to(
         &mut self,
         alloc: Global,
         path: &TreePath,
         way: &Option<Way>,
     ) -> Result<bool, Trouble> {
-        let by_text = self.root.way(self.rt, spot_of(alloc, path)?.directory)?;
+        let directory = spot_of(alloc, path)?.directory;
+        let by_text = or_nowhere(self.root.way(self.rt, directory), None)?;
         Ok(match (&by_text, way) {
             (Some(by_text), Some(really)) => by_text.names == really.names,
+            (None, None) => true,
             _ => false,
         })
     }
+}
 
-    /// Puts an entry at a path.
-    pub fn put(
-        &mut self,
-        path: &TreePath,
-        before: &Option<Entry>,
-        entry: &Entry,
-    ) -> Result<(), Trouble> {
-        let text = text_of(self.rt.alloc(), path.text())?;
-        let spot = spot_of(self.rt.alloc(), path)?;
-        match self.root.reach(self.rt, spot.directory)? {
-            Reached::There(_) => {}
-            Reached::Missing(way) => enter_made(self.rt, &self.root, text, &way)?,
-            Reached::Nowhere => {
-                return Err(hindered(self.rt.alloc(), text, Hindrance::NoDirectory));
-            }
-        }
-        put_under(self.rt, text, spot.name, entry, before.is_none())
-    }
-
-    /// Takes away what stands at a path.
-    pub fn take_away(&mut self, path: &TreePath) -> Result<(), Trouble> {
-        let text = text_of(self.rt.alloc(), path.text())?;
-        let spot = spot_of(self.rt.alloc(), path)?;
-        match self.root.reach(self.rt, spot.directory)? {
-            Reached::There(_) => at(self.rt.alloc(), text, fs::remove_file(self.rt, spot.name)),
-            _ => Err(hindered(self.rt.alloc(), text, Hindrance::NoDirectory)),
-        }
-    }
-
-    /// Writes the directories of changed paths to the disk, each once. The way to each is gone anew: another directory than was gone
-    /// through before has come in its place meanwhile, and what was changed may stand elsewhere.
-    pub fn settle(&mut self, changes: &[Change]) -> Result<(), Unsettled> {
-        let mut settled = BTreeSet::new(self.rt.alloc());
-        self.root.forget();
-        for (number, change) in changes.iter().enumerate() {
-            if let Err(trouble) = self.settle_one(&mut settled, &change.path) {
-                return Err(Unsettled {
-                    change: number,
-                    trouble,
-                });
-            }
-        }
-        Ok(())
-    }
-
-    /// Writes the directory of a path to the disk, unless it was written before.
-    fn settle_one(
-        &mut self,
-        settled: &mut BTreeSet<String>,
-        path: &TreePath,
-    ) -> Result<(), Trouble> {
-        let spot = spot_of(self.rt.alloc(), path)?;
-        if !settled.insert(String::from_str(self.rt.alloc(), spot.directory)?)? {
-            return Ok(());
-        }
-        let Reached::There(here) = self.root.reach(self.rt, spot.directory)? else {
-            return Ok(());
-        };
-        if self.was_another(spot.directory, here.identity) {
-            return Err(changed(self.rt.alloc(), spot.directory));
-        }
-        sync_here(self.rt, spot.directory)?;
-        if Slot::is_of_dependency(path)
-            && let Some(directory) = path.copy()?.into_parent()
-        {
-            self.take_if_empty(&directory)?;
-        }
-        Ok(())
-    }
-
-    /// Takes a directory away, unless something stands in it.
-    fn take_if_empty(&mut self, directory: &TreePath) -> Result<(), Trouble> {
-        let spot = spot_of(self.rt.alloc(), directory)?;
-        if let Reached::There(_) = self.root.reach(self.rt, spot.directory)?
-            && fs::remove_dir(self.rt, spot.name).is_ok()
-        {
-            sync_here(self.rt, spot.directory)?;
-        }
-        Ok(())
+/// The result of walking to where a link leads; a way with too many links leads nowhere.
+fn or_nowhere<T: Drop>(found: Result<T, Trouble>, nowhere: T) -> Result<T, Trouble> {
+    match found {
+        Err(Trouble::At(_, Hindrance::TooManyLinks)) => Ok(nowhere),
+        found => found,
     }
 }
 
-/// Adds the path of what was found in a directory.
+/// How many bytes of a file or of a link's target were found.
+fn bytes_of(found: &Found) -> usize {
+    match found {
+        Found::Nothing | Found::Odd(_) => 0,
+        Found::Entry(Entry::File(contents)) => contents.bytes().len(),
+        Found::Entry(Entry::Link(target)) => target.text().len(),
+    }
+}
+
+/// How many bytes the path of what was found in a directory has.
+fn length_of(directory: &str, found: &io::Result<DirEntry>) -> usize {
+    match found {
+        Ok(entry) => directory
+            .len()
+            .saturating_add(1)
+            .saturating_add(entry.file_name().len()),
+        Err(_) => 0,
+    }
+}
+
+/// Adds the path of a name that was found in a directory, unless the name is reserved for
+/// unitroot's new files.
 fn push_found(
     alloc: Global,
     directory: &str,
@@ -281,6 +272,7 @@ fn push_found(
     paths: &mut Vec<TreePath>,
 ) -> Result<(), Trouble> {
     match found {
+        Ok(entry) if is_reserved(entry.file_name().as_bytes()) => Ok(()),
         Ok(entry) => push_named(alloc, directory, entry.file_name(), paths),
         // (a name that isn't UTF-8 gives no path)
         Err(e) if e.kind() == io::ErrorKind::InvalidFilename => Ok(()),
@@ -300,17 +292,5 @@ fn push_named(
         Ok(path) => Ok(paths.push(path)?),
         Err(PathError::BadPath) => Ok(()),
         Err(PathError::OutOfMemory) => Err(Trouble::OutOfMemory),
-    }
-}
-
-/// Which directory it is, if it is there.
-fn identity_of(
-    rt: &HostRuntime,
-    root: &mut Root,
-    directory: &str,
-) -> Result<Option<Identity>, Trouble> {
-    match root.reach(rt, directory)? {
-        Reached::There(here) => Ok(Some(here.identity)),
-        _ => Ok(None),
     }
 }

@@ -1,0 +1,295 @@
+//! Changes beneath a root.
+
+use crate::identity::{Identity, found_under};
+use crate::making::{Kept, sync_here};
+use crate::names::{is_for_dependencies, spot_of, text_of};
+use crate::root::Reached;
+use crate::root_files::RootFiles;
+use crate::trouble::{Hindrance, Trouble, at, changed, hindered};
+use crate::way::{Way, enter_name};
+use link_tree::{Entry, PathError, TreePath};
+use std::alloc::Global;
+use std::collections::BTreeMap;
+use std::{fs, io, mem};
+
+/// A directory that was made, as the names on the way to it, none of which is a link.
+#[derive(Debug, Drop)]
+pub(crate) struct Made {
+    names: Vec<String>,
+    identity: Identity,
+}
+
+/// The first error among several results.
+fn first_of(one: Result<(), Trouble>, other: Result<(), Trouble>) -> Result<(), Trouble> {
+    match one {
+        Ok(()) => other,
+        Err(trouble) => Err(trouble),
+    }
+}
+
+fn path_of(alloc: Global, text: &str) -> Result<Option<TreePath>, Trouble> {
+    match TreePath::parse(alloc, text.as_bytes()) {
+        Ok(path) => Ok(Some(path)),
+        Err(PathError::BadPath) => Ok(None),
+        Err(PathError::OutOfMemory) => Err(Trouble::OutOfMemory),
+    }
+}
+
+impl<'a> RootFiles<'a> {
+    /// Puts an entry at a path.
+    pub fn put(
+        &mut self,
+        path: &TreePath,
+        before: &Option<Entry>,
+        entry: &Entry,
+    ) -> Result<(), Trouble> {
+        let text = text_of(self.rt.alloc(), path.text())?;
+        let spot = spot_of(self.rt.alloc(), path)?;
+        self.enter_to_change(text, spot.directory, before.is_none())?;
+        let kept = self.kept_of(text, spot.name, before.is_some())?;
+        self.maker
+            .put_under(text, &spot, entry, before.is_none(), kept)
+    }
+
+    /// Removes the entry at a path.
+    pub fn take_away(&mut self, path: &TreePath) -> Result<(), Trouble> {
+        let text = text_of(self.rt.alloc(), path.text())?;
+        let spot = spot_of(self.rt.alloc(), path)?;
+        self.enter_to_change(text, spot.directory, false)?;
+        let _kept = self.kept_of(text, spot.name, true)?;
+        at(self.rt.alloc(), text, fs::remove_file(self.rt, spot.name))
+    }
+
+    /// The mode and the owner for an entry that is put at this path: those of the first entry that
+    /// was replaced or removed there.
+    fn kept_of(&mut self, path: &str, name: &str, is_there: bool) -> Result<Option<Kept>, Trouble> {
+        if let Some(kept) = self.kept.get(path) {
+            return Ok(Some(*kept));
+        }
+        if !is_there {
+            return Ok(None);
+        }
+        let Some(found) = found_under(self.rt, path, name)? else {
+            return Err(changed(self.rt.alloc(), path));
+        };
+        let kept = Kept::of(&found);
+        let path = String::from_str(self.rt.alloc(), path)?;
+        let _before = self.kept.insert(path, kept)?;
+        Ok(Some(kept))
+    }
+
+    /// Changes to the directory of a change, and makes it if it doesn't exist. Before the first
+    /// change in it the way to it is walked again: it must lead to the directory that was read
+    /// before.
+    fn enter_to_change(
+        &mut self,
+        path: &str,
+        directory: &str,
+        may_make: bool,
+    ) -> Result<(), Trouble> {
+        let known = self.changed.get(directory).copied();
+        let seen = match known {
+            Some(identity) => Some(identity),
+            None => self.seen_before(directory)?,
+        };
+        match self.root.reach(self.rt, directory)? {
+            Reached::There(here) => match seen {
+                Some(seen) if seen != here.identity => Err(changed(self.rt.alloc(), directory)),
+                _ if known.is_some() => Ok(()),
+                _ => self.begin_changes(directory, here.identity),
+            },
+            Reached::Missing(way) if may_make && seen.is_none() => {
+                self.enter_made(path, directory, &way)
+            }
+            Reached::Missing(_) => Err(changed(self.rt.alloc(), directory)),
+            Reached::Nowhere => Err(hindered(self.rt.alloc(), path, Hindrance::NoDirectory)),
+        }
+    }
+
+    /// Returns which directory was reached by this path before the first change in it. The next
+    /// time the way to it is walked again.
+    fn seen_before(&mut self, directory: &str) -> Result<Option<Identity>, Trouble> {
+        let seen = self.root.forget(directory);
+        self.refuse_linked(directory)?;
+        Ok(seen)
+    }
+
+    /// The first change in a directory, which is the working directory.
+    fn begin_changes(&mut self, directory: &str, identity: Identity) -> Result<(), Trouble> {
+        self.maker.clear_leftovers(directory)?;
+        self.note_changed(directory, identity)
+    }
+
+    fn note_changed(&mut self, directory: &str, identity: Identity) -> Result<(), Trouble> {
+        let directory = String::from_str(self.rt.alloc(), directory)?;
+        let _before = self.changed.insert(directory, identity)?;
+        Ok(())
+    }
+
+    /// Refuses to change anything through a link that is there instead of a directory for
+    /// dependencies.
+    fn refuse_linked(&mut self, directory: &str) -> Result<(), Trouble> {
+        let alloc = self.rt.alloc();
+        if let Some(path) = path_of(alloc, directory)?
+            && self.is_link_for_dependencies(alloc, &path)?
+        {
+            return Err(hindered(alloc, directory, Hindrance::NoDirectory));
+        }
+        Ok(())
+    }
+
+    /// Changes to a directory, and makes its missing parts with mode 755.
+    pub(crate) fn enter_made(
+        &mut self,
+        path: &str,
+        directory: &str,
+        way: &Way,
+    ) -> Result<(), Trouble> {
+        let alloc = self.rt.alloc();
+        self.root.enter(self.rt)?;
+        for (depth, name) in way.names.iter().enumerate() {
+            if depth == way.there {
+                self.maker.clear_leftovers(path)?;
+            }
+            if depth >= way.there {
+                let identity = self.maker.make_directory(path, name.as_str())?;
+                self.made.push(Made {
+                    names: copies(alloc, &way.names[..depth + 1])?,
+                    identity,
+                })?;
+                self.maker.sync_changed(path)?;
+            }
+            enter_name(self.rt, path, name.as_str())?;
+        }
+        let identity = Identity::here(self.rt, path)?;
+        self.note_changed(directory, identity)
+    }
+
+    /// Writes the directories in which something was changed to the disk, each once, and removes
+    /// those for dependencies that are empty now. The way to each is walked again: if it leads to
+    /// another directory than before, what was changed may be elsewhere.
+    /// Error: the first; the other directories are still written.
+    pub fn settle(&mut self) -> Result<(), Trouble> {
+        let alloc = self.rt.alloc();
+        let _last = self.root.forget("/");
+        let directories = mem::replace(&mut self.changed, BTreeMap::new(alloc));
+        let mut settled = Ok(());
+        for (directory, identity) in &directories {
+            let one = self.settle_one(directory.as_str(), *identity);
+            settled = first_of(settled, one);
+        }
+        first_of(settled, self.clear_left())
+    }
+
+    fn settle_one(&mut self, directory: &str, identity: Identity) -> Result<(), Trouble> {
+        let alloc = self.rt.alloc();
+        match self.root.reach(self.rt, directory)? {
+            Reached::There(here) if here.identity == identity => {}
+            _ => return Err(changed(alloc, directory)),
+        }
+        self.maker.sync_changed(directory)?;
+        match path_of(alloc, directory)? {
+            Some(path) if is_for_dependencies(alloc, &path)? => self.remove_if_empty(&path),
+            _ => Ok(()),
+        }
+    }
+
+    /// Removes a directory, unless something is in it.
+    fn remove_if_empty(&mut self, directory: &TreePath) -> Result<(), Trouble> {
+        let spot = spot_of(self.rt.alloc(), directory)?;
+        let Reached::There(_) = self.root.reach(self.rt, spot.directory)? else {
+            return Err(changed(self.rt.alloc(), spot.directory));
+        };
+        let text = text_of(self.rt.alloc(), directory.text())?;
+        self.remove_directory_here(text, spot.directory, spot.name)
+    }
+
+    /// Removes a directory of the working directory, unless something is in it.
+    fn remove_directory_here(&self, path: &str, above: &str, name: &str) -> Result<(), Trouble> {
+        match fs::remove_dir(self.rt, name) {
+            Ok(()) => self.maker.sync_changed(above),
+            Err(e) if is_kept_or_gone(e.kind()) => Ok(()),
+            Err(e) => at(self.rt.alloc(), path, Err(e)),
+        }
+    }
+
+    /// After all changes were reversed: removes the directories that were made, unless something is
+    /// in them, and writes those in which something was changed to the disk.
+    ///
+    /// Error: the first; the rest is still done.
+    pub fn settle_back(&mut self) -> Result<(), Trouble> {
+        let alloc = self.rt.alloc();
+        let mut settled = self.clear_left();
+        let made = mem::replace(&mut self.made, Vec::new(alloc));
+        for directory in made.iter().rev() {
+            let _last = self.root.forget("/");
+            let one = self.remove_made(directory);
+            settled = first_of(settled, one);
+        }
+        let _last = self.root.forget("/");
+        let directories = mem::replace(&mut self.changed, BTreeMap::new(alloc));
+        for (directory, identity) in &directories {
+            let one = self.settle_back_one(directory.as_str(), *identity);
+            settled = first_of(settled, one);
+        }
+        settled
+    }
+
+    /// Removes a directory that was made, if it is still in its place.
+    fn remove_made(&self, made: &Made) -> Result<(), Trouble> {
+        let Some((name, above)) = made.names.split_last() else {
+            return Ok(());
+        };
+        self.root.enter(self.rt)?;
+        for name in above {
+            enter_name(self.rt, name.as_str(), name.as_str())?;
+        }
+        match found_under(self.rt, name.as_str(), name.as_str())? {
+            Some(found) if Identity::of(&found) == made.identity => {
+                self.remove_directory_here(name.as_str(), name.as_str(), name.as_str())
+            }
+            _ => Ok(()),
+        }
+    }
+
+    /// Writes a directory to the disk, unless it was removed.
+    fn settle_back_one(&mut self, directory: &str, identity: Identity) -> Result<(), Trouble> {
+        match self.root.reach(self.rt, directory)? {
+            Reached::There(here) if here.identity == identity => sync_here(self.rt, directory),
+            Reached::There(_) => Err(changed(self.rt.alloc(), directory)),
+            Reached::Missing(_) | Reached::Nowhere => Ok(()),
+        }
+    }
+
+    /// Removes what is left under the name for new things because it could not be removed before.
+    fn clear_left(&mut self) -> Result<(), Trouble> {
+        let mut cleared = Ok(());
+        let left = self.maker.take_left();
+        for directory in &left {
+            let one = self.clear_left_in(directory.as_str());
+            cleared = first_of(cleared, one);
+        }
+        cleared
+    }
+
+    fn clear_left_in(&mut self, directory: &str) -> Result<(), Trouble> {
+        match self.root.reach(self.rt, directory)? {
+            Reached::There(_) => self.maker.clear_again(directory),
+            Reached::Missing(_) | Reached::Nowhere => Ok(()),
+        }
+    }
+}
+
+fn is_kept_or_gone(kind: io::ErrorKind) -> bool {
+    kind == io::ErrorKind::DirectoryNotEmpty
+        || kind == io::ErrorKind::AlreadyExists
+        || kind == io::ErrorKind::NotFound
+}
+
+fn copies(alloc: Global, names: &[String]) -> Result<Vec<String>, Trouble> {
+    let mut copies = Vec::new(alloc);
+    for name in names {
+        copies.push(name.clone()?)?;
+    }
+    Ok(copies)
+}

@@ -1,0 +1,5 @@
+pub mod Objects
+pub mod Changes
+pub mod Answers
+pub mod Rows
+pub mod Lines

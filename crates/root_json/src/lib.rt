@@ -1,0 +1,19 @@
+//! Rows, changes and answers as JSON, one object a line.
+#![tactic(auto)]
+
+mod answers;
+mod changes;
+mod lines;
+mod notices;
+mod objects;
+mod refusals;
+mod rows;
+mod texts;
+mod units;
+
+pub use lines::{
+    ErrorPlace, Summary, push_change, push_error, push_row, push_state, push_summary, push_unit,
+    push_unit_file,
+};
+pub use rows::CallPlace;
+pub use units::{push_unit_status, push_warning};

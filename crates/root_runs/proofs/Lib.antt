@@ -1,0 +1,2 @@
+mod FirstPlaces
+mod Slashes

@@ -1,0 +1,11 @@
+pub mod BadLines
+pub mod BadWords
+pub mod Escapes
+pub mod Messages
+pub mod Names
+pub mod Operators
+pub mod Plans
+pub mod Reports
+pub mod Roots
+pub mod Script
+pub mod Statuses

@@ -1,0 +1,6 @@
+//! Tests of `root_runs`.
+
+mod lines;
+mod names;
+mod runs;
+mod scripts;

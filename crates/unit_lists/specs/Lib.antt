@@ -1,0 +1,11 @@
+pub mod Order
+pub mod UnitFiles
+pub mod Listing
+pub mod UnitLines
+pub mod Selecting
+pub mod Tables
+pub mod Modes
+pub mod Chosen
+pub mod Statuses
+pub mod StatusTexts
+pub mod Laws
