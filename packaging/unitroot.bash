@@ -34,6 +34,10 @@ _unitroot() {
       _filedir -d
       return
       ;;
+    --unit)
+      mapfile -t COMPREPLY < <(compgen -W "$(_unitroot_units "--root=$root")" -- "$cur")
+      return
+      ;;
     --rows) values='history run' ;;
     --preset-mode) values='full enable-only disable-only' ;;
     --type | -t)
@@ -65,7 +69,7 @@ _unitroot() {
       COMPREPLY=("${COMPREPLY[@]#"$root"}")
       compopt -o filenames -o nospace
       ;;
-    capture | preset-all | get-default | keep | undo | redo | recover | forget) ;;
+    capture | preset-all | get-default | keep | log | show | undo | redo | recover | forget) ;;
     *) mapfile -t COMPREPLY < <(compgen -W "$(_unitroot_units "--root=$root")" -- "$cur") ;;
   esac
 }

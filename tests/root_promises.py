@@ -86,13 +86,13 @@ class Traced:
         self.tracer, self.log = '%s/fail_call' % room, '%s/calls' % room
         subprocess.run(['cc', '-O1', '-o', self.tracer, '%s/../tools/fail_call.c' % HERE], check=True)
 
-    def started(self, unitroot, root, number, how, given, under=()):
+    def started(self, unitroot, root, number, how, given, under=(), more=()):
         """A run whose call of this number is disturbed, in its middle."""
         with open(self.log, 'w') as log:
             os.fchmod(log.fileno(), 0o666)
         env = {**os.environ, 'ASAN_OPTIONS': 'detect_leaks=0'}
         words = [*under, self.tracer, root, str(number), how, self.log, unitroot.path,
-                 '--root=%s' % root, 'run']
+                 '--root=%s' % root, *more, 'run']
         running = subprocess.Popen(words, stdin=subprocess.PIPE, stdout=subprocess.PIPE,
                                    stderr=subprocess.PIPE, env=env)
         running.stdin.write(given.encode())
@@ -105,16 +105,16 @@ class Traced:
         with open(self.log, errors='surrogateescape') as lines:
             return [line.rstrip('\n').split('\t') for line in lines]
 
-    def run(self, unitroot, root, number, how, given, under=()):
-        with self.started(unitroot, root, number, how, given, under) as running:
+    def run(self, unitroot, root, number, how, given, under=(), more=()):
+        with self.started(unitroot, root, number, how, given, under, more) as running:
             said = running.communicate(timeout=300)[1]
         return (running.returncode, said.decode(errors='replace')), self.calls()
 
-    def number_of(self, unitroot, root, given, is_wanted):
+    def number_of(self, unitroot, root, given, is_wanted, more=()):
         """The number of the first call that is wanted, in a run on a copy of the root."""
         copy = root + '-copy'
         shutil.copytree(root, copy, symlinks=True)
-        _, calls = self.run(unitroot, copy, 0, '-', given)
+        _, calls = self.run(unitroot, copy, 0, '-', given, more=more)
         shutil.rmtree(copy)
         for number, name, _, here, one, two, _ in calls:
             if is_wanted(name, here[len(copy):], one, two):

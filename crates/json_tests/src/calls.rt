@@ -114,9 +114,21 @@ fn push_all(out: &mut Vec<u8>, rows: &[HistoryRow<Action>]) -> Result<(), AllocE
     Ok(())
 }
 
-fn begun(alloc: Global) -> Result<Box<History<Action>>, AllocError> {
+pub(crate) fn begun(alloc: Global) -> Result<Box<History<Action>>, AllocError> {
     let history = History::new(alloc, Box::into_inner(tree(alloc, TREE)?))?;
     Ok(Box::new(alloc, history)?)
+}
+
+/// Makes the calls of lines.
+pub(crate) fn make_all(
+    alloc: Global,
+    history: &mut History<Action>,
+    script: &[u8],
+) -> Result<(), AllocError> {
+    for line in script.split(|b| *b == b'\n') {
+        make(alloc, history, line)?;
+    }
+    Ok(())
 }
 
 /// Makes the calls of lines, and adds the lines of all rows.
@@ -126,9 +138,7 @@ fn push_made(
     script: &[u8],
     out: &mut Vec<u8>,
 ) -> Result<(), AllocError> {
-    for line in script.split(|b| *b == b'\n') {
-        make(alloc, history, line)?;
-    }
+    make_all(alloc, history, script)?;
     let rows = history.rows();
     if rows.len() <= MAX_ROWS {
         push_all(out, rows)?;

@@ -6,6 +6,8 @@ mod calls;
 #[cfg(test)]
 mod lines;
 #[cfg(test)]
+mod logs;
+#[cfg(test)]
 mod refusals;
 #[cfg(test)]
 mod replies;

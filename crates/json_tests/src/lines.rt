@@ -4,7 +4,7 @@ use crate::refusals::is;
 use footprint::StateWord;
 use link_tree::{Change, Entry};
 use root_json::{
-    ErrorPlace, Summary, push_change, push_error, push_state, push_summary, push_unit,
+    ErrorPlace, Summary, push_change, push_error, push_maker, push_state, push_summary, push_unit,
     push_unit_file, push_unit_status, push_warning,
 };
 use sample_rows::{Row, unlike};
@@ -70,6 +70,10 @@ const ROWS: &[u8] = b"\
     status\td.service\t\t\
         {\"links\":[],\"load\":\"loaded\",\"path\":\"/usr/lib/systemd/system/d.service\",\
         \"preset\":null,\"runtime_links\":[],\"state\":\"static\",\"unit\":\"d.service\"}\\n\n\
+    # Row 4294967295 of anna made what is at a path.\n\
+    maker\ta.service\t/etc/systemd/system/a.service\t\
+        {\"made_by\":4294967295,\"operator\":\"anna\",\
+        \"path\":\"/etc/systemd/system/a.service\",\"unit\":\"a.service\"}\\n\n\
     plain error\tno root\t\t{\"error\":\"no root\",\"status\":1}\\n\n\
     ";
 
@@ -205,6 +209,10 @@ fn push_asked(out: &mut Vec<u8>, alloc: Global, row: &Row) -> Result<(), AllocEr
     }
     if is(&row.kind, b"status") {
         return push_known(out, alloc, &row.one);
+    }
+    if is(&row.kind, b"maker") {
+        let path = path(alloc, &row.two)?;
+        return push_maker(out, &name(alloc, &row.one)?, &path, 4294967295, b"anna");
     }
     push_fault(out, row)
 }

@@ -1,5 +1,5 @@
 -- All that is printed is data without floats that nest at most 5 deep.
-use Rattle.std.proofs.Common.{ℕ, Bool, List, [], ◌∷◌, length, Option, Some, None, option_map, arith}
+use Rattle.std.proofs.Common.{ℕ, Bool, true, List, [], ◌∷◌, length, Option, Some, None, option_map, arith}
 use Rattle.std.specs.FinMap as finite
 use Rattle.link_tree.specs.declared.entry.Entry.{Entry}
 use Rattle.link_tree.specs.declared.entry.Entry.TheVariants.{File, Link}
@@ -21,15 +21,19 @@ use Rattle.history.specs.declared.row.Row.{Row}
 use Rattle.history.specs.declared.row.RowReply.{RowReply}
 use Rattle.history.specs.declared.row.RowReply.TheVariants.{Answered, Undid, UndoRefused, Redid, RedoRefused}
 use Rattle.unit_script.specs.declared.action.Action.{Action}
+use Rattle.footprint.specs.declared.key.Key.{Key}
+use Rattle.footprint.specs.declared.key.Key.TheVariants.{Cell, Marked, Presets, Links}
+use Rattle.footprint.specs.declared.reading.Observation.{Observation}
 use Rattle.unit_script.specs.Texts.{state_text, is_success, number_asked, shown_changes}
 use Rattle.unit_lists.specs.declared.status.UnitStatus.{UnitStatus}
 use Rattle.unit_lists.specs.StatusTexts.{loaded_word, loaded_path}
 use Rattle.unit_lists.specs.UnitLines.{preset_text}
 use Rattle.serde_json.specs.Data.{Data, Members, no_members}
-use Rattle.root_json.specs.Objects.{◌with◌being◌}
+use Rattle.root_json.specs.Objects.{◌with◌being◌, count}
 use Rattle.root_json.specs.Changes.{with_entry, entry_data, side_data, sides_data, change_data, changes_data}
 use Rattle.root_json.specs.Answers.{notice_data, notices_data, with_subject, kind, of_unit, of_path, refusal_members, of_row, by_row, undo_refusal_members, redo_refusal_members, with_reply_word, with_state, with_refusal, with_answer, with_row_of, with_reply}
 use Rattle.root_json.specs.Rows.{with_line, with_words, call_members, row_data}
+use Rattle.root_json.specs.Logs.{with_run, row_or_null, with_changes, log_members, log_data, scope_text, key_members, key_data, keys_data, numbers_data, refusal_or_null, shown_members, shown_data}
 use Rattle.root_json.specs.Lines.{summary_data, word_data, unit_file_data, unit_members, unit_data, state_data, with_word, error_data, path_data, status_data, warning_data}
 use Rattle.root_json.proofs.Plain.{IsPlain, ArePlain, none_plain, member_plain, object_plain, null_plain, boolean_plain, count_plain, string_plain, text_plain, array_plain, texts_plain}
 
@@ -218,3 +222,51 @@ status_plain status =
 
 pub warning_plain : (name warning : List ℕ) → IsPlain 5 (warning_data name warning)
 warning_plain name warning = object_plain 4 5 _ (omega arith) (last 4 _ _ _ (text_plain 3 warning) (named_plain name))
+
+run_plain : (ms : Members) (time login program : List ℕ) → ArePlain 4 ms → ArePlain 4 (with_run ms time login program)
+run_plain ms time login program those =
+    last 4 _ _ _ (text_plain 3 program) (last 4 _ _ _ (text_plain 3 login) (last 4 _ _ _ (text_plain 3 time) those))
+
+row_or_null_plain : (row : Option ℕ) → IsPlain 4 (row_or_null row)
+row_or_null_plain None = null_plain 4
+row_or_null_plain (Some n) = count_plain 4 n
+
+with_changes_plain : (ms : Members) (all : List (Row Action)) (row : Row Action) → ArePlain 4 ms → ArePlain 4 (with_changes ms all row)
+with_changes_plain ms all row those =
+    last 4 _ _ _ (row_or_null_plain row.undone_by) (last 4 _ _ _ (changes_plain (shown_changes all row.reply row.changes)) those)
+
+log_members_plain : (time login program : List ℕ) (words : List (List ℕ)) (all : List (Row Action)) (number : ℕ) (row : Row Action) → ArePlain 4 (log_members time login program words all number row)
+log_members_plain time login program words all number row =
+    with_changes_plain _ all row (run_plain _ time login program
+    (reply_plain _ (number_asked row.request) row.reply (call_plain true None words number row.operator)))
+
+pub log_plain : (time login program : List ℕ) (words : List (List ℕ)) (all : List (Row Action)) (number : ℕ) (row : Row Action) → IsPlain 5 (log_data time login program words all number row)
+log_plain time login program words all number row =
+    object_plain 4 5 _ (omega arith) (log_members_plain time login program words all number row)
+
+key_of_plain : (key : Key) → ArePlain 1 (key_members key)
+key_of_plain (Cell path) = path_plain _ path
+key_of_plain (Marked scope name) = last 1 _ _ _ (string_plain 1 (scope_text scope)) (unit_plain _ name)
+key_of_plain Presets = kind_plain _
+key_of_plain Links = kind_plain _
+
+key_plain : (observation : Observation) → IsPlain 2 (key_data observation)
+key_plain observation = object_plain 1 2 _ (omega arith) (key_of_plain observation.key)
+
+keys_plain : (reading : List Observation) → IsPlain 4 (keys_data reading)
+keys_plain reading = array_plain 2 4 key_data reading (omega arith) key_plain
+
+numbers_plain : (numbers : List ℕ) → IsPlain 4 (numbers_data numbers)
+numbers_plain numbers = array_plain 1 4 count numbers (omega arith) (count_plain 1)
+
+refusal_or_null_plain : (n : ℕ) (refusal : Option UndoRefusal) → IsPlain 4 (refusal_or_null n refusal)
+refusal_or_null_plain n None = null_plain 4
+refusal_or_null_plain n (Some refusal) = object_plain 1 4 _ (omega arith) (undo_plain n refusal)
+
+shown_members_plain : (ms : Members) (number : ℕ) (row : Row Action) (undo : List ℕ) (refusal : Option UndoRefusal) → ArePlain 4 ms → ArePlain 4 (shown_members ms number row undo refusal)
+shown_members_plain ms number row undo refusal those =
+    last 4 _ _ _ (refusal_or_null_plain number refusal) (last 4 _ _ _ (numbers_plain undo) (last 4 _ _ _ (keys_plain row.reading) those))
+
+pub shown_plain : (time login program : List ℕ) (words : List (List ℕ)) (all : List (Row Action)) (number : ℕ) (row : Row Action) (undo : List ℕ) (refusal : Option UndoRefusal) → IsPlain 5 (shown_data time login program words all number row undo refusal)
+shown_plain time login program words all number row undo refusal =
+    object_plain 4 5 _ (omega arith) (shown_members_plain _ number row undo refusal (log_members_plain time login program words all number row))

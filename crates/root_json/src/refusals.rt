@@ -11,7 +11,7 @@ use history::{RedoRefusal, UndoRefusal};
 use std::alloc::{AllocError, Global};
 
 /// An object of a kind, which has no other members.
-fn kind(alloc: Global, word: &str) -> Result<Object, AllocError>
+pub(crate) fn kind(alloc: Global, word: &str) -> Result<Object, AllocError>
     ensures { IfOk result (λ object. members_view object.entries ≡ kind word.now) }
 {
     let mut object = Object::new(alloc);
@@ -19,7 +19,7 @@ fn kind(alloc: Global, word: &str) -> Result<Object, AllocError>
     Ok(object)
 }
 
-fn of_unit(alloc: Global, word: &str, name: &[u8]) -> Result<Object, AllocError>
+pub(crate) fn of_unit(alloc: Global, word: &str, name: &[u8]) -> Result<Object, AllocError>
     ensures { IfOk result (λ object. members_view object.entries ≡ of_unit word.now name.now) }
 {
     let mut object = kind(alloc, word)?;
@@ -27,7 +27,7 @@ fn of_unit(alloc: Global, word: &str, name: &[u8]) -> Result<Object, AllocError>
     Ok(object)
 }
 
-fn of_path(alloc: Global, word: &str, path: &[u8]) -> Result<Object, AllocError>
+pub(crate) fn of_path(alloc: Global, word: &str, path: &[u8]) -> Result<Object, AllocError>
     ensures { IfOk result (λ object. members_view object.entries ≡ of_path word.now path.now) }
 {
     let mut object = kind(alloc, word)?;

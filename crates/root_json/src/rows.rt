@@ -50,7 +50,7 @@ fn put_words(alloc: Global, object: &mut Object, words: &[&[u8]]) -> Result<(), 
 }
 
 /// Whose call it is, and where it is written.
-fn call_object(
+pub(crate) fn call_object(
     alloc: Global,
     place: &CallPlace<'_>,
     number: u32,
@@ -69,7 +69,11 @@ fn call_object(
 
 /// What a row changed. An accepted undo has the changes of the row that it names turned round, and an
 /// accepted redo has them as they are.
-fn shown_value(alloc: Global, rows: &[Row<Action>], row: &Row<Action>) -> Result<Value, AllocError>
+pub(crate) fn shown_value(
+    alloc: Global,
+    rows: &[Row<Action>],
+    row: &Row<Action>,
+) -> Result<Value, AllocError>
     ensures { IfOk result (λ value. view value ≡ changes_data (shown_changes rows.now row.now.reply row.now.changes)) }
 {
     match &row.reply {

@@ -3,10 +3,10 @@ ghost use Rattle.std.specs.Prelude.{◌≡◌, ◌++◌, IfOk, OnOk, OnErr, map,
 ghost use Rattle.serde_json.specs.View.{members_view, view};
 ghost use Rattle.unit_lists.specs.UnitLines.{preset_text};
 ghost use Rattle.root_json.specs.Objects.{text_data, texts_data};
-ghost use Rattle.root_json.specs.Lines.{AddsLine, word_data, path_data, found_members, with_states, with_links, status_data, warning_data};
+ghost use Rattle.root_json.specs.Lines.{AddsLine, word_data, path_data, found_members, with_states, with_links, status_data, warning_data, maker_data};
 
 use crate::lines::{push_line, unit_object};
-use crate::objects::{Object, put_value, put_word};
+use crate::objects::{Object, put_count, put_value, put_word};
 use crate::texts::{push_text, put_text, text_value};
 use link_tree::TreePath;
 use serde_json::Value;
@@ -115,5 +115,37 @@ pub fn push_warning(out: &mut Vec<u8>, unit: &UnitName, warning: &[u8]) -> Resul
     ensures err { OnErr result (out.new.items ≡ out.old.items) }
 {
     let value = warning_value(*out.allocator(), unit, warning)?;
+    push_line(out, &value)
+}
+
+fn maker_value(
+    alloc: Global,
+    unit: &UnitName,
+    path: &TreePath,
+    row: u32,
+    operator: &[u8],
+) -> Result<Value, AllocError>
+    ensures { IfOk result (λ value. view value ≡ maker_data unit.now path.now row operator.now) }
+{
+    let mut object = unit_object(alloc, unit)?;
+    put_text(alloc, &mut object, "path", path.text())?;
+    put_count(alloc, &mut object, "made_by", row as usize)?;
+    put_text(alloc, &mut object, "operator", operator)?;
+    Ok(Value::Object(object))
+}
+
+/// Appends which row of a history made what is at a path of a unit, as `status` prints it, and whose
+/// row it is. If memory runs out, nothing has been appended.
+pub fn push_maker(
+    out: &mut Vec<u8>,
+    unit: &UnitName,
+    path: &TreePath,
+    row: u32,
+    operator: &[u8],
+) -> Result<(), AllocError>
+    ensures ok { OnOk result (AddsLine (maker_data unit.now path.now row operator.now) out.old.items out.new.items) }
+    ensures err { OnErr result (out.new.items ≡ out.old.items) }
+{
+    let value = maker_value(*out.allocator(), unit, path, row, operator)?;
     push_line(out, &value)
 }

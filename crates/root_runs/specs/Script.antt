@@ -135,7 +135,7 @@ script_of (commands.ListDependencies reverse unit) = Some (dependencies_call rev
 script_of (commands.Status names) = None
 script_of (commands.Place words) = Some ((codes "place" ∷ map (formed Given) (map string_bytes words.items)) ∷ [])
 script_of (commands.Remove path) = Some ((codes "remove" ∷ string_bytes path ∷ []) ∷ [])
-script_of (commands.Undo rows) = Some (map (row_call (codes "undo")) rows.items)
+script_of (commands.Undo rows with_later) = Some (map (row_call (codes "undo")) rows.items)
 script_of (commands.Redo rows) = Some (map (row_call (codes "redo")) rows.items)
 script_of (commands.Run file rows) = None
 script_of (commands.Capture all) = None
@@ -144,6 +144,8 @@ script_of (commands.Apply file) = None
 script_of (commands.Keep anew) = None
 script_of commands.Recover = None
 script_of commands.Forget = None
+script_of (commands.Log asked) = None
+script_of (commands.Show row) = None
 
 -- a reason with the place of its call, from 0
 abbrev pub at_place : {A : Type 0} → ℕ → Result A Reason → Result A CallFault

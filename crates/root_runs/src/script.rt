@@ -380,8 +380,8 @@ fn bytes_of(alloc: Global, words: &[String]) -> Result<Vec<&[u8]>, AllocError>
 }
 
 /// The calls of a script that a command makes, in order, or none for a command that makes no calls:
-/// `preset-all`, `list-unit-files`, `status`, `run`, `capture`, `diff`, `apply`, `keep`, `recover`
-/// and `forget`. The words are not checked: `calls_of` does that.
+/// `preset-all`, `list-unit-files`, `status`, `run`, `capture`, `diff`, `apply`, `keep`, `log`,
+/// `show`, `recover` and `forget`. The words are not checked: `calls_of` does that.
 ///
 /// - Names are completed, as `named` says. A word with a slash is no abbreviation: it stays as it
 ///   is, and is refused later, as by systemctl. But for `set-default`, for the target of
@@ -391,7 +391,7 @@ fn bytes_of(alloc: Global, words: &[String]) -> Result<Vec<&[u8]>, AllocError>
 ///   all are enabled, unless it is in a directory of units. `disable` takes the file's name alone.
 /// - A path beneath `/lib/systemd/system` is spelled as that beneath `/usr/lib/systemd/system`.
 /// - `is-enabled` makes a call for each unit, `undo` and `redo` for each row, and any other command
-///   one.
+///   one. Which rows `--with-later` adds depends on the history: they aren't among these calls.
 /// - The mode of a preset is left out: who calls this has filtered the names.
 ///
 /// systemctl(1), "Unit File Commands".
@@ -440,11 +440,15 @@ pub fn script_of(alloc: Global, command: &Command) -> Result<Option<Vec<CallWord
         Command::PresetAll { .. } | Command::ListUnitFiles(_) | Command::Status(_) => return Ok(
             None,
         ),
-        Command::Undo(rows) => row_calls(alloc, "undo", rows)?,
+        Command::Undo {
+            rows,
+            with_later: _,
+        } => row_calls(alloc, "undo", rows)?,
         Command::Redo(rows) => row_calls(alloc, "redo", rows)?,
         Command::Run { .. } | Command::Capture { .. } | Command::Diff(_) => return Ok(None),
         Command::Apply(_) | Command::Keep { .. } => return Ok(None),
         Command::Recover | Command::Forget => return Ok(None),
+        Command::Log(_) | Command::Show(_) => return Ok(None),
     };
     Ok(Some(calls))
 }

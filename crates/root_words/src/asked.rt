@@ -17,6 +17,8 @@ pub struct Asked {
     pub history: Option<String>,
     /// `--adopt`: a history of another root, or one in which others changed very much, is used.
     pub adopt: bool,
+    /// `--max`: at most this number of MiB of files and targets is read from the root.
+    pub max: u32,
     pub command: Command,
 }
 
@@ -138,9 +140,17 @@ pub enum Command {
     Keep {
         anew: bool,
     },
-    /// These rows of the history are taken back, one after another.
-    Undo(Vec<u32>),
-    /// As `Undo`: rows that were taken back are made again.
+    /// The history, a row a line.
+    Log(LogAsked),
+    /// One row of the history.
+    Show(u32),
+    /// These rows of the history are taken back, one after another. With `--with-later` there is
+    /// one, and those that must be undone before are taken back too.
+    Undo {
+        rows: Vec<u32>,
+        with_later: bool,
+    },
+    /// Rows that were taken back are made again, one after another.
     Redo(Vec<u32>),
     /// A run that was cut short is finished.
     Recover,
@@ -154,6 +164,21 @@ pub enum Command {
     Diff(String),
     /// The root is made as the inventory of this file, or of standard input.
     Apply(Option<String>),
+}
+
+/// Which rows a log shows, and how: all, or those that each option which is given leaves.
+#[derive(Debug, Drop)]
+pub struct LogAsked {
+    /// `--unit`: only rows that have to do with this unit. Its name may lack the type.
+    pub unit: Option<String>,
+    /// `--operator`: only rows of this operator.
+    pub operator: Option<String>,
+    /// `--since`: only runs at this time or later.
+    pub since: Option<String>,
+    /// `--lines`: only the last rows, at most this number of them.
+    pub lines: Option<u32>,
+    /// `--full`: calls aren't cut to fit the terminal.
+    pub full: bool,
 }
 
 /// Which unit files are listed: all, or those that match one of the patterns, have one of the types

@@ -21,6 +21,8 @@ pub(crate) enum Verb {
     Remove,
     Run,
     Keep,
+    Log,
+    Show,
     Undo,
     Redo,
     Recover,
@@ -101,13 +103,13 @@ pub(crate) const CONTENT: Word = (
 
 /// The options of a call that changes something.
 const CHANGE: &[&str] = &[
-    "root", "as", "runtime", "dry-run", "vendor", "with", "wait", "history", "adopt", "json",
-    "quiet",
+    "root", "as", "runtime", "dry-run", "vendor", "with", "max", "wait", "history", "adopt",
+    "json", "quiet",
 ];
 
 /// As `CHANGE`, of a call without `--runtime`.
 const LASTING: &[&str] = &[
-    "root", "as", "dry-run", "vendor", "with", "wait", "history", "adopt", "json", "quiet",
+    "root", "as", "dry-run", "vendor", "with", "max", "wait", "history", "adopt", "json", "quiet",
 ];
 
 const PRESET: &[&str] = &[
@@ -118,6 +120,7 @@ const PRESET: &[&str] = &[
     "dry-run",
     "vendor",
     "with",
+    "max",
     "wait",
     "history",
     "adopt",
@@ -126,16 +129,14 @@ const PRESET: &[&str] = &[
 ];
 
 /// The options of a command that has no calls, and works on the history.
-const HISTORY: &[&str] = &["root", "wait", "history", "adopt", "json", "quiet"];
+const HISTORY: &[&str] = &["root", "max", "wait", "history", "adopt", "json", "quiet"];
 
 /// The options of a call that asks.
-const ASK: &[&str] = &["root", "as", "with", "wait", "json", "quiet"];
-
-const LOOK: &[&str] = &["root", "with", "wait", "json"];
+const ASK: &[&str] = &["root", "as", "with", "max", "wait", "json", "quiet"];
 
 /// All commands, in the order of help. (A function that names a large array is proved with all that
 /// is in it: one function names this one, and gives it to the others.)
-pub(crate) const COMMANDS: [CommandRow; 27] = [
+pub(crate) const COMMANDS: [CommandRow; 29] = [
     CommandRow(
         "list-unit-files",
         Verb::ListUnitFiles,
@@ -145,6 +146,7 @@ pub(crate) const COMMANDS: [CommandRow; 27] = [
             "type",
             "state",
             "with",
+            "max",
             "wait",
             "no-legend",
             "json",
@@ -266,7 +268,9 @@ pub(crate) const COMMANDS: [CommandRow; 27] = [
         "list-dependencies",
         Verb::ListDependencies,
         Maybe(UNIT),
-        &["root", "as", "reverse", "with", "wait", "json", "quiet"],
+        &[
+            "root", "as", "reverse", "with", "max", "wait", "json", "quiet",
+        ],
         "Lists the units that links make the unit, or default.target, depend on.",
         "Example:\n  unitroot --root=./image list-dependencies --reverse ssh.service",
     ),
@@ -274,9 +278,9 @@ pub(crate) const COMMANDS: [CommandRow; 27] = [
         "status",
         Verb::Status,
         Many(UNIT),
-        LOOK,
+        &["root", "with", "max", "wait", "history", "adopt", "json"],
         "Shows where the units are found, their state and preset, and which links enable\n\
-         or mask them.",
+         or mask them. If there is a history, it also shows which rows made them.",
         "Example:\n  unitroot --root=./image status ssh.service",
     ),
     CommandRow(
@@ -308,6 +312,7 @@ pub(crate) const COMMANDS: [CommandRow; 27] = [
             "keep-going",
             "rows",
             "with",
+            "max",
             "wait",
             "history",
             "adopt",
@@ -323,17 +328,60 @@ pub(crate) const COMMANDS: [CommandRow; 27] = [
         Verb::Keep,
         Nothing,
         &[
-            "root", "anew", "with", "wait", "history", "adopt", "json", "quiet",
+            "root", "anew", "with", "max", "wait", "history", "adopt", "json", "quiet",
         ],
         "Remembers all runs from now on, so that undo takes their rows back. The history\n\
          is in the root, at /var/lib/unitroot, or where --history has it.",
         "Example:\n  unitroot --root=./image keep",
     ),
     CommandRow(
+        "log",
+        Verb::Log,
+        Nothing,
+        &[
+            "root",
+            "unit",
+            "operator",
+            "since",
+            "lines",
+            "full",
+            "wait",
+            "history",
+            "adopt",
+            "no-legend",
+            "json",
+        ],
+        "Shows the history, a row a line: its number and time, its operator and call,\n\
+         how many changes it made, and which row undid it.",
+        "Example:\n  unitroot --root=./image log --unit=ssh.service -n 10",
+    ),
+    CommandRow(
+        "show",
+        Verb::Show,
+        At(ROW),
+        &["root", "wait", "history", "adopt", "json"],
+        "Shows one row of the history: its run and its call, what that changed and looked\n\
+         at, and whether it can be undone, or with which later rows.",
+        "Example:\n  unitroot --root=./image show 3",
+    ),
+    CommandRow(
         "undo",
         Verb::Undo,
         Many(ROW),
-        LASTING,
+        &[
+            "root",
+            "as",
+            "with-later",
+            "dry-run",
+            "vendor",
+            "with",
+            "max",
+            "wait",
+            "history",
+            "adopt",
+            "json",
+            "quiet",
+        ],
         "Takes rows of the history back, one after another: all or none.",
         "Example:\n  unitroot --root=./image undo 3",
     ),
@@ -367,7 +415,7 @@ pub(crate) const COMMANDS: [CommandRow; 27] = [
         "capture",
         Verb::Capture,
         Nothing,
-        &["root", "all", "with", "wait", "json"],
+        &["root", "all", "with", "max", "wait", "json"],
         "Writes the inventory of the root to standard output: the links and files of\n\
          units and presets.",
         "Example:\n  unitroot --root=./image capture > inventory",
@@ -376,7 +424,7 @@ pub(crate) const COMMANDS: [CommandRow; 27] = [
         "diff",
         Verb::Diff,
         At(OTHER),
-        LOOK,
+        &["root", "with", "max", "wait", "json"],
         "Shows how the root differs from another root, or from an inventory. The status\n\
          is 1 if it does.",
         "Example:\n  unitroot --root=./image diff ./image.old",
@@ -386,7 +434,7 @@ pub(crate) const COMMANDS: [CommandRow; 27] = [
         Verb::Apply,
         Maybe(INVENTORY),
         &[
-            "root", "dry-run", "vendor", "with", "wait", "history", "adopt", "json", "quiet",
+            "root", "dry-run", "vendor", "with", "max", "wait", "history", "adopt", "json", "quiet",
         ],
         "Makes the links and files of the root as the inventory has them. Without one,\n\
          or with -, it is read from standard input.",

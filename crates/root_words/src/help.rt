@@ -1,7 +1,7 @@
 //! The texts of `--help` and `--version`.
 
 /// What `--version` says after the program's name.
-pub(crate) const VERSION: &str = "1 (as systemctl 252; inventories and scripts of unitadm 1)";
+pub(crate) const VERSION: &str = "1 (rules 1, as systemctl 252; inventories 1, histories 1)";
 
 pub(crate) const USAGE: &str = "unitroot --root=DIR [OPTIONS] COMMAND [WORDS..]";
 
@@ -39,6 +39,8 @@ Commands of unitroot:
   remove PATH                       Removes the link or file at a path
   run [FILE]                        Runs a script: a call of an operator a line
   keep                              Remembers runs from now on: a history begins
+  log                               Shows the history, a row a line
+  show ROW                          Shows one row, and whether it can be undone
   undo ROW..                        Takes rows of the history back
   redo ROW..                        Makes rows again that were taken back
   recover                           Finishes a run that was cut short
@@ -56,7 +58,16 @@ Options:
       --keep-going                  run: makes other calls if some are refused
       --rows=history|run            run: whose rows its undo and redo name
       --anew                        keep: begins again, if there is a history
+      --with-later                  undo: also takes back the later rows that
+                                    must be undone first
+      --unit=NAME                   log: only rows that concern this unit
+      --operator=NAME               log: only rows of this operator
+      --since=TIME                  log: only runs at this time or later
+  -n, --lines=N                     log: only the last N rows
+  -l, --full                        log: doesn't cut calls to fit the terminal
       --with=PATH                   Reads what is at this path of the root too
+      --max=MIB                     How many MiB of the root are read at most:
+                                    256 without this option
       --wait[=SECONDS]              Waits for another run that holds the root
       --history=DIR                 The directory of the history. Without it the
                                     history is in the root: /var/lib/unitroot
@@ -75,8 +86,7 @@ Options:
   -V, --version                     Prints the version
 
 Accepted for compatibility, without effect:
-      --system, --no-reload, --no-warn, --no-ask-password, --no-pager, --plain,
-  -l, --full
+      --system, --no-reload, --no-warn, --no-ask-password, --no-pager, --plain
 
 Exit status:
   0  done

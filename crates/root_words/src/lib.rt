@@ -12,7 +12,7 @@ mod refusals;
 mod words_error;
 
 pub use asked::{
-    AddedAs, Asked, Command, How, Listed, Output, PresetMode, RowsOf, UnitsVerb, Wait,
+    AddedAs, Asked, Command, How, Listed, LogAsked, Output, PresetMode, RowsOf, UnitsVerb, Wait,
 };
 pub use reading::read_words;
 pub use words_error::WordsError;

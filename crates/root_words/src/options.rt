@@ -42,7 +42,7 @@ const ROWS_OF: &[&str] = &["history", "run"];
 
 /// All options, in the order in which help shows them. Those without a text are in no help of a
 /// command. The ones of systemctl(1) are taken by each command, as there.
-pub(crate) const OPTIONS: [OptionRow; 35] = [
+pub(crate) const OPTIONS: [OptionRow; 41] = [
     OptionRow(
         "root",
         None,
@@ -93,6 +93,42 @@ pub(crate) const OPTIONS: [OptionRow; 35] = [
         "Begins a new history if there is one already",
     ),
     OptionRow(
+        "unit",
+        None,
+        Follows::Value("NAME"),
+        "Only rows that concern this unit",
+    ),
+    OptionRow(
+        "operator",
+        None,
+        Follows::Value("NAME"),
+        "Only rows of this operator",
+    ),
+    OptionRow(
+        "since",
+        None,
+        Follows::Value("TIME"),
+        "Only runs at this time or later: 2026-12-01, or\n'2026-12-01 08:30'",
+    ),
+    OptionRow(
+        "lines",
+        Some('n'),
+        Follows::Value("N"),
+        "Only the last N rows",
+    ),
+    OptionRow(
+        "full",
+        Some('l'),
+        NONE,
+        "Doesn't cut calls to fit the terminal",
+    ),
+    OptionRow(
+        "with-later",
+        None,
+        NONE,
+        "Also takes back the later rows that must be undone\nfirst",
+    ),
+    OptionRow(
         "reverse",
         None,
         NONE,
@@ -123,6 +159,12 @@ pub(crate) const OPTIONS: [OptionRow; 35] = [
         "Reads what is at this path of the root too",
     ),
     OptionRow(
+        "max",
+        None,
+        Follows::Value("MIB"),
+        "How many MiB of the root are read at most: 256\nwithout this option",
+    ),
+    OptionRow(
         "wait",
         None,
         Follows::Seconds,
@@ -151,7 +193,6 @@ pub(crate) const OPTIONS: [OptionRow; 35] = [
     OptionRow("legend", None, Follows::Truth, ""),
     OptionRow("no-pager", None, NONE, ""),
     OptionRow("plain", None, NONE, ""),
-    OptionRow("full", Some('l'), NONE, ""),
     OptionRow("system", None, NONE, ""),
     OptionRow("no-reload", None, NONE, ""),
     OptionRow("no-warn", None, NONE, ""),

@@ -1,6 +1,8 @@
 //! What the words ask for.
 
-use crate::asked::{AddedAs, Asked, Command, Listed, PresetMode, RowsOf, UnitsVerb, Wait};
+use crate::asked::{
+    AddedAs, Asked, Command, Listed, LogAsked, PresetMode, RowsOf, UnitsVerb, Wait,
+};
 use crate::building::{after_command, before_command, known_commands};
 use crate::commands::{COMMANDS, CommandRow, Verb, command_named};
 use crate::given::Given;
@@ -35,6 +37,12 @@ const LOAD_STATES: [&str; 7] = [
     "merged",
     "masked",
 ];
+
+/// `--max`, if it isn't given.
+const DEFAULT_MAX: u32 = 256;
+
+/// `--max` is at most this number.
+const GREATEST_MAX: u32 = 65_536;
 
 fn mode_of(given: &Given<'_, '_, '_>) -> PresetMode {
     match given.last("preset-mode") {
@@ -91,6 +99,11 @@ fn push_parts(alloc: Global, parts: &mut Vec<String>, list: &str) -> Result<(), 
     Ok(())
 }
 
+/// The error of an option with an empty value.
+fn no_value(alloc: Global, option: &str) -> WordsError {
+    WordsError::refused_words(alloc, &["--", option, "= is without a value"])
+}
+
 /// The parts of all values of an option.
 fn parts_of(
     alloc: Global,
@@ -101,7 +114,7 @@ fn parts_of(
     let mut parts = Vec::new(alloc);
     for list in &lists {
         if list.is_empty() {
-            return Err(WordsError::refused_words(alloc, &["--", option, "= is without a value"]));
+            return Err(no_value(alloc, option));
         }
         push_parts(alloc, &mut parts, list.as_str())?;
     }
@@ -153,6 +166,16 @@ fn number_of(word: &str) -> Option<u32> {
     }
 }
 
+/// As `number_of`, of a row that is a word after a command with this name.
+///
+/// Errors: the word is no number of a row.
+fn row_number(alloc: Global, name: &str, word: &str) -> Result<u32, WordsError> {
+    match number_of(word) {
+        Some(number) => Ok(number),
+        None => Err(bad_row(alloc, name, word)),
+    }
+}
+
 fn bad_row(alloc: Global, name: &str, word: &str) -> WordsError {
     WordsError::refused_words(
         alloc,
@@ -174,12 +197,72 @@ fn row_numbers(
     let words = given.words(alloc)?;
     let mut numbers = Vec::new(alloc);
     for word in &words {
-        let Some(number) = number_of(word.as_str()) else {
-            return Err(bad_row(alloc, name, word.as_str()));
-        };
+        let number = row_number(alloc, name, word.as_str())?;
         numbers.push(number)?;
     }
     Ok(numbers)
+}
+
+fn undo(alloc: Global, given: &Given<'_, '_, '_>) -> Result<Command, WordsError> {
+    let rows = row_numbers(alloc, "undo", given)?;
+    let with_later = given.flag("with-later");
+    if with_later && rows.len() > 1 {
+        return Err(WordsError::refused(
+            alloc,
+            "undo --with-later takes one ROW, and finds the other rows itself",
+        ));
+    }
+    Ok(Command::Undo { rows, with_later })
+}
+
+/// The value of an option, for keeps.
+///
+/// Errors: it is empty.
+fn value_of(
+    alloc: Global,
+    given: &Given<'_, '_, '_>,
+    option: &str,
+) -> Result<Option<String>, WordsError> {
+    match given.last(option) {
+        None => Ok(None),
+        Some("") => Err(no_value(alloc, option)),
+        Some(value) => Ok(Some(String::from_str(alloc, value)?)),
+    }
+}
+
+fn lines_of(alloc: Global, given: &Given<'_, '_, '_>) -> Result<Option<u32>, WordsError> {
+    let Some(text) = given.last("lines") else {
+        return Ok(None);
+    };
+    match number_of(text) {
+        Some(number) => Ok(Some(number)),
+        None => Err(WordsError::refused_words(
+            alloc,
+            &[
+                "--lines=",
+                text,
+                ": N is a whole number from 1 to 4,294,967,295",
+            ],
+        )),
+    }
+}
+
+fn log(alloc: Global, given: &Given<'_, '_, '_>) -> Result<Command, WordsError> {
+    let lines = lines_of(alloc, given)?;
+    let unit = value_of(alloc, given, "unit")?;
+    let operator = value_of(alloc, given, "operator")?;
+    Ok(Command::Log(LogAsked {
+        unit,
+        operator,
+        since: value_of(alloc, given, "since")?,
+        lines,
+        full: given.flag("full"),
+    }))
+}
+
+fn show(alloc: Global, given: &Given<'_, '_, '_>) -> Result<Command, WordsError> {
+    let word = given.word().unwrap_or("");
+    Ok(Command::Show(row_number(alloc, "show", word)?))
 }
 
 fn rows_of(given: &Given<'_, '_, '_>) -> Option<RowsOf> {
@@ -217,7 +300,9 @@ fn command_of(alloc: Global, verb: Verb, given: &Given<'_, '_, '_>) -> Result<Co
         Verb::Keep => Command::Keep {
             anew: given.flag("anew"),
         },
-        Verb::Undo => Command::Undo(row_numbers(alloc, "undo", given)?),
+        Verb::Log => log(alloc, given)?,
+        Verb::Show => show(alloc, given)?,
+        Verb::Undo => undo(alloc, given)?,
         Verb::Redo => Command::Redo(row_numbers(alloc, "redo", given)?),
         Verb::Recover => Command::Recover,
         Verb::Forget => Command::Forget,
@@ -281,6 +366,20 @@ fn wait_of(alloc: Global, given: &Given<'_, '_, '_>) -> Result<Wait, WordsError>
     }
 }
 
+/// The number of MiB that are read from the root at most.
+fn max_of(alloc: Global, given: &Given<'_, '_, '_>) -> Result<u32, WordsError> {
+    let Some(text) = given.last("max") else {
+        return Ok(DEFAULT_MAX);
+    };
+    match number_of(text) {
+        Some(number) if number <= GREATEST_MAX => Ok(number),
+        _ => Err(WordsError::refused_words(
+            alloc,
+            &["--max=", text, ": MIB is a whole number from 1 to 65,536"],
+        )),
+    }
+}
+
 fn asked_of(
     alloc: Global,
     row: &CommandRow,
@@ -292,6 +391,7 @@ fn asked_of(
     let with = given.all(alloc, "with")?;
     let wait = wait_of(alloc, given)?;
     let history = history_of(alloc, given)?;
+    let max = max_of(alloc, given)?;
     Ok(Asked {
         root,
         how: given.how(),
@@ -301,6 +401,7 @@ fn asked_of(
         wait,
         history,
         adopt: given.flag("adopt"),
+        max,
         command: command_of(alloc, row.1, given)?,
     })
 }
@@ -390,8 +491,10 @@ fn read_by(alloc: Global, commands: &[CommandRow], given: &[String]) -> Result<A
 ///   many, and values that an option doesn't take.
 /// - `Refused`: commands and options of systemctl(1) that work on a running machine or aren't
 ///   offered, options that mean nothing for the command, unknown types of units, an empty
-///   `--root=`, `--history=`, `--type=` or `--state=`, a `--wait=` without a number, a row that is
-///   no number from 1 to 4,294,967,295, and no command at all.
+///   `--root=`, `--history=`, `--type=`, `--state=`, `--unit=`, `--operator=` or `--since=`, a
+///   `--wait=` without a number, a `--max=` that is no number from 1 to 65,536, a row or a `--lines=`
+///   that is no number from 1 to 4,294,967,295, `--with-later` with two rows or more, and no command
+///   at all.
 /// - `OutOfMemory`.
 pub fn read_words(alloc: Global, given: &[String]) -> Result<Asked, WordsError> {
     read_by(alloc, &COMMANDS, given)

@@ -6,7 +6,7 @@ use crate::words_error::WordsError;
 use std::alloc::Global;
 
 /// The commands of systemctl(1) that need a running manager or machine.
-const RUNNING: [&str; 62] = [
+const RUNNING: [&str; 61] = [
     "list-units",
     "list-automounts",
     "list-paths",
@@ -14,7 +14,6 @@ const RUNNING: [&str; 62] = [
     "list-timers",
     "is-active",
     "is-failed",
-    "show",
     "start",
     "stop",
     "reload",
@@ -128,10 +127,12 @@ const VALUES: [(&str, &str); 3] = [
 ];
 
 /// Options with a value that only `unitroot` has, and that only some commands have.
-const OWN_VALUES: [&str; 4] = ["as", "with", "history", "rows"];
+const OWN_VALUES: [&str; 8] = [
+    "as", "with", "history", "rows", "unit", "operator", "since", "lines",
+];
 
 /// As `OWN_VALUES`, for options without a value.
-const OWN_FLAGS: [&str; 4] = ["vendor", "keep-going", "adopt", "anew"];
+const OWN_FLAGS: [&str; 5] = ["vendor", "keep-going", "adopt", "anew", "with-later"];
 
 /// What is said of a command that `unitroot` doesn't have. `None` if systemctl(1) hasn't it either.
 pub(crate) fn refused_command(alloc: Global, name: &str) -> Option<WordsError> {

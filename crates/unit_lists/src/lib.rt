@@ -19,6 +19,6 @@ pub use listing::unit_files;
 pub use mode::{Mode, names_in_mode};
 pub use selection::{selected_lines, selected_names};
 pub use status::{UnitStatus, unit_status};
-pub use status_text::push_status;
+pub use status_text::{PathNote, push_status};
 pub use table::push_table;
 pub use unit_line::{PresetWord, UnitLine, listed_state_text, unit_lines};

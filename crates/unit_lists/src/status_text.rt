@@ -1,7 +1,7 @@
 //! What a tree says of one unit, as a text.
 ghost use Rattle.std.specs.Prelude.{◌≡◌, ◌++◌, OnOk, OnErr, codes};
 ghost use Rattle.std.specs.List.{flat_map};
-ghost use Rattle.unit_lists.specs.StatusTexts.{line, found_lines, link_lines, loaded_word, loaded_path, preset_part, state_part, loaded_line, other_name_line, alias_line, link_line, status_text};
+ghost use Rattle.unit_lists.specs.StatusTexts.{line, found_lines, link_lines, loaded_word, loaded_path, preset_part, state_part, loaded_line, other_name_line, alias_line, link_line, note_on, noted_line, status_text};
 
 use crate::status::UnitStatus;
 use crate::unit_line::{PresetWord, listed_state_text};
@@ -36,6 +36,24 @@ impl UnitStatus {
             (Found::Masked(_), None) => b"",
             (Found::Missing, _mask) => b"",
         }
+    }
+}
+
+/// What is said of a path after it.
+#[derive(Clone, Copy, Debug)]
+pub struct PathNote<'a> {
+    pub path: &'a TreePath,
+    pub text: &'a [u8],
+}
+
+/// What is said of a path: the text of the first note on it, or nothing.
+fn note_on<'a>(notes: &[PathNote<'a>], path: &[u8]) -> &'a [u8]
+    ensures { result.now ≡ note_on notes.now path.now }
+{
+    match notes {
+        [] => b"",
+        [note, ..] if note.path.text() == path => note.text,
+        [_note, notes @ ..] => note_on(notes, path),
     }
 }
 
@@ -98,71 +116,115 @@ fn push_line(out: &mut Vec<u8>, head: &[u8], text: &[u8]) -> Result<(), AllocErr
     out.extend_from_slice(b"\n")
 }
 
-#[tactic(auto, unfolding(crate::specs::StatusTexts::link_line))]
-fn push_link(out: &mut Vec<u8>, link: &TreePath) -> Result<(), AllocError>
-    ensures { OnOk result (out.new.items ≡ out.old.items ++ link_line link.now) }
+/// A line of a head and a path, with the note on the path.
+#[tactic(auto, unfolding(crate::specs::StatusTexts::noted_line))]
+fn push_noted_line(
+    out: &mut Vec<u8>,
+    notes: &[PathNote<'_>],
+    head: &[u8],
+    path: &[u8],
+) -> Result<(), AllocError>
+    ensures { OnOk result (out.new.items ≡ out.old.items ++ noted_line notes.now head.now path.now) }
 {
-    push_line(out, b"       Link: ", link.text())
+    let note = note_on(notes, path);
+    out.extend_from_slice(head)?;
+    out.extend_from_slice(path)?;
+    out.extend_from_slice(note)?;
+    out.extend_from_slice(b"\n")
 }
 
-fn push_links(out: &mut Vec<u8>, links: &[TreePath]) -> Result<(), AllocError>
-    ensures { OnOk result (out.new.items ≡ out.old.items ++ flat_map link_line links.now) }
+#[tactic(auto, unfolding(crate::specs::StatusTexts::link_line))]
+fn push_link(out: &mut Vec<u8>, notes: &[PathNote<'_>], link: &TreePath) -> Result<(), AllocError>
+    ensures { OnOk result (out.new.items ≡ out.old.items ++ link_line notes.now link.now) }
+{
+    push_noted_line(out, notes, b"       Link: ", link.text())
+}
+
+fn push_links(
+    out: &mut Vec<u8>,
+    notes: &[PathNote<'_>],
+    links: &[TreePath],
+) -> Result<(), AllocError>
+    ensures { OnOk result (out.new.items ≡ out.old.items ++ flat_map (link_line notes.now) links.now) }
 {
     for link in links {
-        push_link(out, link)?;
+        push_link(out, notes, link)?;
     }
     Ok(())
 }
 
 #[tactic(auto, unfolding(crate::specs::StatusTexts::loaded_line))]
-fn push_loaded(out: &mut Vec<u8>, status: &UnitStatus) -> Result<(), AllocError>
-    ensures { OnOk result (out.new.items ≡ out.old.items ++ loaded_line status.now.mask status.now.found status.now.state status.now.preset) }
+fn push_loaded(
+    out: &mut Vec<u8>,
+    notes: &[PathNote<'_>],
+    status: &UnitStatus,
+) -> Result<(), AllocError>
+    ensures { OnOk result (out.new.items ≡ out.old.items ++ loaded_line notes.now status.now.mask status.now.found status.now.state status.now.preset) }
 {
     out.extend_from_slice(b"     Loaded: ")?;
     out.extend_from_slice(status.loaded().as_bytes())?;
     push_state(out, status)?;
+    out.extend_from_slice(note_on(notes, status.path()))?;
     out.extend_from_slice(b"\n")
 }
 
 #[tactic(auto, unfolding(crate::specs::StatusTexts::found_lines))]
-fn push_found(out: &mut Vec<u8>, status: &UnitStatus) -> Result<(), AllocError>
-    ensures { OnOk result (out.new.items ≡ out.old.items ++ found_lines status.now.name status.now.mask status.now.found status.now.state status.now.preset) }
+fn push_found(
+    out: &mut Vec<u8>,
+    notes: &[PathNote<'_>],
+    status: &UnitStatus,
+) -> Result<(), AllocError>
+    ensures { OnOk result (out.new.items ≡ out.old.items ++ found_lines notes.now status.now.name status.now.mask status.now.found status.now.state status.now.preset) }
 {
-    push_loaded(out, status)?;
+    push_loaded(out, notes, status)?;
     push_alias(out, &status.name, &status.found)
 }
 
 #[tactic(auto, unfolding(crate::specs::StatusTexts::link_lines))]
-fn push_both(out: &mut Vec<u8>, etc: &[TreePath], run: &[TreePath]) -> Result<(), AllocError>
-    ensures { OnOk result (out.new.items ≡ out.old.items ++ link_lines etc.now run.now) }
+fn push_both(
+    out: &mut Vec<u8>,
+    notes: &[PathNote<'_>],
+    etc: &[TreePath],
+    run: &[TreePath],
+) -> Result<(), AllocError>
+    ensures { OnOk result (out.new.items ≡ out.old.items ++ link_lines notes.now etc.now run.now) }
 {
-    push_links(out, etc)?;
-    push_links(out, run)
+    push_links(out, notes, etc)?;
+    push_links(out, notes, run)
 }
 
-fn push_all(out: &mut Vec<u8>, status: &UnitStatus) -> Result<(), AllocError>
-    ensures { OnOk result (out.new.items ≡ out.old.items ++ status_text status.now) }
+fn push_all(
+    out: &mut Vec<u8>,
+    status: &UnitStatus,
+    notes: &[PathNote<'_>],
+) -> Result<(), AllocError>
+    ensures { OnOk result (out.new.items ≡ out.old.items ++ status_text notes.now status.now) }
 {
     push_line(out, b"", status.name.text())?;
-    push_found(out, status)?;
-    push_both(out, &status.etc, &status.run)
+    push_found(out, notes, status)?;
+    push_both(out, notes, &status.etc, &status.run)
 }
 
 /// Appends what is known of a unit, in the form of systemctl(1), `status`: its name; on a line
 /// `Loaded:` whether it is found, with the path of its file (or of what masks it, or of the link
 /// that leads nowhere), its state and what the preset files say; whose other name it is; and a line
-/// for each link that belongs to its name. If memory runs out, nothing has been appended.
+/// for each link that belongs to its name. Each of these two lines ends with the first note on its
+/// path, if there is one. If memory runs out, nothing has been appended.
 ///
 /// ```text
 /// ssh.service
 ///      Loaded: loaded (/usr/lib/systemd/system/ssh.service; enabled; preset: enabled)
 ///        Link: /etc/systemd/system/multi-user.target.wants/ssh.service
 /// ```
-pub fn push_status(out: &mut Vec<u8>, status: &UnitStatus) -> Result<(), AllocError>
-    ensures ok { OnOk result (out.new.items ≡ out.old.items ++ status_text status.now) }
+pub fn push_status(
+    out: &mut Vec<u8>,
+    status: &UnitStatus,
+    notes: &[PathNote<'_>],
+) -> Result<(), AllocError>
+    ensures ok { OnOk result (out.new.items ≡ out.old.items ++ status_text notes.now status.now) }
     ensures err { OnErr result (out.new.items ≡ out.old.items) }
 {
     let mut text = Vec::new(*out.allocator());
-    push_all(&mut text, status)?;
+    push_all(&mut text, status, notes)?;
     out.extend_from_slice(&text)
 }

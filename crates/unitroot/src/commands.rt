@@ -197,7 +197,7 @@ fn ask(cx: Context<'_>, calls: Vec<Call>) -> Result<u8, Failure> {
 /// Makes the calls of a command on a root without a history. There is no row to undo.
 fn run_plain(cx: Context<'_>, disk: RealDisk<'_>, calls: Vec<Call>) -> Result<u8, Failure> {
     match (&cx.asked.command, mode_asked(&cx.asked.command)) {
-        (Command::Undo(_) | Command::Redo(_), _) => Err(Failure::NoHistory),
+        (Command::Undo { .. } | Command::Redo(_), _) => Err(Failure::NoHistory),
         (_, Mode::Full) => run_calls(cx, disk, calls, &[]),
         (_, mode) => run_in_mode(cx, disk, mode, &calls),
     }
@@ -208,6 +208,22 @@ fn parsed(operator: &[u8]) -> Result<Operator, Failure> {
     match Operator::parse(operator) {
         Ok(operator) => Ok(operator),
         Err(_) => Err(Failure::BadOperator),
+    }
+}
+
+/// What a command asks for on a root with a history, with the lines of its calls.
+fn wanted_of<'w>(command: &Command, operator: Operator, lines: &'w [u8]) -> Wanted<'w> {
+    if let Command::Undo {
+        rows,
+        with_later: true,
+    } = command
+        && let [row] = rows.as_slice()
+    {
+        return Wanted::WithLater(operator, *row);
+    }
+    match mode_asked(command) {
+        Mode::Full => Wanted::Lines(lines),
+        mode => Wanted::InMode(lines, mode),
     }
 }
 
@@ -222,11 +238,10 @@ fn run_taken(
     match take(cx)? {
         Taken::Plain(disk) => run_plain(cx, disk, calls),
         Taken::Kept(root) => {
-            let lines = lines_of_calls(alloc, &parsed(operator)?, script)?;
-            match mode_asked(&cx.asked.command) {
-                Mode::Full => run_on_kept(cx, root, &Wanted::Lines(&lines), &[]),
-                mode => run_on_kept(cx, root, &Wanted::InMode(&lines, mode), &[]),
-            }
+            let operator = parsed(operator)?;
+            let lines = lines_of_calls(alloc, &operator, script)?;
+            let wanted = wanted_of(&cx.asked.command, operator, &lines);
+            run_on_kept(cx, root, &wanted, &[])
         }
     }
 }

@@ -1,12 +1,13 @@
 //! Rows and answers as JSON, an object a line: docs/JSON.md.
 
+use crate::kept::MadeBy;
 use crate::made::Made;
 use footprint::Answer;
 use history::{Request, Row, RowReply};
 use link_tree::Change;
 use root_json::{
-    CallPlace, Summary, push_change, push_row, push_state, push_summary, push_unit, push_unit_file,
-    push_unit_status,
+    CallPlace, Summary, push_change, push_maker, push_row, push_state, push_summary, push_unit,
+    push_unit_file, push_unit_status,
 };
 use root_runs::count_refused;
 use std::alloc::{AllocError, Global};
@@ -157,13 +158,23 @@ pub(crate) fn applied_text(
     Ok(out)
 }
 
-/// All that is known of units.
-pub(crate) fn statuses_text(alloc: Global, statuses: &[UnitStatus]) -> Result<Vec<u8>, AllocError> {
-    let mut out = Vec::new(alloc);
-    for status in statuses {
-        push_unit_status(&mut out, status)?;
+/// Appends all that is known of a unit, and which rows of the history made what is at its paths.
+pub(crate) fn push_status_lines(
+    out: &mut Vec<u8>,
+    status: &UnitStatus,
+    makers: &[MadeBy],
+) -> Result<(), AllocError> {
+    push_unit_status(out, status)?;
+    for maker in makers {
+        push_maker(
+            out,
+            &status.name,
+            &maker.path,
+            maker.row,
+            maker.operator.text(),
+        )?;
     }
-    Ok(out)
+    Ok(())
 }
 
 /// Unit files with their states and presets.

@@ -10,6 +10,8 @@ mod headers;
 mod keeping;
 mod kept_root;
 mod lines;
+mod log;
+mod makers;
 mod marks;
 mod notes;
 mod paths;
@@ -18,6 +20,8 @@ mod recovery;
 mod rounds;
 mod running;
 mod setting_aside;
+mod show;
+mod with_later;
 
 pub(crate) use context::{Context, canonical_root};
 pub(crate) use finding::{Taken, note_promise, take};
@@ -26,5 +30,8 @@ pub(crate) use keeping::keep;
 pub(crate) use lines::{
     Wanted, check_operator, check_script, line_of_file, lines_of_calls, wanted_lines,
 };
+pub(crate) use log::show_log;
+pub(crate) use makers::{MadeBy, look_at_root, makers_of};
 pub(crate) use marks::{RULES, variable};
 pub(crate) use running::{disk_after_recovery, recover_root, run_on_kept};
+pub(crate) use show::show_row;

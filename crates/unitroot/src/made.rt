@@ -1,12 +1,11 @@
 //! Calls that are made on a root, or on a tree.
 
 use crate::failure::{Failure, capture_failure};
-use crate::kept::note_promise;
 use crate::passing_over::captured_but_odd;
 use crate::printing::print_passed_over;
-use crate::root::{captured_in, forbidden, make_tree, paths_of, take_root};
+use crate::root::{captured_in, forbidden, make_tree, paths_of};
 use history::{History, MAX_ROWS, Operator, Request, Row};
-use link_tree::{Change, Tree};
+use link_tree::{Change, Tree, TreePath};
 use partial_runs::run_on_part;
 use real_roots::RealDisk;
 use root_runs::{Plan, first_of_vendor, has_refused, plan_of};
@@ -89,17 +88,15 @@ pub(crate) fn capture_for(
     captured_in(alloc, disk, &paths)
 }
 
-/// Takes the root, and captures the same but for what is odd there: of each such entry a warning is
-/// printed.
+/// Captures all slots of a root, and these paths, but for what is odd there: of each such entry a
+/// warning is printed.
 pub(crate) fn capture_to_list(
     rt: &HostRuntime,
     asked: &Asked,
-    root: &str,
+    disk: RealDisk<'_>,
+    paths: &[TreePath],
 ) -> Result<Tree, Failure> {
-    let paths = paths_of(rt.alloc(), &asked.with)?;
-    let mut disk = take_root(rt, asked, root)?;
-    note_promise(rt, &mut disk, asked.output.json)?;
-    let (tree, warnings) = captured_but_odd(rt.alloc(), disk, &paths)?;
+    let (tree, warnings) = captured_but_odd(rt.alloc(), disk, paths)?;
     if !asked.output.quiet {
         print_passed_over(rt, &warnings, asked.output.json)?;
     }

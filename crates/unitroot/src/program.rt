@@ -2,11 +2,14 @@
 
 use crate::commands::{place_input, run_command, run_preset_all};
 use crate::failure::Failure;
-use crate::kept::{Context, canonical_root, forget, keep, recover_root, variable};
-use crate::listing::{list_unit_files, show_status};
+use crate::kept::{
+    Context, canonical_root, forget, keep, recover_root, show_log, show_row, variable,
+};
+use crate::listing::list_unit_files;
 use crate::placing::path_for_input;
 use crate::printing::print_messages;
 use crate::scripts::run_script;
+use crate::status::show_status;
 use crate::whole::{apply_inventory, report_differences, write_capture};
 use history::Operator;
 use root_runs::login_operator;
@@ -95,17 +98,19 @@ fn run_on_root(cx: Context<'_>) -> Result<u8, Failure> {
         Command::Diff(other) => report_differences(rt, asked, root, other.as_str()),
         Command::Apply(file) => apply_inventory(cx, name_of(file)),
         Command::ListUnitFiles(listed) => list_unit_files(rt, asked, root, listed),
-        Command::Status(units) => show_status(rt, asked, root, units.as_slice()),
+        Command::Status(units) => show_status(cx, units.as_slice()),
         Command::Keep { anew } => keep(cx, *anew),
         Command::Recover => recover_root(cx),
         Command::Forget => forget(cx),
+        Command::Log(wanted) => show_log(cx, wanted),
+        Command::Show(row) => show_row(cx, *row),
         Command::Units { .. } | Command::PresetAll { .. } | Command::Link { .. } => {
             run_as_operator(cx)
         }
         Command::Add { .. } | Command::SetDefault(_) | Command::GetDefault => run_as_operator(cx),
         Command::IsEnabled(_) | Command::ListDependencies { .. } => run_as_operator(cx),
         Command::Place(_) | Command::Remove(_) => run_as_operator(cx),
-        Command::Undo(_) | Command::Redo(_) => run_as_operator(cx),
+        Command::Undo { .. } | Command::Redo(_) => run_as_operator(cx),
     }
 }
 

@@ -15,11 +15,12 @@ pub(crate) fn hold_of(asked: &Asked) -> Hold {
         Command::GetDefault | Command::IsEnabled(_) | Command::Status(_) => Hold::Shared,
         Command::ListUnitFiles(_) | Command::ListDependencies { .. } => Hold::Shared,
         Command::Capture { .. } | Command::Diff(_) => Hold::Shared,
+        Command::Log(_) | Command::Show(_) => Hold::Shared,
         _ if asked.how.dry_run => Hold::Shared,
         Command::Units { .. } | Command::PresetAll { .. } | Command::Link { .. } => Hold::Alone,
         Command::Add { .. } | Command::SetDefault(_) | Command::Place(_) => Hold::Alone,
         Command::Remove(_) | Command::Run { .. } | Command::Apply(_) => Hold::Alone,
-        Command::Undo(_) | Command::Redo(_) | Command::Keep { .. } => Hold::Alone,
+        Command::Undo { .. } | Command::Redo(_) | Command::Keep { .. } => Hold::Alone,
         Command::Recover | Command::Forget => Hold::Alone,
     }
 }
@@ -38,9 +39,7 @@ pub(crate) fn take_root<'a>(
     asked: &Asked,
     root: &str,
 ) -> Result<RealDisk<'a>, Failure> {
-    // (no option bounds what is read yet)
-    let most = u32::MAX;
-    match RealDisk::take(rt, root, hold_of(asked), patience_of(asked.wait), most) {
+    match RealDisk::take(rt, root, hold_of(asked), patience_of(asked.wait), asked.max) {
         Ok(disk) => Ok(disk),
         Err(trouble) => Err(Failure::Root(trouble)),
     }

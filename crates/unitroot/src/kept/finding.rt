@@ -46,7 +46,7 @@ fn has_history(rt: &HostRuntime, directory: &HistoryDirectory<'_>) -> Result<boo
 }
 
 /// The directory of the history of a root, if it has a history.
-fn directory_of<'a>(
+pub(crate) fn directory_of<'a>(
     cx: Context<'a>,
     disk: &mut RealDisk<'a>,
     place: &HistoryPlace,

@@ -3,7 +3,9 @@
 use crate::bad_words::{BadWords, refused_word};
 use crate::failure::Failure;
 use crate::kept::context::Context;
+use crate::kept::fitting::Turn;
 use crate::kept::kept_root::KeptRoot;
+use crate::kept::with_later::lines_with_later;
 use crate::presets::{choose_all, left_out_text, units_in_mode};
 use byte_streams::ReadError;
 use footprint::Units;
@@ -29,6 +31,8 @@ pub(crate) enum Wanted<'w> {
     /// Those of these lines, but each `preset` has only the units that the mode takes.
     InMode(&'w [u8], Mode),
     PresetAll(Operator, Scope, Mode),
+    /// The undo of this row and, before it, of all rows that must be undone first.
+    WithLater(Operator, u32),
 }
 
 impl<'w> Wanted<'w> {
@@ -36,25 +40,27 @@ impl<'w> Wanted<'w> {
     pub fn named(&self) -> &'w [u8] {
         match self {
             Wanted::Lines(lines) | Wanted::LinesOfRun(lines) => *lines,
-            Wanted::InMode(..) | Wanted::PresetAll(..) => &[],
+            Wanted::InMode(..) | Wanted::PresetAll(..) | Wanted::WithLater(..) => &[],
         }
     }
 
-    /// The lines of the calls on a tree, after this number of rows.
+    /// The lines of the calls, in the turn in which they are made.
     pub fn lines(
         &self,
         cx: Context<'_>,
         root: &mut KeptRoot<'_>,
-        tree: &Tree,
-        before: usize,
+        turn: &Turn,
     ) -> Result<Vec<u8>, Failure> {
         let alloc = cx.rt.alloc();
         match self {
             Wanted::Lines(lines) => Ok(Vec::from_slice(alloc, *lines)?),
-            Wanted::LinesOfRun(lines) => Ok(counted_from(alloc, *lines, before)?),
-            Wanted::InMode(lines, mode) => Ok(lines_in_mode(alloc, tree, *mode, *lines)?),
+            Wanted::LinesOfRun(lines) => Ok(counted_from(alloc, *lines, turn.before)?),
+            Wanted::InMode(lines, mode) => Ok(lines_in_mode(alloc, &turn.tree, *mode, *lines)?),
             Wanted::PresetAll(operator, scope, mode) => {
-                lines_for_all(cx, root, tree, *operator, *scope, *mode)
+                lines_for_all(cx, root, &turn.tree, *operator, *scope, *mode)
+            }
+            Wanted::WithLater(operator, row) => {
+                Ok(lines_with_later(cx, root, turn.kept.history(), operator, *row)?)
             }
         }
     }

@@ -62,7 +62,7 @@ fn make_calls(
 ) -> Result<(), Failure> {
     turn.before = turn.kept.history().rows().len();
     turn.tree = turn.kept.history().tree().share()?;
-    let lines = wanted.lines(cx, root, &turn.tree, turn.before)?;
+    let lines = wanted.lines(cx, root, turn)?;
     let words = words_of_run(cx.rt, false)?;
     match turn
         .kept

@@ -1,6 +1,6 @@
 //! What is asked for, as a line.
 
-use root_words::{AddedAs, Asked, Command, Listed, PresetMode, RowsOf, UnitsVerb, Wait};
+use root_words::{AddedAs, Asked, Command, Listed, LogAsked, PresetMode, RowsOf, UnitsVerb, Wait};
 use std::alloc::AllocError;
 
 fn push_words(text: &mut String, name: &str, words: &[String]) -> Result<(), AllocError> {
@@ -77,6 +77,17 @@ fn rows_text(rows: Option<RowsOf>) -> &'static str {
     }
 }
 
+fn push_log(text: &mut String, log: &LogAsked) -> Result<(), AllocError> {
+    push_value(text, "unit", &log.unit)?;
+    push_value(text, "operator", &log.operator)?;
+    push_value(text, "since", &log.since)?;
+    if let Some(lines) = log.lines {
+        write!(text, "lines={lines} ")?;
+    }
+    push_if(text, log.full, "full ")?;
+    text.push_str("log")
+}
+
 fn push_command(text: &mut String, command: &Command) -> Result<(), AllocError> {
     match command {
         Command::Units {
@@ -129,7 +140,12 @@ fn push_command(text: &mut String, command: &Command) -> Result<(), AllocError> 
             push_if(text, *anew, "anew ")?;
             text.push_str("keep")
         }
-        Command::Undo(rows) => push_numbers(text, "undo", rows.as_slice()),
+        Command::Log(log) => push_log(text, log),
+        Command::Show(row) => write!(text, "show {row}"),
+        Command::Undo { rows, with_later } => {
+            push_if(text, *with_later, "with-later ")?;
+            push_numbers(text, "undo", rows.as_slice())
+        }
         Command::Redo(rows) => push_numbers(text, "redo", rows.as_slice()),
         Command::Recover => text.push_str("recover"),
         Command::Forget => text.push_str("forget"),
@@ -165,6 +181,9 @@ pub(super) fn push_asked(text: &mut String, asked: &Asked) -> Result<(), AllocEr
     push_wait(text, asked.wait)?;
     push_value(text, "history", &asked.history)?;
     push_if(text, asked.adopt, "adopt ")?;
+    if asked.max != 256 {
+        write!(text, "max={} ", asked.max)?;
+    }
     push_if(text, asked.how.dry_run, "dry ")?;
     push_if(text, asked.how.keep_going, "keep ")?;
     push_if(text, asked.how.vendor, "vendor ")?;

@@ -7,7 +7,7 @@ use std::test::Fail;
 
 #[test]
 fn words_ask_for_calls(rt: HostRuntime) -> Result<(), Fail> {
-    assert_eq!(rt; answered_rows(&rt, rows::ROWS)?, 316);
+    assert_eq!(rt; answered_rows(&rt, rows::ROWS)?, 400);
     Ok(())
 }
 
@@ -40,7 +40,7 @@ fn widest(text: &str) -> usize {
 /// The names of all commands.
 const COMMANDS: &str = "list-unit-files enable disable reenable preset preset-all is-enabled mask \
     unmask link add-wants add-requires get-default set-default list-dependencies status place \
-    remove run keep undo redo recover forget capture diff apply";
+    remove run keep log show undo redo recover forget capture diff apply";
 
 /// The number of commands whose help is wider than 80 columns, or has no example or no `--root`.
 fn bad_helps(rt: &HostRuntime) -> Result<usize, Fail> {

@@ -35,6 +35,9 @@ run | script => file=<script> run
 run | - => run
 run | ./- => file=<./-> run
 keep => keep
+log => log
+show | 1 => show 1
+show | 4294967295 => show 4294967295
 undo | 1 => undo 1
 undo | 3 | 2 | 3 => undo 3 2 3
 redo | 1 => redo 1
@@ -109,13 +112,79 @@ keep | --history=h => history=<h> keep
 redo | 2 | --history | /h | 3 => history=</h> redo 2 3
 recover | --history=/h => history=</h> recover
 forget | --history=/h => history=</h> forget
+log | --unit=ssh => unit=<ssh> log
+--unit | ssh.service | log | --unit=a@b => unit=<a@b> log
+log | --operator=anna | --since | 2026-12-01 => operator=<anna> since=<2026-12-01> log
+--since=2026-12-01 08:30 | --operator | outside | log => operator=<outside> since=<2026-12-01 08:30> log
+log | --since=yesterday => since=<yesterday> log
+log | --unit=a b\n => unit=<a b\n> log
+log | -n | 10 => lines=10 log
+log | -n1 | --lines=4294967295 => lines=4294967295 log
+--lines | 007 | log | --full => lines=7 full log
+log | -l => full log
+--li=3 | log | --unit=a | --op=b | --si=c | --fu => unit=<a> operator=<b> since=<c> lines=3 full log
+--root=/r | log | --wait | --history=/h | --adopt | --json => root=</r> wait history=</h> adopt json log
+log | --no-legend => bare log
+log | -q | --legend=yes => quiet log
+--history=/h | show | 2 | --adopt | --json | --wait=3 | --root=/r => root=</r> wait=3 history=</h> adopt json show 2
+show | 007 | --full => show 7
+undo | --with-later | 3 => with-later undo 3
+--with-later | undo | 3 | --dry-run => dry with-later undo 3
+undo | 3 | --with-l => with-later undo 3
+log | -n | 0 => 2 --lines=0: N is a whole number from 1 to 4,294,967,295
+log | -n4294967296 => 2 --lines=4294967296: N is a whole number from 1 to 4,294,967,295
+--lines=ten | log => 2 --lines=ten: N is a whole number from 1 to 4,294,967,295
+log | --lines= => 2 --lines=: N is a whole number from 1 to 4,294,967,295
+log | --lines=+1 => 2 --lines=+1: N is a whole number from 1 to 4,294,967,295
+log | --lines=-1 => 2 --lines=-1: N is a whole number from 1 to 4,294,967,295
+log | -n1 | -n | 1.5 => 2 --lines=1.5: N is a whole number from 1 to 4,294,967,295
+log | --unit= => 2 --unit= is without a value
+--operator | <> | log => 2 --operator= is without a value
+log | --since= => 2 --since= is without a value
+undo | --with-later | 3 | 2 => 2 undo --with-later takes one ROW, and finds the other rows itself
+undo | 3 | 3 | --with-later => 2 undo --with-later takes one ROW, and finds the other rows itself
+undo | 3 | x | --with-later => 2 undo x: ROW is a whole number from 1 to 4,294,967,295
+redo | 3 | --with-later => 2 --with-later is no option of redo
+--with-later | log => 2 --with-later is no option of log
+run | --with-later => 2 --with-later is no option of run
+show | 1 | --with-later => 2 --with-later is no option of show
+show | 1 | --unit=a => 2 --unit is no option of show
+show | 1 | -n1 => 2 --lines is no option of show
+--operator=a | undo | 1 => 2 --operator is no option of undo
+status | a | --since=2026-12-01 => 2 --since is no option of status
+list-unit-files | --unit=a => 2 --unit is no option of list-unit-files
+-n10 | status | a => 2 --lines is no option of status
+redo | 1 | --lines=0 => 2 --lines is no option of redo
+log | --as=anna => 2 --as is no option of log
+show | 1 | --as=anna => 2 --as is no option of show
+--with=/a | log => 2 --with is no option of log
+show | --with=/a | 1 => 2 --with is no option of show
+log | --vendor => 2 --vendor is no option of log
+--anew | log => 2 --anew is no option of log
+show | 1 | --rows=run => 2 --rows is no option of show
+--max=1 | enable | a => max=1 enable <a>
+enable | a | --max=65536 => max=65536 enable <a>
+--max | 256 | status | a => status <a>
+--max=1 | capture | --max=0512 => max=512 capture
+run | --max=1000 | f => max=1000 file=<f> run
+--max=2 | forget => max=2 forget
+log | --max=2 => max=2 log
+--max=0 | enable | a => 2 --max=0: MIB is a whole number from 1 to 65,536
+status | a | --max=65537 => 2 --max=65537: MIB is a whole number from 1 to 65,536
+diff | o | --max=x => 2 --max=x: MIB is a whole number from 1 to 65,536
+--max= | get-default => 2 --max=: MIB is a whole number from 1 to 65,536
+capture | --max=+1 => 2 --max=+1: MIB is a whole number from 1 to 65,536
+capture | --max=-1 => 2 --max=-1: MIB is a whole number from 1 to 65,536
+capture | --max=1.5 => 2 --max=1.5: MIB is a whole number from 1 to 65,536
+capture | --max=1M => 2 --max=1M: MIB is a whole number from 1 to 65,536
+capture | --max=4294967297 => 2 --max=4294967297: MIB is a whole number from 1 to 65,536
 --history= | undo | 1 => 2 --history= is without a directory; a history in the root needs no option
 keep | --history | <> => 2 --history= is without a directory; a history in the root needs no option
 --history=/h | is-enabled | a => 2 --history is no option of is-enabled
 get-default | --history=/h => 2 --history is no option of get-default
 list-unit-files | --history=/h => 2 --history is no option of list-unit-files
 --history=/h | list-dependencies => 2 --history is no option of list-dependencies
---history | /h | status | a => 2 --history is no option of status
+--history | /h | status | a => history=</h> status <a>
 capture | --history= => 2 --history is no option of capture
 diff | --history=/h | o => 2 --history is no option of diff
 --adopt | link | /a => adopt link </a>
@@ -130,7 +199,7 @@ forget | --adopt => adopt forget
 get-default | --adopt => 2 --adopt is no option of get-default
 list-unit-files | --adopt => 2 --adopt is no option of list-unit-files
 --adopt | list-dependencies => 2 --adopt is no option of list-dependencies
-status | a | --adopt => 2 --adopt is no option of status
+status | a | --adopt => adopt status <a>
 --adopt | capture => 2 --adopt is no option of capture
 diff | o | --adopt => 2 --adopt is no option of diff
 --as=anna | undo | 1 | -q => as=<anna> quiet bare undo 1
@@ -232,6 +301,10 @@ enable | --host=h | a => 2 --host works on another machine; unitroot changes fil
  => 2 the command is missing; unitroot --help has all of them
 --root=/r => 2 the command is missing; unitroot --help has all of them
 -- => 2 the command is missing; unitroot --help has all of them
+show | 0 => 2 show 0: ROW is a whole number from 1 to 4,294,967,295
+show | ssh.service => 2 show ssh.service: ROW is a whole number from 1 to 4,294,967,295
+show | 4294967296 => 2 show 4294967296: ROW is a whole number from 1 to 4,294,967,295
+show | <> => 2 show : ROW is a whole number from 1 to 4,294,967,295
 undo | 0 => 2 undo 0: ROW is a whole number from 1 to 4,294,967,295
 redo | 000 => 2 redo 000: ROW is a whole number from 1 to 4,294,967,295
 undo | 007 => undo 7
@@ -253,9 +326,9 @@ undo | \xd9\xa3 => 2 undo \xd9\xa3: ROW is a whole number from 1 to 4,294,967,29
 # What clap answers: help, the version, and bad words.
 --help => 0 clap Enables, disables, masks and presets systemd units in the root directory of an
 -h | enable => 0 clap Enables, disables, masks and presets systemd units in the root directory of an
---version => 0 clap unitroot 1 (as systemctl 252; inventories and scripts of unitadm 1)
--V => 0 clap unitroot 1 (as systemctl 252; inventories and scripts of unitadm 1)
-enable | a | --version => 0 clap unitroot 1 (as systemctl 252; inventories and scripts of unitadm 1)
+--version => 0 clap unitroot 1 (rules 1, as systemctl 252; inventories 1, histories 1)
+-V => 0 clap unitroot 1 (rules 1, as systemctl 252; inventories 1, histories 1)
+enable | a | --version => 0 clap unitroot 1 (rules 1, as systemctl 252; inventories 1, histories 1)
 mask | --help => 0 clap Links the units to /dev/null, so that they can't be started.
 --root=/r | run | -h => 0 clap Runs a script: a call a line, as OPERATOR COMMAND WORDS... Without a file, or
 enabel | a => 2 clap error: unrecognized subcommand 'enabel'
@@ -272,8 +345,19 @@ place | /p => 2 clap error: the following required arguments were not provided:
 set-default => 2 clap error: the following required arguments were not provided:
 is-enabled => 2 clap error: the following required arguments were not provided:
 undo => 2 clap error: the following required arguments were not provided:
+show => 2 clap error: the following required arguments were not provided:
+undo | --with-later => 2 clap error: the following required arguments were not provided:
 redo | --dry-run => 2 clap error: the following required arguments were not provided:
 undo | -1 => 2 clap error: unexpected argument '-1' found
+show | 1 | 2 => 2 clap error: unexpected argument '2' found
+log | 1 => 2 clap error: unexpected argument '1' found
+log | -n => 2 clap error: a value is required for '--lines <N>' but none was supplied
+log | --unit => 2 clap error: a value is required for '--unit <NAME>' but none was supplied
+log | --since => 2 clap error: a value is required for '--since <TIME>' but none was supplied
+capture | --max => 2 clap error: a value is required for '--max <MIB>' but none was supplied
+undo | 1 | --with-later=2 => 2 clap error: unexpected value '2' for '--with-later' found; no more were expected
+log | --help => 0 clap Shows the history, a row a line: its number and time, its operator and call,
+show | -h => 0 clap Shows one row of the history: its run and its call, what that changed and looked
 keep | a => 2 clap error: unexpected argument 'a' found
 recover | 1 => 2 clap error: unexpected argument '1' found
 forget | /h => 2 clap error: unexpected argument '/h' found

@@ -1,0 +1,5 @@
+pub mod Runs
+pub mod Lines
+pub mod Concerns
+pub mod Filters
+pub mod Tables
