@@ -1,5 +1,5 @@
 -- One row more of a log.
-use Rattle.std.proofs.Common.{◌≡◌, ◌+◌, ℕ, Bool, cond, List, ◌∷◌, Option, refl, sym, subst, ap}
+use Rattle.std.proofs.Common.{◌≡◌, ◌+◌, ℕ, cond, List, ◌∷◌, Option, sym, subst, ap}
 use Rattle.kept_texts.specs.declared.runs.Run.{Run}
 use Rattle.history.specs.declared.row.Row.{Row}
 use Rattle.unit_script.specs.declared.action.Action.{Action}

@@ -1,6 +1,6 @@
 -- Which rows concern a unit: the call names it, or one of the changes is at a path or at a link
 -- whose target ends with its name.
-use Rattle.std.specs.Prelude.{ℕ, Bool, true, false, ◌||◌, List, Option, Some, None}
+use Rattle.std.specs.Prelude.{ℕ, Bool, false, ◌||◌, List, Option, Some, None}
 use Rattle.std.specs.List.{list_any, after_last}
 use Rattle.std.specs.Str.{bytes_eq}
 use Rattle.unit_paths.specs.Paths.{is_slash, name_at}

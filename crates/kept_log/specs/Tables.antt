@@ -1,5 +1,5 @@
 -- The table of a log.
-use Rattle.std.specs.Prelude.{ℕ, ◌+◌, ◌-◌, ◌==◌, max, min, nat_le, nat_lt, Bool, true, false, ◌||◌, if◌then◌else◌, List, [], ◌∷◌, ◌++◌, length, replicate, fold, Option, Some, None, codes}
+use Rattle.std.specs.Prelude.{ℕ, ◌-◌, ◌==◌, max, min, nat_le, nat_lt, Bool, true, false, ◌||◌, if◌then◌else◌, List, [], ◌∷◌, ◌++◌, length, replicate, fold, Option, Some, None, codes}
 use Rattle.std.specs.Fmt.{decimal}
 use Rattle.std.specs.List.{filter, flat_map}
 use Rattle.kept_log.specs.declared.table.LogLine.{LogLine}
@@ -47,8 +47,8 @@ operator_width least lines = fold (λ wide line. max wide (width line.operator))
 abbrev pub call_width : (least : ℕ) → List LogLine → ℕ
 call_width least lines = fold (λ wide line. max wide (width line.call.items)) least lines
 
--- What so many columns leave for calls, but at least 12. The other columns, and the blanks between
--- columns, have 21 besides those of the first three.
+-- What a table of N columns leaves for calls, but at least 12. The other columns, and the blanks
+-- between columns, have 21 besides those of the first three.
 abbrev pub room : (columns number time operator : ℕ) → ℕ
 room columns number time operator = max 12 (columns - number - time - operator - 21)
 

@@ -25,7 +25,7 @@ fn split_lines<'a>(alloc: Global, text: &'a [u8]) -> Result<Vec<&'a [u8]>, Alloc
     text.split(|b| *b == b'\n').collect(alloc)
 }
 
-/// The lines after so many.
+/// The lines after the first N.
 #[tactic(auto, using(std::proofs::lemmas::List::drop_all))]
 fn lines_after<'a, 'l>(lines: &'l [&'a [u8]], count: usize) -> &'l [&'a [u8]]
     ensures { result.now ≡ drop count lines.now }

@@ -42,7 +42,7 @@ pub fn run_of_row(runs: &[Run], n: u32) -> Option<&Run>
 /// A place among the rows of runs: the first is that of row 1.
 #[derive(Clone, Copy, Debug, PartialEq, Eq)]
 pub struct RunPlace {
-    /// How many runs are behind it.
+    /// How many runs come before it.
     pub run: usize,
     /// How many rows after these are.
     pub row: usize,

@@ -4,8 +4,8 @@ ghost use Rattle.std.specs.Option.{option_copied};
 ghost use Rattle.history.specs.declared.history.TheConstants.{MAX_ROWS};
 ghost use Rattle.kept_log.specs.Filters.{is_since, is_of_unit, is_of_operator, is_run_since, is_of_time, meets, met_after, last_of, rows_of_log};
 
-use crate::of_units::concerns;
 use crate::filter::Filter;
+use crate::of_units::concerns;
 use crate::runs::{RunPlace, next_run};
 use history::{Operator, Row};
 use kept_texts::{Run, Time};

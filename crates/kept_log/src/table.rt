@@ -104,7 +104,7 @@ fn call_width(least: usize, lines: &[LogLine]) -> usize
         .fold(least, |wide, line| wider(wide, &line.call))
 }
 
-/// What so many columns leave for calls, but at least 12.
+/// What a table of N columns leaves for calls, but at least 12.
 fn room(columns: usize, number: usize, time: usize, operator: usize) -> usize
     ensures { result ≡ room columns number time operator }
 {

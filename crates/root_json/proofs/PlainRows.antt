@@ -34,7 +34,7 @@ use Rattle.root_json.specs.Changes.{with_entry, entry_data, side_data, sides_dat
 use Rattle.root_json.specs.Answers.{notice_data, notices_data, with_subject, kind, of_unit, of_path, refusal_members, of_row, by_row, undo_refusal_members, redo_refusal_members, with_reply_word, with_state, with_refusal, with_answer, with_row_of, with_reply}
 use Rattle.root_json.specs.Rows.{with_line, with_words, call_members, row_data}
 use Rattle.root_json.specs.Logs.{with_run, row_or_null, with_changes, log_members, log_data, scope_text, key_members, key_data, keys_data, numbers_data, refusal_or_null, shown_members, shown_data}
-use Rattle.root_json.specs.Lines.{summary_data, word_data, unit_file_data, unit_members, unit_data, state_data, with_word, error_data, path_data, status_data, warning_data}
+use Rattle.root_json.specs.Lines.{summary_data, word_data, unit_file_data, unit_members, unit_data, state_data, with_word, error_data, path_data, status_data, warning_data, maker_data}
 use Rattle.root_json.proofs.Plain.{IsPlain, ArePlain, none_plain, member_plain, object_plain, null_plain, boolean_plain, count_plain, string_plain, text_plain, array_plain, texts_plain}
 
 -- one member more, with the facts in the order in which members are read from the end
@@ -222,6 +222,11 @@ status_plain status =
 
 pub warning_plain : (name warning : List ℕ) → IsPlain 5 (warning_data name warning)
 warning_plain name warning = object_plain 4 5 _ (omega arith) (last 4 _ _ _ (text_plain 3 warning) (named_plain name))
+
+pub maker_plain : (unit path : List ℕ) (row : ℕ) (operator : List ℕ) → IsPlain 5 (maker_data unit path row operator)
+maker_plain unit path row operator =
+    object_plain 4 5 _ (omega arith)
+    (last 4 _ _ _ (text_plain 3 operator) (last 4 _ _ _ (count_plain 4 row) (last 4 _ _ _ (text_plain 3 path) (named_plain unit))))
 
 run_plain : (ms : Members) (time login program : List ℕ) → ArePlain 4 ms → ArePlain 4 (with_run ms time login program)
 run_plain ms time login program those =

@@ -106,9 +106,13 @@ status_data status = object (with_links (with_states (found_members status) stat
 abbrev pub warning_data : List ℕ → List ℕ → Data
 warning_data name warning = object (unit_members name with codes "warning" being text_data warning)
 
--- which row of a history made what is at a path of a unit, and whose row it is
-abbrev pub maker_data : (unit path : List ℕ) → (row : ℕ) → (operator : List ℕ) → Data
-maker_data unit path row operator = object (unit_members unit
+-- which row of a history made what is at a path, and whose row it is
+abbrev pub with_maker : Members → (path : List ℕ) → (row : ℕ) → (operator : List ℕ) → Members
+with_maker ms path row operator = ms
     with codes "path" being text_data path
     with codes "made_by" being count row
-    with codes "operator" being text_data operator)
+    with codes "operator" being text_data operator
+
+-- the same of a path of a unit
+abbrev pub maker_data : (unit path : List ℕ) → (row : ℕ) → (operator : List ℕ) → Data
+maker_data unit path row operator = object (with_maker (unit_members unit) path row operator)

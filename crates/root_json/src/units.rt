@@ -3,7 +3,7 @@ ghost use Rattle.std.specs.Prelude.{◌≡◌, ◌++◌, IfOk, OnOk, OnErr, map,
 ghost use Rattle.serde_json.specs.View.{members_view, view};
 ghost use Rattle.unit_lists.specs.UnitLines.{preset_text};
 ghost use Rattle.root_json.specs.Objects.{text_data, texts_data};
-ghost use Rattle.root_json.specs.Lines.{AddsLine, word_data, path_data, found_members, with_states, with_links, status_data, warning_data, maker_data};
+ghost use Rattle.root_json.specs.Lines.{AddsLine, word_data, path_data, found_members, with_states, with_links, status_data, warning_data, with_maker, maker_data};
 
 use crate::lines::{push_line, unit_object};
 use crate::objects::{Object, put_count, put_value, put_word};
@@ -118,6 +118,21 @@ pub fn push_warning(out: &mut Vec<u8>, unit: &UnitName, warning: &[u8]) -> Resul
     push_line(out, &value)
 }
 
+/// Puts which row made what is at a path, and whose row it is.
+fn put_maker(
+    alloc: Global,
+    object: &mut Object,
+    path: &TreePath,
+    row: u32,
+    operator: &[u8],
+) -> Result<(), AllocError>
+    ensures { OnOk result (members_view object.new.entries ≡ with_maker (members_view object.old.entries) path.now row operator.now) }
+{
+    put_text(alloc, object, "path", path.text())?;
+    put_count(alloc, object, "made_by", row as usize)?;
+    put_text(alloc, object, "operator", operator)
+}
+
 fn maker_value(
     alloc: Global,
     unit: &UnitName,
@@ -128,9 +143,7 @@ fn maker_value(
     ensures { IfOk result (λ value. view value ≡ maker_data unit.now path.now row operator.now) }
 {
     let mut object = unit_object(alloc, unit)?;
-    put_text(alloc, &mut object, "path", path.text())?;
-    put_count(alloc, &mut object, "made_by", row as usize)?;
-    put_text(alloc, &mut object, "operator", operator)?;
+    put_maker(alloc, &mut object, path, row, operator)?;
     Ok(Value::Object(object))
 }
 

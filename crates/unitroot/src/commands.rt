@@ -1,23 +1,19 @@
 //! Commands of systemctl: each makes a call or a few, and answers as systemctl does.
 
-use crate::bad_words::bad_call;
-use crate::failure::Failure;
-use crate::kept::{
-    Context, Taken, Wanted, check_operator, line_of_file, lines_of_calls, note_promise,
-    run_on_kept, take,
-};
-use crate::made::{Made, capture_for, made_in, made_on};
-use crate::placing::{call_for_input, path_of};
-use crate::presets::{choose_all, left_out_text, mode_of, units_in_mode};
-use crate::printing::{Done, print_messages};
-use crate::reading::read_text;
-use crate::report::{Report, is_question, print_report, report_of};
-use crate::root::take_root;
 use footprint::Units;
 use history::{History, Operator, Request};
 use install_commands::{Disable, Preset};
 use link_tree::{Scope, Tree};
 use real_roots::RealDisk;
+use root_access::{Done, Failure, bad_call, print_messages, read_text, take_root};
+use root_histories::{
+    Context, Taken, Wanted, check_operator, line_of_file, lines_of_calls, note_promise,
+    run_on_kept, take,
+};
+use root_reports::{
+    Made, Report, call_for_input, capture_for, choose_all, is_question, left_out_text, made_in,
+    made_on, mode_of, path_of, print_report, report_of, units_in_mode,
+};
 use root_runs::{CallError, CallWords, Plan, calls_of, script_of};
 use root_words::{Command, PresetMode};
 use std::alloc::{AllocError, Global};

@@ -1,12 +1,9 @@
 //! Which units a root has: `list-unit-files`.
 
-use crate::failure::Failure;
-use crate::json::units_text;
-use crate::kept::note_promise;
-use crate::made::capture_to_list;
-use crate::printing::{Done, print};
-use crate::root::{paths_of, take_root};
 use link_tree::Tree;
+use root_access::{Done, Failure, paths_of, print, take_root};
+use root_histories::note_promise;
+use root_reports::{capture_to_list, units_text};
 use root_words::{Asked, Listed};
 use std::alloc::{AllocError, Global};
 use unit_file::Word;

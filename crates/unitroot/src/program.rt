@@ -1,17 +1,15 @@
 //! What the program does for each command.
 
 use crate::commands::{place_input, run_command, run_preset_all};
-use crate::failure::Failure;
-use crate::kept::{
-    Context, canonical_root, forget, keep, recover_root, show_log, show_row, variable,
-};
 use crate::listing::list_unit_files;
-use crate::placing::path_for_input;
-use crate::printing::print_messages;
 use crate::scripts::run_script;
 use crate::status::show_status;
 use crate::whole::{apply_inventory, report_differences, write_capture};
 use history::Operator;
+use root_access::{Failure, print_messages};
+use root_histories::{Context, canonical_root, forget, keep, recover_root, variable};
+use root_log::{show_log, show_row};
+use root_reports::path_for_input;
 use root_runs::login_operator;
 use root_words::{Asked, Command};
 use std::alloc::AllocError;

@@ -1,11 +1,9 @@
 //! Scripts that are run on a root.
 
-use crate::bad_words::bad_lines_of;
 use crate::commands::run_calls;
-use crate::failure::Failure;
-use crate::kept::{Context, Taken, check_script, run_on_kept, take, wanted_lines};
-use crate::reading::read_text;
 use byte_streams::{FromRead, ReadError};
+use root_access::{Failure, bad_lines_of, read_text};
+use root_histories::{Context, Taken, check_script, run_on_kept, take, wanted_lines};
 use root_words::RowsOf;
 use std::alloc::Global;
 use unit_script::{Call, read_script};

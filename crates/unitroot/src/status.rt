@@ -1,33 +1,21 @@
 //! What units are, and what enables or masks them: `status`.
 
-use crate::failure::Failure;
-use crate::json::push_status_lines;
-use crate::kept::{Context, MadeBy, look_at_root, makers_of};
-use crate::made::capture_to_list;
-use crate::printing::{Done, print, shown_lines};
-use crate::root::paths_of;
 use kept_runs::Kept;
 use link_tree::{Tree, push_decimal};
-use root_runs::{Suffix, named};
+use root_access::{Done, Failure, name_of, paths_of, print, shown_lines};
+use root_histories::Context;
+use root_json::{push_maker, push_unit_status};
+use root_log::{MadeBy, look_at_root, makers_of};
+use root_reports::capture_to_list;
 use std::alloc::{AllocError, Global};
 use unit_lists::{PathNote, UnitStatus, push_status, unit_status};
-use unit_name::{NameError, UnitName};
+use unit_name::UnitName;
 
 /// A unit, and the rows of the history that made what is shown of it.
 #[derive(Drop)]
 struct Shown {
     status: UnitStatus,
     makers: Vec<MadeBy>,
-}
-
-/// The name that a word stands for.
-pub(crate) fn name_of(alloc: Global, word: &str) -> Result<UnitName, Failure> {
-    let name = named(alloc, word.as_bytes(), Suffix::Service)?;
-    match UnitName::parse(alloc, &name) {
-        Ok(name) => Ok(name),
-        Err(NameError::Bad(_)) => Err(Failure::bad_word(alloc, "bad name", word)?),
-        Err(NameError::OutOfMemory) => Err(Failure::OutOfMemory),
-    }
 }
 
 /// The names that words stand for.
@@ -87,6 +75,25 @@ fn text_of(alloc: Global, all: &[Shown]) -> Result<Vec<u8>, AllocError> {
         push_shown(alloc, &mut text, shown)?;
     }
     shown_lines(alloc, &text)
+}
+
+/// Appends all that is known of a unit, and which rows of the history made what is at its paths.
+fn push_status_lines(
+    out: &mut Vec<u8>,
+    status: &UnitStatus,
+    makers: &[MadeBy],
+) -> Result<(), AllocError> {
+    push_unit_status(out, status)?;
+    for maker in makers {
+        push_maker(
+            out,
+            &status.name,
+            &maker.path,
+            maker.row,
+            maker.operator.text(),
+        )?;
+    }
+    Ok(())
 }
 
 fn json_of(alloc: Global, all: &[Shown]) -> Result<Vec<u8>, AllocError> {

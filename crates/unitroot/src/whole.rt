@@ -1,16 +1,14 @@
 //! Commands on a whole root: its inventory, how it differs, and making it as an inventory says.
 
-use crate::everything::push_everything;
-use crate::failure::{Failure, capture_failure};
-use crate::json::{applied_text, changes_text};
-use crate::kept::{Context, Taken, disk_after_recovery, note_promise, take};
-use crate::made::capture_for;
-use crate::printing::{Done, print, shown_lines};
-use crate::reading::read_tree;
-use crate::root::{captured_in, forbidden, make_tree, paths_of, take_root};
 use byte_streams::ToWrite;
 use link_tree::{Change, Tree, write_inventory};
 use real_roots::RealDisk;
+use root_access::{
+    Done, Failure, capture_failure, captured_in, forbidden, make_tree, paths_of, print,
+    push_everything, read_tree, shown_lines, take_root,
+};
+use root_histories::{Context, Taken, disk_after_recovery, note_promise, take};
+use root_reports::{applied_text, capture_for, changes_text};
 use root_runs::first_of_vendor;
 use root_words::Asked;
 use std::alloc::{AllocError, Global};

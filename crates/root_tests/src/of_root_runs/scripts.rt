@@ -1,7 +1,7 @@
 //! The calls of commands.
 
 use root_runs::{CallError, CallWords, calls_of, script_of};
-use root_words::{AddedAs, Command, Listed, PresetMode, UnitsVerb};
+use root_words::{AddedAs, Command, Listed, LogAsked, PresetMode, UnitsVerb};
 use sample_rows::{Row, unlike};
 use std::alloc::{AllocError, Global};
 use std::str;
@@ -55,6 +55,7 @@ const ROWS: &[u8] = b"\
     \n\
     # a call for each row of a history\n\
     undo\t\t\t[undo][7]\\n[undo][4294967295]\n\
+    undo with-later\t\t\t[undo][7]\\n[undo][4294967295]\n\
     redo\t\t\t[redo][7]\\n[redo][4294967295]\n\
     \n\
     # words of a script stay as they are\n\
@@ -67,6 +68,8 @@ const ROWS: &[u8] = b"\
     list-unit-files\t\t\tno calls\n\
     status\tssh\t\tno calls\n\
     keep\t\t\tno calls\n\
+    log\t\t\tno calls\n\
+    show\t\t\tno calls\n\
     run\t\t\tno calls\n\
     capture\t\t\tno calls\n\
     diff\t\t\tno calls\n\
@@ -206,6 +209,32 @@ fn other_command(alloc: Global, kind: &[u8], text: &[u8]) -> Result<Option<Comma
     Ok(Some(command))
 }
 
+/// A command about the history of a root.
+fn history_command(alloc: Global, kind: &[u8]) -> Result<Option<Command>, AllocError> {
+    Ok(Some(if is(kind, b"undo") || is(kind, b"undo with-later") {
+        Command::Undo {
+            rows: rows(alloc)?,
+            with_later: is(kind, b"undo with-later"),
+        }
+    } else if is(kind, b"redo") {
+        Command::Redo(rows(alloc)?)
+    } else if is(kind, b"keep") {
+        Command::Keep { anew: true }
+    } else if is(kind, b"log") {
+        Command::Log(LogAsked {
+            unit: None,
+            operator: None,
+            since: None,
+            lines: None,
+            full: false,
+        })
+    } else if is(kind, b"show") {
+        Command::Show(1)
+    } else {
+        return Ok(None);
+    }))
+}
+
 /// A command that systemctl doesn't have, or that makes no calls.
 fn own_command(alloc: Global, kind: &[u8], text: &[u8]) -> Result<Command, AllocError> {
     Ok(if is(kind, b"place") {
@@ -225,17 +254,11 @@ fn own_command(alloc: Global, kind: &[u8], text: &[u8]) -> Result<Command, Alloc
         })
     } else if is(kind, b"status") {
         Command::Status(words(alloc, text)?)
-    } else if is(kind, b"undo") {
-        Command::Undo(rows(alloc)?)
-    } else if is(kind, b"redo") {
-        Command::Redo(rows(alloc)?)
     } else if is(kind, b"run") {
         Command::Run {
             file: None,
             rows: None,
         }
-    } else if is(kind, b"keep") {
-        Command::Keep { anew: true }
     } else if is(kind, b"capture") {
         Command::Capture { all: true }
     } else if is(kind, b"diff") {
@@ -252,6 +275,9 @@ fn command(alloc: Global, kind: &[u8], text: &[u8]) -> Result<Box<Command>, Allo
         return Ok(Box::new(alloc, command)?);
     }
     if let Some(command) = other_command(alloc, kind, text)? {
+        return Ok(Box::new(alloc, command)?);
+    }
+    if let Some(command) = history_command(alloc, kind)? {
         return Ok(Box::new(alloc, command)?);
     }
     Ok(Box::new(alloc, own_command(alloc, kind, text)?)?)

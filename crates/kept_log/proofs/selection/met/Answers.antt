@@ -1,6 +1,5 @@
-use Rattle.std.proofs.Common.{◌≡◌, ◌∙◌, ◌+◌, ◌++◌, ◌∷◌, ℕ, drop, get_or, ap, sym, refl, arith, rules}
+use Rattle.std.proofs.Common.{◌≡◌, ◌∙◌, ◌+◌, ◌++◌, ◌∷◌, drop, ap, sym, arith}
 use Rattle.std.proofs.lemmas.List.{drop_more}
-use Rattle.std.specs.Option.{option_copied}
 use Rattle.kept_log.specs.Filters.{met_after}
 use Rattle.kept_log.specs.Runs.{run_after}
 use Rattle.kept_log.proofs.Choices.{one_more}

@@ -1,0 +1,207 @@
+//! How a run on a root with a history ends.
+
+use crate::context::Context;
+use crate::kept_root::KeptRoot;
+use disk::{CaptureError, StepError};
+use kept_history::{FinishError, RunError};
+use kept_runs::{Kept, commit, commit_others};
+use link_tree::Tree;
+use real_roots::RealDisk;
+use root_access::{Failure, Reason, capture_failure, read_trouble, shown_path};
+use std::alloc::{AllocError, AllocFailed, Global};
+use tree_steps::steps_between;
+
+/// Why a run on a root with a history stopped. What the system reported is known to the disk, which
+/// is asked for it in the end.
+#[derive(Drop)]
+pub enum Stop {
+    Failed(Failure),
+    Uncaptured(CaptureError),
+    /// The run wasn't made, or not wholly. The path is that of the step that failed, if one did.
+    Unmade(RunError, Option<String>),
+    /// A run that was cut short could not be finished.
+    Unfinished(FinishError),
+}
+
+impl From<Failure> for Stop {
+    fn from(failure: Failure) -> Stop {
+        Stop::Failed(failure)
+    }
+}
+
+impl From<AllocError> for Stop {
+    fn from(_e: AllocError) -> Stop {
+        Stop::Failed(Failure::OutOfMemory)
+    }
+}
+
+impl<T: Drop> From<AllocFailed<T>> for Stop {
+    fn from(_e: AllocFailed<T>) -> Stop {
+        Stop::Failed(Failure::OutOfMemory)
+    }
+}
+
+impl From<CaptureError> for Stop {
+    fn from(e: CaptureError) -> Stop {
+        Stop::Uncaptured(e)
+    }
+}
+
+/// The step that failed, if one did.
+fn failed_step(error: RunError) -> Option<usize> {
+    match error {
+        RunError::Refused { step, .. } | RunError::Withdrawn { step, .. } => Some(step),
+        RunError::HalfWithdrawn { step, .. } => Some(step),
+        RunError::NotPromised(_) | RunError::Unfinished(_) => None,
+    }
+}
+
+/// The path of the step that failed.
+fn failed_path(
+    alloc: Global,
+    old: &Tree,
+    kept: &Kept,
+    error: RunError,
+) -> Result<Option<String>, AllocError> {
+    let Some(step) = failed_step(error) else {
+        return Ok(None);
+    };
+    let steps = steps_between(alloc, old, kept.history().tree())?;
+    match steps.get(step) {
+        Some(change) => Ok(Some(shown_path(alloc, &change.path)?)),
+        None => Ok(None),
+    }
+}
+
+/// Writes a history to the disk. The root already is as it says.
+pub fn write_to(alloc: Global, root: &mut KeptRoot<'_>, kept: &Kept) -> Result<(), Stop> {
+    match commit_others(alloc, &mut root.disk, kept) {
+        Ok(()) => Ok(()),
+        Err(error) => Err(Stop::Unmade(error, None)),
+    }
+}
+
+/// Writes a history to the disk, and makes the steps from a tree to its own, all or none.
+pub fn commit_to(
+    alloc: Global,
+    root: &mut KeptRoot<'_>,
+    old: &Tree,
+    kept: &Kept,
+) -> Result<(), Stop> {
+    match commit(alloc, &mut root.disk, old, kept) {
+        Ok(()) => Ok(()),
+        Err(error) => Err(Stop::Unmade(
+            error,
+            failed_path(alloc, old, kept, error).unwrap_or(None),
+        )),
+    }
+}
+
+/// Why a step was not made, if all is as it was.
+fn step_failure(
+    alloc: Global,
+    disk: &mut RealDisk<'_>,
+    why: StepError,
+    path: Option<String>,
+) -> Failure {
+    match why {
+        StepError::Changed | StepError::Odd => match path {
+            Some(path) => Failure::At(path, Reason::Changed),
+            None => Failure::OutOfMemory,
+        },
+        StepError::Failed => read_trouble(alloc, disk),
+        StepError::OutOfMemory => Failure::OutOfMemory,
+    }
+}
+
+/// What the system reported last, after a colon.
+fn reason_of(alloc: Global, disk: &mut RealDisk<'_>) -> Result<String, AllocError> {
+    match disk.take_trouble() {
+        Some(trouble) => format!(in alloc; ": {trouble}"),
+        None => Ok(String::new(alloc)),
+    }
+}
+
+/// The run is promised.
+fn promised(alloc: Global, disk: &mut RealDisk<'_>) -> Failure {
+    Failure::Promised(reason_of(alloc, disk).unwrap_or(String::new(alloc)))
+}
+
+/// All was done, and may not last.
+fn unsynced(disk: &mut RealDisk<'_>) -> Failure {
+    match disk.take_trouble() {
+        Some(trouble) => Failure::Unsynced(trouble),
+        None => Failure::OutOfMemory,
+    }
+}
+
+/// All was taken back, and that may not last.
+fn unsynced_back(disk: &mut RealDisk<'_>) -> Failure {
+    match disk.take_trouble() {
+        Some(trouble) => Failure::NotSettledBack(trouble),
+        None => Failure::OutOfMemory,
+    }
+}
+
+fn unmade_failure(
+    alloc: Global,
+    disk: &mut RealDisk<'_>,
+    is_ending: bool,
+    error: RunError,
+    path: Option<String>,
+) -> Failure {
+    match error {
+        RunError::Refused { why, .. } | RunError::Withdrawn { why, .. } => {
+            step_failure(alloc, disk, why, path)
+        }
+        RunError::NotPromised(why) => step_failure(alloc, disk, StepError::from(why), path),
+        RunError::Unfinished(_) if is_ending => unsynced(disk),
+        RunError::HalfWithdrawn { .. } if is_ending => unsynced_back(disk),
+        RunError::Unfinished(_) | RunError::HalfWithdrawn { .. } => promised(alloc, disk),
+    }
+}
+
+/// Removes the directories that were made for nothing.
+fn after_nothing(disk: &mut RealDisk<'_>, failure: Failure) -> Failure {
+    if failure.status() == 1 {
+        let _removed = disk.settle_back();
+    }
+    failure
+}
+
+/// Why a run failed. The history is unlocked.
+fn failure_of(alloc: Global, root: KeptRoot<'_>, stop: Stop) -> Failure {
+    let is_ending = root.disk.is_ending();
+    let mut disk = root.disk.into_disk();
+    match stop {
+        Stop::Failed(failure) => after_nothing(&mut disk, failure),
+        Stop::Uncaptured(e) => capture_failure(alloc, &mut disk, e),
+        Stop::Unmade(error, path) => unmade_failure(alloc, &mut disk, is_ending, error, path),
+        Stop::Unfinished(_) if is_ending => unsynced(&mut disk),
+        Stop::Unfinished(_) => promised(alloc, &mut disk),
+    }
+}
+
+/// Ends a run on a root with a history, which is unlocked.
+pub fn end(cx: Context<'_>, root: KeptRoot<'_>, ended: Result<u8, Stop>) -> Result<u8, Failure> {
+    let mut root = root;
+    root.notes.print(cx.rt);
+    match ended {
+        Ok(status) => Ok(status),
+        Err(stop) => Err(failure_of(cx.rt.alloc(), root, stop)),
+    }
+}
+
+/// The root's disk alone, once a run that was cut short is finished. The history is unlocked.
+pub fn disk_after<'a>(
+    cx: Context<'_>,
+    root: KeptRoot<'a>,
+    begun: Result<(), Stop>,
+) -> Result<RealDisk<'a>, Failure> {
+    let mut root = root;
+    root.notes.print(cx.rt);
+    match begun {
+        Ok(()) => Ok(root.disk.into_disk()),
+        Err(stop) => Err(failure_of(cx.rt.alloc(), root, stop)),
+    }
+}

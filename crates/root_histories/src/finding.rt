@@ -1,0 +1,111 @@
+//! Whether a root has a history, and where.
+
+use crate::context::Context;
+use crate::kept_root::KeptRoot;
+use kept_roots::{HistoryDirectory, HistoryPlace, open_directory};
+use real_roots::RealDisk;
+use root_access::{Failure, hold_of, patience_of, print_messages, push_message, take_root};
+use std::alloc::AllocError;
+use std::fs;
+
+/// The history's directory, beneath a root.
+const IN_ROOT: &str = "/var/lib/unitroot";
+
+/// What is said if a run was cut short.
+const PROMISED: &str = "a run is promised: the next run that changes something finishes it";
+
+/// A root that this run has locked.
+#[derive(Drop)]
+pub enum Taken<'a> {
+    Plain(RealDisk<'a>),
+    Kept(KeptRoot<'a>),
+}
+
+/// Where the history is. The root must not be locked yet, since a relative path is resolved in the
+/// working directory.
+pub fn place_of(cx: Context<'_>) -> Result<HistoryPlace, Failure> {
+    match &cx.asked.history {
+        Some(directory) => Ok(HistoryPlace::outside(cx.rt, cx.root, directory.as_str())?),
+        None => Ok(HistoryPlace::InRoot),
+    }
+}
+
+/// Whether a file is in the directory of a history.
+pub fn has_file(rt: &HostRuntime, directory: &str, name: &str) -> Result<bool, AllocError> {
+    let path = format!(in rt.alloc(); "{directory}/{name}")?;
+    Ok(fs::symlink_metadata(rt, &path).is_ok())
+}
+
+/// Whether there is a history in a directory.
+fn has_history(rt: &HostRuntime, directory: &HistoryDirectory<'_>) -> Result<bool, AllocError> {
+    let path = directory.path();
+    Ok(has_file(rt, path, "history")? || has_file(rt, path, "history.next")?)
+}
+
+/// The directory of the history of a root, if it has a history.
+pub fn directory_of<'a>(
+    cx: Context<'a>,
+    disk: &mut RealDisk<'a>,
+    place: &HistoryPlace,
+) -> Result<Option<HistoryDirectory<'a>>, Failure> {
+    let (hold, patience) = (hold_of(cx.asked), patience_of(cx.asked.wait));
+    match open_directory(cx.rt, disk, place, hold, patience) {
+        Ok(Some(directory)) if has_history(cx.rt, &directory)? => Ok(Some(directory)),
+        Ok(_) => Ok(None),
+        Err(e) => Err(Failure::from(e)),
+    }
+}
+
+/// Locks a root, and its history if it has one at this place.
+pub fn take_any<'a>(cx: Context<'a>, place: &HistoryPlace) -> Result<Taken<'a>, Failure> {
+    let mut disk = take_root(cx.rt, cx.asked, cx.root)?;
+    match directory_of(cx, &mut disk, place) {
+        Ok(Some(directory)) => Ok(Taken::Kept(KeptRoot::new(cx, disk, directory))),
+        Ok(None) => Ok(Taken::Plain(disk)),
+        Err(failure) => Err(failure),
+    }
+}
+
+/// Locks a root, and its history if it has one.
+///
+/// Error: `NoHistory` if `--history` names a directory without one.
+pub fn take(cx: Context<'_>) -> Result<Taken<'_>, Failure> {
+    let place = place_of(cx)?;
+    match take_any(cx, &place)? {
+        Taken::Plain(_) if cx.asked.history.is_some() => Err(Failure::NoHistory),
+        taken => Ok(taken),
+    }
+}
+
+/// Whether a run is promised in the history in a root. If that can't be seen, it isn't said.
+fn is_promised_in_root(rt: &HostRuntime, disk: &mut RealDisk<'_>) -> bool {
+    let is_there = match disk.go_to(IN_ROOT, false) {
+        Ok(true) => fs::symlink_metadata(rt, "history.next").is_ok(),
+        _ => false,
+    };
+    disk.leave();
+    is_there
+}
+
+/// Says on standard error if a run on a root that is only looked at was cut short.
+pub fn note_promise(
+    rt: &HostRuntime,
+    disk: &mut RealDisk<'_>,
+    json: bool,
+) -> Result<(), AllocError> {
+    if is_promised_in_root(rt, disk) {
+        let mut text = Vec::new(rt.alloc());
+        push_message(rt.alloc(), &mut text, PROMISED.as_bytes(), 0, json)?;
+        print_messages(rt, &text);
+    }
+    Ok(())
+}
+
+/// The same for a dry run on a root with a history.
+pub fn note_promise_of(cx: Context<'_>, root: &mut KeptRoot<'_>) -> Result<(), AllocError> {
+    let is_promised = has_file(cx.rt, root.disk.directory().path(), "history.next")?;
+    if is_promised {
+        root.notes.warn(PROMISED)?;
+    }
+    Ok(())
+}

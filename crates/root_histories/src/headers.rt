@@ -1,0 +1,83 @@
+//! The header of a history, which says for which root it was begun.
+
+use crate::context::Context;
+use crate::marks::{label_of, new_id};
+use kept_runs::{KeepIf, Kept, LinesError};
+use kept_texts::{Header, Run};
+use link_tree::Tree;
+use root_access::Failure;
+use std::alloc::Global;
+
+/// A header for the history of this root.
+fn header_of(cx: Context<'_>, id: [u8; 16]) -> Result<Header, Failure> {
+    let root = label_of(cx.rt, cx.path.as_bytes())?;
+    Ok(Header { id, root })
+}
+
+/// A history of this root without calls, which begins with this tree.
+pub fn new_history(cx: Context<'_>, first: &Tree) -> Result<Kept, Failure> {
+    let header = header_of(cx, new_id(cx.rt)?)?;
+    begun(cx.rt.alloc(), first, header)
+}
+
+fn begun(alloc: Global, first: &Tree, header: Header) -> Result<Kept, Failure> {
+    match Kept::begin(alloc, first.share()?, header) {
+        Ok(kept) => Ok(kept),
+        Err(e) => Err(Failure::from(e)),
+    }
+}
+
+/// The bytes of a text from this line on. Lines count from 1.
+fn from_line(text: &[u8], line: usize) -> &[u8] {
+    let mut start: usize = 0;
+    let mut number: usize = 1;
+    for one in text.split_inclusive(|b| *b == b'\n') {
+        if number >= line {
+            return text.get(start..).unwrap_or(&[]);
+        }
+        start = start.saturating_add(one.len());
+        number = number.saturating_add(1);
+    }
+    &[]
+}
+
+/// The lines of calls at the beginning of a text, up to a comment.
+fn lines_before_comment(text: &[u8]) -> &[u8] {
+    let mut end: usize = 0;
+    for line in text.split_inclusive(|b| *b == b'\n') {
+        if line.starts_with(b"#") {
+            return text.get(..end).unwrap_or(&[]);
+        }
+        end = end.saturating_add(line.len());
+    }
+    text
+}
+
+/// Makes the calls of a run of another history again.
+fn push_run(alloc: Global, kept: &mut Kept, text: &[u8], run: &Run) -> Result<(), Failure> {
+    let lines = lines_before_comment(from_line(text, run.line.saturating_add(1)));
+    match kept.make_calls(alloc, lines, &run.words, KeepIf::Accepted) {
+        Ok(_count) => Ok(()),
+        Err(e) => Err(Failure::from(e)),
+    }
+}
+
+/// Makes the calls of all runs of another history again.
+fn push_runs(alloc: Global, kept: &mut Kept, other: &Kept) -> Result<(), Failure> {
+    let text = other.text().bytes();
+    for run in other.text().runs() {
+        push_run(alloc, kept, text, run)?;
+    }
+    Ok(())
+}
+
+/// The same history as that of this root.
+pub fn adopted(cx: Context<'_>, other: &Kept) -> Result<Kept, Failure> {
+    let alloc = cx.rt.alloc();
+    let header = header_of(cx, other.text().header().id)?;
+    let mut kept = begun(alloc, other.history().first(), header)?;
+    match push_runs(alloc, &mut kept, other) {
+        Ok(()) => Ok(kept),
+        Err(failure) => Err(failure),
+    }
+}

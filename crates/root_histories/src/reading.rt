@@ -1,0 +1,99 @@
+//! Reading a history.
+
+use crate::context::Context;
+use crate::kept_root::KeptRoot;
+use kept_roots::{HistoryFile, MOST_BYTES};
+use kept_runs::{Kept, KeptError};
+use root_access::{Failure, RULES};
+use root_runs::push_shown;
+use std::alloc::{AllocError, Global};
+use unit_script::{InputFault, ScriptFault};
+
+/// A history with more rows is read only if `--history` names it.
+const MOST_ROWS: usize = 100_000;
+
+/// At most this number of bytes is read if `--history` names the history.
+const MOST_BYTES_NAMED: u64 = 1 << 31;
+
+/// At most this number of bytes of a history is read.
+pub fn most_bytes(cx: Context<'_>) -> u64 {
+    if cx.asked.history.is_some() {
+        MOST_BYTES_NAMED
+    } else {
+        MOST_BYTES
+    }
+}
+
+/// Bytes as text for people.
+pub fn shown(alloc: Global, bytes: &[u8]) -> Result<String, AllocError> {
+    let mut text = Vec::new(alloc);
+    push_shown(&mut text, bytes)?;
+    String::from_utf8_lossy(alloc, &text)
+}
+
+/// Whether the history was begun for another root. One that is in the root belongs to it, wherever
+/// the root is now.
+pub fn is_of_other_root(cx: Context<'_>, kept: &Kept) -> bool {
+    cx.asked.history.is_some() && kept.text().header().root.text() != cx.path.as_bytes()
+}
+
+/// Refuses a history of another root, and one that is very long.
+fn check(cx: Context<'_>, kept: &Kept) -> Result<(), Failure> {
+    if is_of_other_root(cx, kept) && !cx.asked.adopt {
+        let root = shown(cx.rt.alloc(), kept.text().header().root.text())?;
+        return Err(Failure::OtherRoot(root));
+    }
+    if cx.asked.history.is_none() && kept.history().rows().len() > MOST_ROWS {
+        return Err(Failure::ManyRows);
+    }
+    Ok(())
+}
+
+/// How many lines of a history are before its header, the last one of which is `== calls`. A file
+/// of the inventory may have these two lines too, but they are before the header, and no run has
+/// them.
+fn lines_before_header(text: &[u8]) -> usize {
+    let (mut before, mut count) = (0_usize, 0_usize);
+    let mut is_after_calls = false;
+    for line in text.split(|b| *b == b'\n') {
+        if is_after_calls && line.starts_with(b"# unitroot-history ") {
+            before = count;
+        }
+        count = count.saturating_add(1);
+        is_after_calls = line == b"== calls".as_slice();
+    }
+    before
+}
+
+/// The history of a text.
+pub fn kept_of(alloc: Global, text: Vec<u8>) -> Result<Kept, Failure> {
+    let before = lines_before_header(&text);
+    match Kept::read(alloc, text, RULES) {
+        Ok(kept) => Ok(kept),
+        Err(KeptError::Input(InputFault::Script(ScriptFault::Bad(line, reason)))) => {
+            Err(Failure::BadCall(before.saturating_add(line as usize), reason))
+        }
+        Err(e) => Err(Failure::from(e)),
+    }
+}
+
+/// The text of the history.
+fn current_text(cx: Context<'_>, root: &mut KeptRoot<'_>) -> Result<Vec<u8>, Failure> {
+    match root
+        .disk
+        .directory()
+        .read(HistoryFile::Current, most_bytes(cx))?
+    {
+        Some(text) => Ok(text),
+        None => Err(Failure::OnlyPromised),
+    }
+}
+
+/// Reads the history of a root.
+pub fn read_kept(cx: Context<'_>, root: &mut KeptRoot<'_>) -> Result<Kept, Failure> {
+    let kept = kept_of(cx.rt.alloc(), current_text(cx, root)?)?;
+    match check(cx, &kept) {
+        Ok(()) => Ok(kept),
+        Err(failure) => Err(failure),
+    }
+}

@@ -1,0 +1,115 @@
+//! Finishing a run that was cut short.
+
+use crate::context::Context;
+use crate::ending::Stop;
+use crate::finding::note_promise_of;
+use crate::kept_root::KeptRoot;
+use crate::reading::{kept_of, most_bytes, read_kept, shown};
+use kept_roots::HistoryFile;
+use kept_runs::{Kept, recover};
+use link_tree::Change;
+use root_access::Failure;
+use std::alloc::{AllocError, Global};
+
+/// The history on the disk, and the one that a run was about to write.
+#[derive(Drop)]
+struct Promise {
+    old: Kept,
+    new: Kept,
+}
+
+/// The text that a run which was cut short was about to write. Before it is read, the directory is
+/// synced. What runs left that were cut short before their promise was removed when it was locked.
+fn promised_text(cx: Context<'_>, root: &mut KeptRoot<'_>) -> Result<Option<Vec<u8>>, Failure> {
+    let most = most_bytes(cx);
+    let directory = root.disk.directory();
+    directory.sync()?;
+    Ok(directory.read(HistoryFile::Next, most)?)
+}
+
+fn read_promise(
+    cx: Context<'_>,
+    root: &mut KeptRoot<'_>,
+    next: Vec<u8>,
+) -> Result<Promise, Failure> {
+    let new = kept_of(cx.rt.alloc(), next)?;
+    match read_kept(cx, root) {
+        Ok(old) => Ok(Promise { old, new }),
+        Err(failure) => Err(failure),
+    }
+}
+
+/// `1 row` or `N rows`.
+pub fn rows_text(alloc: Global, count: usize) -> Result<String, AllocError> {
+    if count == 1 {
+        String::from_str(alloc, "1 row")
+    } else {
+        format!(in alloc; "{count} rows")
+    }
+}
+
+/// Says which run was finished.
+fn note_finished(
+    cx: Context<'_>,
+    root: &mut KeptRoot<'_>,
+    promise: &Promise,
+) -> Result<(), AllocError> {
+    let alloc = cx.rt.alloc();
+    let before = promise.old.history().rows().len();
+    let count = promise.new.history().rows().len().saturating_sub(before);
+    let rows = rows_text(alloc, count)?;
+    match promise.new.text().runs().last() {
+        Some(run) => {
+            let time = shown(alloc, run.words.time.text())?;
+            let login = shown(alloc, run.words.login.text())?;
+            let line = format!(in alloc; "finished a run of {time} by {login}: {rows}")?;
+            root.notes.say(line.as_str())
+        }
+        None => Ok(()),
+    }
+}
+
+/// Says which paths were left as others made them.
+fn note_foreign(
+    cx: Context<'_>,
+    root: &mut KeptRoot<'_>,
+    foreign: &[Change],
+) -> Result<(), AllocError> {
+    let alloc = cx.rt.alloc();
+    for change in foreign {
+        let path = shown(alloc, change.path.text())?;
+        let line = format!(in alloc; "{path}: changed by others: left")?;
+        root.notes.warn(line.as_str())?;
+    }
+    Ok(())
+}
+
+/// Finishes a run, and says so.
+fn finish(cx: Context<'_>, root: &mut KeptRoot<'_>, promise: &Promise) -> Result<(), Stop> {
+    match recover(cx.rt.alloc(), &mut root.disk, &promise.old, &promise.new) {
+        Ok(foreign) => {
+            note_finished(cx, root, promise)?;
+            Ok(note_foreign(cx, root, &foreign)?)
+        }
+        Err(e) => Err(Stop::Unfinished(e)),
+    }
+}
+
+/// Finishes a run that was cut short, if there is one.
+pub fn finish_promised(cx: Context<'_>, root: &mut KeptRoot<'_>) -> Result<(), Stop> {
+    match promised_text(cx, root)? {
+        Some(next) => {
+            let promise = read_promise(cx, root, next)?;
+            finish(cx, root, &promise)
+        }
+        None => Ok(()),
+    }
+}
+
+/// What a run does first: it finishes one that was cut short. A dry run only says that there is one.
+pub fn begin_run(cx: Context<'_>, root: &mut KeptRoot<'_>) -> Result<(), Stop> {
+    if cx.asked.how.dry_run {
+        return Ok(note_promise_of(cx, root)?);
+    }
+    finish_promised(cx, root)
+}

@@ -1,0 +1,100 @@
+//! Runs on a root with a history.
+
+use crate::context::Context;
+use crate::ending::{Stop, commit_to, disk_after, end};
+use crate::finding::{Taken, take};
+use crate::fitting::Turn;
+use crate::kept_root::KeptRoot;
+use crate::lines::Wanted;
+use crate::recovery::begin_run;
+use crate::rounds::made_in_rounds;
+use real_roots::RealDisk;
+use root_access::{Done, Failure};
+use root_reports::{Made, Report, print_report, report_of};
+use root_runs::Plan;
+
+/// Writes the history and makes the changes, if a run is made and kept.
+fn make(cx: Context<'_>, root: &mut KeptRoot<'_>, turn: &Turn, plan: Plan) -> Result<Done, Stop> {
+    if plan == Plan::Make && turn.kept.is_written() {
+        commit_to(cx.rt.alloc(), root, &turn.tree, &turn.kept)?;
+        return Ok(Done::Changes);
+    }
+    Ok(Done::Nothing)
+}
+
+/// Makes what was called, if it is made, and prints the report.
+fn carry_out(
+    cx: Context<'_>,
+    root: &mut KeptRoot<'_>,
+    turn: &Turn,
+    made: &Made<'_>,
+    report: &Report,
+) -> Result<u8, Stop> {
+    let done = make(cx, root, turn, report.plan)?;
+    root.notes.print(cx.rt);
+    Ok(print_report(cx.rt, cx.asked, made, report, done)?)
+}
+
+/// Makes the report of calls before anything is made, and carries them out.
+fn report_and_make(
+    cx: Context<'_>,
+    root: &mut KeptRoot<'_>,
+    turn: &Turn,
+    script: &[u8],
+) -> Result<u8, Stop> {
+    let alloc = cx.rt.alloc();
+    let made = Made::since(alloc, turn.kept.history(), turn.before, &turn.tree)?;
+    let report = report_of(alloc, cx.asked, cx.root, &mut root.disk, &made, script)?;
+    carry_out(cx, root, turn, &made, &report)
+}
+
+fn run_calls(
+    cx: Context<'_>,
+    root: &mut KeptRoot<'_>,
+    wanted: &Wanted<'_>,
+    script: &[u8],
+) -> Result<u8, Stop> {
+    begin_run(cx, root)?;
+    root.notes.print(cx.rt);
+    let turn = made_in_rounds(cx, root, wanted)?;
+    report_and_make(cx, root, &turn, script)
+}
+
+/// Makes calls on a root with a history. The script is that of `run`, for the numbers of its lines.
+pub fn run_on_kept(
+    cx: Context<'_>,
+    root: KeptRoot<'_>,
+    wanted: &Wanted<'_>,
+    script: &[u8],
+) -> Result<u8, Failure> {
+    let mut root = root;
+    let ended = run_calls(cx, &mut root, wanted, script);
+    end(cx, root, ended)
+}
+
+/// Finishes a run that was cut short, and returns the root's disk.
+pub fn disk_after_recovery<'a>(
+    cx: Context<'_>,
+    root: KeptRoot<'a>,
+) -> Result<RealDisk<'a>, Failure> {
+    let mut root = root;
+    let begun = begin_run(cx, &mut root);
+    disk_after(cx, root, begun)
+}
+
+fn recovered(cx: Context<'_>, root: &mut KeptRoot<'_>) -> Result<u8, Stop> {
+    begin_run(cx, root)?;
+    Ok(0)
+}
+
+/// Finishes a run that was cut short, and does nothing else.
+pub fn recover_root(cx: Context<'_>) -> Result<u8, Failure> {
+    match take(cx)? {
+        Taken::Plain(_) => Err(Failure::NoHistory),
+        Taken::Kept(root) => {
+            let mut root = root;
+            let ended = recovered(cx, &mut root);
+            end(cx, root, ended)
+        }
+    }
+}

@@ -1,0 +1,137 @@
+//! Calls that are made on a root, or on a tree.
+
+use history::{History, MAX_ROWS, Operator, Request, Row};
+use link_tree::{Change, Tree, TreePath};
+use partial_runs::run_on_part;
+use real_roots::RealDisk;
+use root_access::{
+    Failure, capture_failure, captured_but_odd, captured_in, forbidden, make_tree, paths_of,
+    print_passed_over,
+};
+use root_runs::{Plan, first_of_vendor, has_refused, plan_of};
+use root_words::{Asked, How};
+use std::alloc::{AllocError, Global};
+use tree_steps::changes_between;
+use unit_script::{Action, Call, history_of};
+
+/// What calls do on a tree, or on as much of a root as they look at: their rows, and what changes in
+/// all.
+#[derive(Drop)]
+pub struct Made<'h> {
+    /// All rows: those of earlier runs come first.
+    pub history: &'h History<Action>,
+    /// How many rows are those of earlier runs.
+    pub before: usize,
+    pub changes: Vec<Change>,
+}
+
+impl<'h> Made<'h> {
+    /// What all calls of a history do.
+    pub fn of(alloc: Global, history: &'h History<Action>) -> Result<Made<'h>, AllocError> {
+        Made::since(alloc, history, 0, history.first())
+    }
+
+    /// What the calls of a history do after this number of rows, when its tree was this one.
+    pub fn since(
+        alloc: Global,
+        history: &'h History<Action>,
+        before: usize,
+        tree: &Tree,
+    ) -> Result<Made<'h>, AllocError> {
+        let changes = changes_between(alloc, tree, history.tree())?;
+        Ok(Made {
+            history,
+            before,
+            changes,
+        })
+    }
+
+    /// The rows of this run.
+    pub fn rows(&self) -> &'h [Row<Action>] {
+        let history = self.history;
+        let rows = history.rows();
+        match rows.get(self.before..) {
+            Some(rows) => rows,
+            None => &[],
+        }
+    }
+
+    /// Whether one of the calls was refused.
+    pub fn is_refused(&self) -> bool {
+        has_refused(self.rows())
+    }
+
+    /// What is done with the changes.
+    pub fn plan(&self, how: How) -> Plan {
+        let vendors = first_of_vendor(&self.changes);
+        plan_of(how, self.is_refused(), vendors.is_some())
+    }
+
+    /// Why nothing beneath /usr may be changed.
+    pub fn forbidden(&self, alloc: Global) -> Failure {
+        forbidden(alloc, first_of_vendor(&self.changes))
+    }
+
+    /// Makes the changes in the root, all or none.
+    pub fn make(&self, alloc: Global, disk: RealDisk<'_>) -> Result<(), Failure> {
+        make_tree(alloc, disk, self.history.first(), self.history.tree())
+    }
+}
+
+/// Captures all slots of a root, and the paths of `--with`.
+pub fn capture_for(alloc: Global, asked: &Asked, disk: &mut RealDisk<'_>) -> Result<Tree, Failure> {
+    let paths = paths_of(alloc, &asked.with)?;
+    captured_in(alloc, disk, &paths)
+}
+
+/// Captures all slots of a root, and these paths, but for what is odd there: of each such entry a
+/// warning is printed.
+pub fn capture_to_list(
+    rt: &HostRuntime,
+    asked: &Asked,
+    disk: RealDisk<'_>,
+    paths: &[TreePath],
+) -> Result<Tree, Failure> {
+    let (tree, warnings) = captured_but_odd(rt.alloc(), disk, paths)?;
+    if !asked.output.quiet {
+        print_passed_over(rt, &warnings, asked.output.json)?;
+    }
+    Ok(tree)
+}
+
+/// Makes calls on a tree, one after another.
+pub fn made_on(alloc: Global, tree: &Tree, calls: Vec<Call>) -> Result<History<Action>, Failure> {
+    if calls.len() > MAX_ROWS {
+        return Err(Failure::Full);
+    }
+    Ok(history_of(alloc, tree.share()?, calls)?)
+}
+
+/// The calls as histories take them.
+fn requests_of(
+    alloc: Global,
+    calls: Vec<Call>,
+) -> Result<Vec<(Operator, Request<Action>)>, AllocError> {
+    let mut requests = Vec::new(alloc);
+    for call in calls {
+        let Call { operator, request } = call;
+        requests.push((operator, request))?;
+    }
+    Ok(requests)
+}
+
+/// Makes calls on as much of a root as they look at.
+pub fn made_in(
+    alloc: Global,
+    disk: &mut RealDisk<'_>,
+    calls: Vec<Call>,
+) -> Result<History<Action>, Failure> {
+    let requests = requests_of(alloc, calls)?;
+    if requests.len() > MAX_ROWS {
+        return Err(Failure::Full);
+    }
+    match run_on_part(alloc, disk, &requests) {
+        Ok(history) => Ok(history),
+        Err(e) => Err(capture_failure(alloc, disk, e)),
+    }
+}
