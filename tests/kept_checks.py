@@ -142,19 +142,20 @@ def of_unitadm(unitadm, text, title, rows):
 
 
 def summed(text):
-    """A text of a history whose sums are made anew, as its writer would."""
+    """A text of a history whose sums are made again, as its writer would."""
     head, begun, rest = text.partition(b'# unitroot-history ')
-    out, part, sum_so_far = b'', head + begun, b''
+    # (a list: to append a million lines to bytes one by one takes many minutes)
+    out, part, sum_so_far = [], [head + begun], b''
     for line in rest.splitlines(keepends=True):
         first, mark, _ = line.partition(b' text=sha256:')
         if not mark:
-            part += line
+            part.append(line)
             continue
-        part += first
-        sum_so_far = hashlib.sha256(sum_so_far + part).digest()
-        out += part + mark + sum_so_far.hex().encode() + b'\n'
-        part = b''
-    return out + part
+        those = b''.join([*part, first])
+        sum_so_far = hashlib.sha256(sum_so_far + those).digest()
+        out += [those, mark, sum_so_far.hex().encode(), b'\n']
+        part = []
+    return b''.join(out + part)
 
 
 def refused(ended, status, said, root, before, title):
