@@ -242,6 +242,20 @@ def promised(unitroot, room, root):
     log.says('a row and a promised run', SHOWN[10], 'show', '10', said=PROMISED)
 
 
+def controls(unitroot, room):
+    """Control bytes in a login, a call and a target are escaped."""
+    root, env = small(room, 'controls'), {**at(TUESDAY), 'LOGNAME': 'a\x1bb', 'SUDO_USER': ''}
+    unitroot.on(root, 'keep', env=env)
+    unitroot.on(root, 'place', '/etc/systemd/system/x.service', 'link', '/a\x1bb', env=env)
+    ended = unitroot.on(root, 'show', '1', env=env)
+    hold(ended[0] == 0 and '\x1b' not in ended[1] and ' by a\\x1bb, with ' in ended[1]
+         and ' link /a\\x1bb\n' in ended[1] and ' -> /a\\x1bb\n' in ended[1],
+         'show escapes control bytes', ended)
+    ended = unitroot.on(root, 'log', '--full', env=env)
+    hold(ended[0] == 0 and '\x1b' not in ended[1] and ' link /a\\x1bb ' in ended[1],
+         'log escapes control bytes', ended)
+
+
 def begun_again(unitroot, room, root):
     """A new history: the old one is kept under a number, and what is lost to `undo` is said."""
     copy = '%s/begun-again' % room
@@ -267,6 +281,7 @@ def logs(unitroot, room):
     beside(log)
     promised(unitroot, room, root)
     begun_again(unitroot, room, root)
+    controls(unitroot, room)
     plain = Log(unitroot, small(room, 'plain'))
     for words in (('log',), ('show', '1')):
         plain.says('no history: %s' % words[0], '', *words, status=1, said=NO_HISTORY)
