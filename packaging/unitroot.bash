@@ -19,11 +19,15 @@ _unitroot_units() {
 }
 
 _unitroot() {
-  local cur prev words cword split word command='' root='' values=''
+  local cur prev words cword split word option='' command='' root='' values=''
   _init_completion -s || return
   for word in "${words[@]:1:cword-1}"; do
+    word=$option$word
+    option=
     case $word in
       --root=*) root=${word#--root=} ;;
+      --root | --as | --rows | --unit | --operator | --since | --lines | --with | --max | \
+        --history | --preset-mode | --type | --state | -n | -t) option=$word= ;;
       -*) ;;
       *) [ -n "$command" ] || command=$word ;;
     esac

@@ -25,12 +25,22 @@ class Kept(Program):
 
     def run(self, *words, given='', env=None, under=()):
         given = given.encode() if isinstance(given, str) else given
+        ran = subprocess.run([*under, self.path, *words], input=given, capture_output=True,
+                             timeout=600, env=self.around(env))
+        return ran.returncode, ran.stdout.decode(), ran.stderr.decode(errors='replace')
+
+    def around(self, env):
+        """The environment of a run."""
         around = {key: value for key, value in os.environ.items() if key not in NAMES}
         # (an unproved program may be built with a sanitizer, which reads files at its end)
-        env = {**around, 'LOGNAME': 'anna', 'ASAN_OPTIONS': 'detect_leaks=0', **(env or {})}
-        ran = subprocess.run([*under, self.path, *words], input=given, capture_output=True,
-                             timeout=600, env=env)
-        return ran.returncode, ran.stdout.decode(), ran.stderr.decode(errors='replace')
+        return {**around, 'LOGNAME': 'anna', 'ASAN_OPTIONS': 'detect_leaks=0', **(env or {})}
+
+    def on_a_terminal(self, folder, *words, env=None):
+        """All that a run in a folder prints, in the order in which it prints it."""
+        ran = subprocess.run([self.path, *words], cwd=folder, stdin=subprocess.DEVNULL, timeout=600,
+                             stdout=subprocess.PIPE, stderr=subprocess.STDOUT,
+                             env=self.around(env))
+        return ran.stdout.decode()
 
     def on(self, root, *words, given='', env=None, under=()):
         return self.run('--root=%s' % root, *words, given=given, env=env, under=under)
@@ -139,6 +149,33 @@ def of_unitadm(unitadm, text, title, rows):
     ran = subprocess.run([unitadm.path], input=text, capture_output=True, timeout=300)
     found = rows_of(ran.stdout.decode())
     hold(found == rows, title, (found, rows, ran.stderr[:200]))
+
+
+def reported(unitroot, root, *there):
+    """All rows of a history in the form of a report, by what `show` says of each."""
+    count = unitroot.on(root, 'log', '--no-legend', *there)[1].count('\n')
+    rows = []
+    for number in range(1, count + 1):
+        said = unitroot.on(root, 'show', str(number), *there)[1]
+        found = re.search(r'^operator: (\S+)\n.*?^reply: (.*?)^(?:looked at|undo):', said,
+                          re.M | re.S)
+        rows.append('%d %s %s' % (number, *found.groups()) if found else said)
+    return ''.join(rows)
+
+
+def as_unitadm(unitroot, unitadm, root, title, *there):
+    """Compares all rows of the history of a root with those that `unitadm` has."""
+    rows = reported(unitroot, root, *there)
+    hold(rows, '%s: there are rows' % title)
+    directory = there[0].partition('=')[2] if there else root + HOME
+    of_unitadm(unitadm, text_of(directory), title, rows)
+
+
+def without_chance(text):
+    """The text of a history without what is another one in each: its number, the path of its root,
+    and the sums of the text."""
+    text = re.sub(rb'(?m)^(# unitroot-history 1) id=\w+ root=\S+', rb'\1 id=ID root=ROOT', text)
+    return re.sub(rb' text=sha256:\w{64}', b' text=SUM', text)
 
 
 def summed(text):

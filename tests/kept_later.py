@@ -6,7 +6,7 @@ import json
 import os
 
 from root_checks import ETC, VENDOR, hold, skipped
-from kept_checks import HISTORY, HOME, TUESDAY, at, small, text_of, whole
+from kept_checks import HISTORY, HOME, TUESDAY, as_unitadm, at, small, text_of, whole
 
 WANTS = ETC + '/multi-user.target.wants'
 SSH = WANTS + '/ssh.service'
@@ -116,7 +116,7 @@ def other_user(unitroot, root):
          'a history that the user may not read names no rows, and status says so', ended)
 
 
-def later(unitroot, room):
+def later(unitroot, unitadm, room):
     root = small(room, 'status')
     for _ in tell(unitroot, root, ROWS):
         pass
@@ -127,3 +127,4 @@ def later(unitroot, room):
     for _ in tell(unitroot, root, ROWS):
         pass
     undo_with_later(unitroot, root)
+    as_unitadm(unitroot, unitadm, root, 'unitadm has the rows of an undo with later ones')

@@ -8,7 +8,7 @@ import os
 import shutil
 
 from root_checks import ETC, VENDOR, hold
-from kept_checks import HISTORY, HOME, PROMISE, TUESDAY, at, small, whole
+from kept_checks import HISTORY, HOME, PROMISE, TUESDAY, as_unitadm, at, small, whole
 
 DAY = 86400
 WANTS = ETC + '/multi-user.target.wants'
@@ -271,7 +271,7 @@ def begun_again(unitroot, room, root):
     Log(unitroot, copy).says('after keep --anew no row is left', '', 'log', '--no-legend')
 
 
-def logs(unitroot, room):
+def logs(unitroot, unitadm, room):
     root = made(unitroot, room)
     hold(os.path.exists(root + HISTORY), 'log and show: there is a history')
     log = Log(unitroot, root)
@@ -280,6 +280,7 @@ def logs(unitroot, room):
     rows(log)
     beside(log)
     promised(unitroot, room, root)
+    as_unitadm(unitroot, unitadm, root, 'unitadm has the rows that log and show report')
     begun_again(unitroot, room, root)
     controls(unitroot, room)
     plain = Log(unitroot, small(room, 'plain'))

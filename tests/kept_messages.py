@@ -10,9 +10,8 @@ import re
 import shutil
 
 from root_checks import ETC, hold, skipped
-from kept_checks import (HISTORY, HOME, PROMISE, TUESDAY, at, copied, refused, rid_of, small,
-                         summed, text_of, tracer_in,
-                         whole, write_text)
+from kept_checks import (HISTORY, HOME, PROMISE, TUESDAY, as_unitadm, at, copied, refused, rid_of,
+                         small, summed, text_of, tracer_in, whole, write_text)
 
 MASK = ('mask', 'new.service')
 LARGEST = 1 << 26
@@ -151,7 +150,7 @@ def large():
     ]
 
 
-def messages(unitroot, room, is_slow):
+def messages(unitroot, unitadm, room, is_slow):
     base = small(room, 'messages')
     for words in (('keep',), ('mask', 'cron')):
         unitroot.on(base, *words, env=at(TUESDAY))
@@ -177,9 +176,15 @@ def messages(unitroot, room, is_slow):
     of_paths(unitroot, room)
     of_a_bad_call(unitroot, room, base)
     of_times(unitroot, room)
+    of_modes(unitroot, room)
     of_two_roots(unitroot, room)
     of_a_disk(unitroot, room, base)
     of_no_line(unitroot, room, base)
+    for name in ('messages', 'promised', 'meanwhile', 'elsewhere'):
+        as_unitadm(unitroot, unitadm, '%s/%s' % (room, name),
+                   'unitadm has the rows after the messages: %s' % name)
+    as_unitadm(unitroot, unitadm, '%s/two' % room, 'unitadm has the rows of a history outside',
+               '--history=%s/outside' % room)
 
 
 def of_promises(unitroot, room, base):
@@ -202,6 +207,7 @@ def of_promises(unitroot, room, base):
     before = whole(gone)
     refused(unitroot.on(gone, *MASK), 1, 'a run is promised, but its history is gone', gone, before,
             'message: a run is promised, but its history is gone: without history')
+    of_a_damaged_promise(unitroot, copied(root, '%s/damaged' % room))
     applied = copied(root, '%s/applied' % room)
     ended = unitroot.on(applied, 'apply', given=unitroot.on(applied, 'capture')[1])
     hold(ended[0] == 0 and 'finished a run of ' in ended[2]
@@ -211,6 +217,17 @@ def of_promises(unitroot, room, base):
     hold(ended[0] == 0 and 'finished a run of ' in ended[2] and not os.path.lexists(root + PROMISE),
          'the next run that changes something finishes it', ended)
     of_others_meanwhile(unitroot, room, base, tracer)
+
+
+def of_a_damaged_promise(unitroot, root):
+    """A promised run whose history others have cut: keep --anew doesn't finish it."""
+    text = text_of(root + HOME)[:-3]
+    write_text(root + HOME, text)
+    ended = unitroot.on(root, 'keep', '--anew')
+    said = "unitroot: a run was promised whose history can't be read: it is not finished\n"
+    hold(ended[0] == 0 and said in ended[2] and not os.path.lexists(root + PROMISE)
+         and text_of(root + HOME, 'history.1') == text,
+         'keep --anew withdraws a promise whose history was damaged', ended)
 
 
 def of_others_meanwhile(unitroot, room, base, tracer):
@@ -295,6 +312,17 @@ def of_times(unitroot, room):
         kept + '/history')
 
 
+def of_modes(unitroot, room):
+    """A history and its directory are only for their owner, whatever the umask is."""
+    root = small(room, 'modes')
+    for umask, words in (('777', ('keep',)), ('000', MASK), ('777', ('keep', '--anew'))):
+        under = ('sh', '-c', 'umask %s; exec "$0" "$@"' % umask)
+        ended = unitroot.on(root, *words, under=under)
+        modes = [oct(os.stat(root + path).st_mode & 0o777) for path in (HOME, HISTORY)]
+        hold(ended[0] == 0 and modes == ['0o700', '0o600'],
+             'the modes of a history: umask %s, %s' % (umask, words[0]), (modes, ended))
+
+
 def of_two_roots(unitroot, room):
     """Two roots and one directory of a history outside of them."""
     one, two, kept = small(room, 'one'), small(room, 'two'), '%s/outside' % room
@@ -329,6 +357,12 @@ def of_two_roots(unitroot, room):
     hold(ended == (0, '', '') and not os.path.exists(again + HOME) and os.path.lexists(
         '%s%s/ssh.service' % (again, ETC)),
          'forget removes the history, and the root stays as it is', ended)
+    unitroot.on(again, 'keep')
+    with open(again + HOME + '/notes', 'w'):
+        pass
+    ended = unitroot.on(again, 'forget')
+    hold(ended == (0, '', '') and os.listdir(again + HOME) == ['notes'],
+         'forget leaves a directory in which others have a file', ended)
 
 
 def of_a_disk(unitroot, room, base):

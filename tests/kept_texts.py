@@ -10,7 +10,8 @@ import random
 import re
 
 from root_checks import ETC, hold
-from kept_checks import HOME, TUESDAY, at, copied, rid_of, small, summed, text_of, whole, write_text
+from kept_checks import (HOME, TUESDAY, as_unitadm, at, copied, rid_of, small, summed, text_of,
+                         whole, write_text)
 from kept_kills import all_hold
 
 LINE = re.compile(r'unitroot: history: line (\d+): .+\n')
@@ -67,7 +68,7 @@ class Damage:
                                                                          self.text[:size], False)]
 
 
-def texts(unitroot, room, times, seed):
+def texts(unitroot, unitadm, room, times, seed):
     damage = Damage(unitroot, room)
     hold(summed(damage.text) == damage.text, 'the sums of a history are those that its format says')
     chosen = random.Random(seed)
@@ -81,4 +82,5 @@ def texts(unitroot, room, times, seed):
         faults = [*pool.map(damage.cut, sorted(sizes))]
         all_hold('a cut is refused with its line, or what was lost is of others',
                  [it for those in faults for it in those])
+    as_unitadm(unitroot, unitadm, damage.root, 'unitadm has the rows of the text that is damaged')
     print('texts: %d bytes changed, %d cuts' % (times, len(sizes)), flush=True)

@@ -1,76 +1,134 @@
 """The week of one root: three operators, what dpkg changed, a crash, and Friday's undo of Tuesday's
 change.
 
-All that is printed is compared, whole; ROOT is the root. The history that the week leaves has, by
-unitadm, the rows that unitroot reported.
+All that is printed is compared, whole. docs/ROOTS.md shows the commands as they are typed, with
+what a terminal shows of each, byte for byte. The history that the week leaves has, by unitadm, the
+rows that unitroot reports.
 """
 import os
 import re
 
-from root_checks import ETC, VENDOR, hold
-from kept_checks import (HISTORY, HOME, PROMISE, TUESDAY, at, copied, of_unitadm, rows_of, small,
-                         text_of, tracer_in,
-                         whole)
+from root_checks import ETC, HERE, VENDOR, hold
+from kept_checks import (HISTORY, HOME, PROMISE, TUESDAY, as_unitadm, at, copied, of_unitadm,
+                         reported, rid_of, small, text_of, tracer_in, whole)
 
 DAY = 86400
+PAGE = '%s/../docs/ROOTS.md' % HERE
+MOST_LINES = 40
 WANTS = ETC + '/multi-user.target.wants'
-SSH = '+ %s/ssh.service -> %s/ssh.service\n' % (WANTS, VENDOR)
+LINK = '%s/%%s.service -> %s/%%s.service\n' % (WANTS, VENDOR)
 MASK = '%s/nfs-server.service -> /dev/null\n' % ETC
+CREATED = 'Created symlink web%s/%s.service → %s.\n'
 PROMISED = 'unitroot: a run is promised: the next run that changes something finishes it\n'
-# Days since Tuesday, a title, the words, the script, the status, and what is printed.
-BEFORE_THE_CRASH = [
-    (-1, 'Monday: the root is kept from now on', ('keep',), '', 0, '',
+SCRIPT = 'bob mask nfs-server.service\nbob enable cron.service\n'
+# Days since Tuesday, a title, the words, the status, and what is printed.
+BEFORE_DPKG = [
+    (-1, 'Monday: the root is kept from now on', 'keep', 0, '',
      'unitroot: the history is in %s\n' % HOME),
-    (-1, 'Monday: anna enables ssh', ('run',), 'anna enable ssh.service\n', 0,
-     '1 anna ok\n  %s== changes\n  %s' % (SSH, SSH), ''),
-    (0, 'Tuesday: bob masks nfs-server and enables cron', ('run',),
-     'bob mask nfs-server.service\nbob enable cron.service\n', 0,
-     '2 bob ok\n  + %(m)s3 bob ok\n  + %(w)s/cron.service -> %(v)s/cron.service\n'
-     '== changes\n  + %(w)s/cron.service -> %(v)s/cron.service\n  + %(m)s'
-     % {'m': MASK, 'w': WANTS, 'v': VENDOR}, ''),
-    (1, 'Wednesday: eva masks ssh, after dpkg has made a link', ('run',), 'eva mask ssh.service\n',
-     0,
-     '5 eva ok\n  + %s/ssh.service -> /dev/null\n== changes\n  + %s/ssh.service -> /dev/null\n'
-     % (ETC, ETC),
-     'unitroot: others changed the root since the last run: row 4 by outside\n'),
+    (-1, 'Monday: anna enables ssh', '--as=anna enable ssh', 0, '',
+     CREATED % (WANTS, 'ssh', VENDOR + '/ssh.service')),
+    (0, 'Tuesday: bob masks nfs-server and enables cron', 'run tuesday', 0,
+     '2 bob ok\n  + %(m)s3 bob ok\n  + %(c)s== changes\n  + %(c)s  + %(m)s'
+     % {'m': MASK, 'c': LINK % ('cron', 'cron')}, ''),
 ]
+WEDNESDAY = [
+    (1, 'Wednesday: eva masks ssh, after dpkg has made a link', '--as=eva mask ssh', 0, '',
+     'unitroot: others changed the root since the last run: row 4 by outside\n'
+     + CREATED % (ETC, 'ssh', '/dev/null')),
+]
+UNMASK = ('--as=anna', 'unmask', 'ssh')
 AFTER_THE_CRASH = [
-    (2, 'Thursday: a question says that a run is promised', ('is-enabled', 'ssh'), '', 1,
-     'masked\n', PROMISED),
-    (2, 'Thursday: recover finishes the run', ('recover',), '', 0, '',
+    (2, 'Thursday: a question says that a run is promised', 'is-enabled ssh', 1, 'masked\n',
+     PROMISED),
+    (2, 'Thursday: recover finishes the run', 'recover', 0, '',
      'unitroot: finished a run of 2026-12-03T08:30:05Z by anna: 1 row\n'),
-    (3, "Friday: bob's undo of Tuesday's first change", ('undo', '2', '--as=bob'), '', 0, '',
-     'Removed "ROOT%s/nfs-server.service".\n' % ETC),
+    (3, "Friday: bob's undo of Tuesday's first change", '--as=bob undo 2', 0, '',
+     'Removed "web%s/nfs-server.service".\n' % ETC),
+    (3, 'Friday: the log of the week', 'log', 0, """\
+ROW TIME                OPERATOR CALL                          CHANGES UNDONE BY
+  1 2026-11-30 08:30:05 anna     enable ssh.service                  1
+  2 2026-12-01 08:30:05 bob      mask nfs-server.service             1         7
+  3 2026-12-01 08:30:05 bob      enable cron.service                 1
+  4 2026-12-02 08:30:05 outside  place /etc/systemd/system/...       1
+  5 2026-12-02 08:30:05 eva      mask ssh.service                    1
+  6 2026-12-03 08:30:05 anna     unmask ssh.service                  1
+  7 2026-12-04 08:30:05 bob      undo 2                              1
+""", ''),
 ]
+ROWS = ('1 anna ok\n  + ' + LINK % ('ssh', 'ssh') + '2 bob ok\n  + ' + MASK + '3 bob ok\n  + '
+        + LINK % ('cron', 'cron')
+        + '4 outside ok\n  + %s/sshd.service -> %s/ssh.service\n' % (ETC, VENDOR)
+        + '5 eva ok\n  + %s/ssh.service -> /dev/null\n' % ETC
+        + '6 anna ok\n  - %s/ssh.service -> /dev/null\n' % ETC + '7 bob undid 2\n  - ' + MASK)
 
 
-def tell(unitroot, root, days):
-    for day, title, words, script, status, out, said in days:
-        ended = unitroot.on(root, *words, given=script, env=at(TUESDAY + DAY * day))
-        told = ended[1].replace(root, 'ROOT'), ended[2].replace(root, 'ROOT')
-        hold(ended[0] == status and (out is None or told[0] == out) and told[1] == said, title,
-             (ended[0], *told))
-        yield rows_of(ended[1])
+class Week:
+    """The root of the week, and what a terminal shows of it."""
+
+    def __init__(self, unitroot, room):
+        self.unitroot, self.room, self.root = unitroot, room, small(room, 'web')
+        self.shown = []
+        with open('%s/tuesday' % room, 'w') as it:
+            it.write(SCRIPT)
+
+    def shows(self, line, text):
+        self.shown.append('$ %s\n%s' % (line, text))
+
+    def runs(self, day, title, line, status, out, said):
+        """Runs a command as it is typed, first on a copy, with one stream for what it prints."""
+        env = {**at(TUESDAY + DAY * day), 'TZ': 'UTC', 'COLUMNS': '80'}
+        words = ('--root=web', *line.split())
+        folder = '%s/typed' % self.room
+        os.mkdir(folder)
+        os.symlink('../tuesday', folder + '/tuesday')
+        copied(self.root, folder + '/web')
+        self.shows('unitroot --root=web ' + line,
+                   self.unitroot.on_a_terminal(folder, *words, env=env))
+        rid_of(folder)
+        ended = self.unitroot.run(*words, env=env, under=('env', '-C', self.room))
+        hold(ended == (status, out, said), title, ended)
+
+    def all(self, days):
+        for day in days:
+            self.runs(*day)
+
+    def dpkg(self):
+        """What dpkg made, as someone would make it by hand."""
+        link, target = 'web%s/sshd.service' % ETC, VENDOR + '/ssh.service'
+        os.symlink(target, '%s/%s' % (self.room, link))
+        self.shows('ln -s %s %s' % (target, link), '')
+
+    def is_on_the_page(self):
+        """The page shows the week in one block."""
+        text = ''.join(self.shown)
+        with open(PAGE, encoding='utf-8') as it:
+            blocks = re.findall(r'^```console\n(.*?)^```$', it.read(), re.M | re.S)
+        hold(text in blocks, 'docs/ROOTS.md shows the week, byte for byte', text)
+        hold(text.count('\n') < MOST_LINES, 'it has less than %d lines' % MOST_LINES)
 
 
 def week(unitroot, unitadm, room):
-    root, tracer = small(room, 'week'), tracer_in(room)
-    rows = []
-    for day in BEFORE_THE_CRASH:
-        if 'dpkg' in day[1]:
-            os.symlink(VENDOR + '/ssh.service', root + ETC + '/sshd.service')
-            rows.append('4 outside ok\n  + %s/sshd.service -> %s/ssh.service\n' % (ETC, VENDOR))
-        rows += tell(unitroot, root, [day])
-    unmask = '6 anna ok\n  - %s/ssh.service -> /dev/null\n' % ETC
+    it = Week(unitroot, room)
+    root, tracer = it.root, tracer_in(room)
+    it.all(BEFORE_DPKG[:2])
+    it.shows('cat tuesday', SCRIPT)
+    it.all(BEFORE_DPKG[2:])
+    it.dpkg()
+    it.all(WEDNESDAY)
     killed_before(unitroot, root, tracer, room)
-    rows.append(unmask)
-    rows += [it for it in tell(unitroot, root, AFTER_THE_CRASH[:2]) if ' ' in it]
-    rows += tell(unitroot, root, AFTER_THE_CRASH[2:3])
-    rows.append('7 bob undid 2\n  - %s' % MASK)
+    it.shows('unitroot --root=web ' + ' '.join(UNMASK), 'Killed\n')
+    it.all(AFTER_THE_CRASH)
+    it.is_on_the_page()
     found = whole(root)
     hold(found.get(ETC + '/nfs-server.service') is None and ETC + '/sshd.service' in found
          and WANTS + '/cron.service' in found and ETC + '/ssh.service' not in found,
          "Friday: only Tuesday's first change is gone")
+    of_text(unitroot, unitadm, root)
+    numbers_and_rest(unitroot, unitadm, root)
+    return root
+
+
+def of_text(unitroot, unitadm, root):
     text = text_of(root + HOME)
     hold(re.findall(rb'^# run (\S+) login=(\S+)', text, re.M) == [
         (b'2026-%s-%sT08:30:05Z' % (month, day), b'anna') for month, day in
@@ -82,16 +140,15 @@ def week(unitroot, unitadm, room):
         b'outside place %s/sshd.service link %s/ssh.service' % (ETC.encode(), VENDOR.encode()),
         b'eva mask ssh.service', b'anna unmask ssh.service', b'bob undo 2'],
         'the history has a line for each call', text)
-    of_unitadm(unitadm, text, "unitadm has the rows of the week that unitroot reported",
-               ''.join(rows))
-    numbers_and_rest(unitroot, root)
-    return root
+    of_unitadm(unitadm, text, 'unitadm has the rows of the week that unitroot reported', ROWS)
+    rows = reported(unitroot, root)
+    hold(rows == ROWS, 'show reports the rows that unitadm has', rows)
 
 
 def killed_before(unitroot, root, tracer, room):
     """Thursday's run, which is killed in the middle: the first call that removes a unit's link."""
     copy = copied(root, '%s/thursday' % room)
-    words, env = ('unmask', 'ssh.service'), at(TUESDAY + 2 * DAY)
+    words, env = UNMASK, at(TUESDAY + 2 * DAY)
     calls = unitroot.disturbed(tracer, copy, 0, 'kill', *words, env=env)[1]
     number = [call[0] for call in calls if call[1] == 'unlink' and call[4] == 'ssh.service'][0]
     ended, _ = unitroot.disturbed(tracer, root, int(number), 'kill', *words, env=env)
@@ -111,7 +168,7 @@ def killed_before(unitroot, root, tracer, room):
          'message: a run is promised: recover finishes it', ended)
 
 
-def numbers_and_rest(unitroot, root):
+def numbers_and_rest(unitroot, unitadm, root):
     """What else is said of reports, on the root of the week, whose history has seven rows."""
     before = whole(root)
 
@@ -142,6 +199,8 @@ def numbers_and_rest(unitroot, root):
     same('a run without an accepted command is not kept', 1, '', None, 'enable', 'none.service')
     of_rows(unitroot, copied(root, root + '-rows'))
     of_others(unitroot, copied(root, root + '-others'))
+    for name in ('rows', 'others'):
+        as_unitadm(unitroot, unitadm, '%s-%s' % (root, name), 'unitadm has the rows: %s' % name)
 
 
 def of_others(unitroot, root):

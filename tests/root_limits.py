@@ -273,8 +273,8 @@ def status_five(unitroot, room, traced):
     number = traced.number_of(unitroot, root, both, second)
     how = 'do:cd %s && %s && chmod 555 etc/systemd' % (root, theirs)
     ran, _ = traced.run(unitroot, root, number, how, both, AS_NOBODY)
-    text = ('unitroot: system: Permission denied (os error 13): all steps were reversed, but a new '
-            'directory is left, or that may not last\n')
+    text = ('unitroot: %s: Permission denied (os error 13): all steps were reversed, but a new '
+            'directory is left, or that may not last\n' % ETC)
     hold(ran == (5, text) and os.listdir(root + ETC) == ['two.service'], title, (ran, shot(root)))
 
 

@@ -83,7 +83,8 @@ class Traced:
     """Runs under tools/fail_call."""
 
     def __init__(self, room):
-        self.tracer, self.log = '%s/fail_call' % room, '%s/calls' % room
+        self.tracer, self.log, self.script = ('%s/%s' % (room, name) for name in (
+            'fail_call', 'calls', 'script'))
         subprocess.run(['cc', '-O1', '-o', self.tracer, '%s/../tools/fail_call.c' % HERE], check=True)
 
     def started(self, unitroot, root, number, how, given, under=(), more=()):
@@ -93,12 +94,12 @@ class Traced:
         env = {**os.environ, 'ASAN_OPTIONS': 'detect_leaks=0'}
         words = [*under, self.tracer, root, str(number), how, self.log, unitroot.path,
                  '--root=%s' % root, *more, 'run']
-        running = subprocess.Popen(words, stdin=subprocess.PIPE, stdout=subprocess.PIPE,
-                                   stderr=subprocess.PIPE, env=env)
-        running.stdin.write(given.encode())
-        running.stdin.close()
-        running.stdin = None
-        return running
+        # (a file: of a pipe each run reads as much at once as there is, so its calls have other numbers)
+        with open(self.script, 'w') as it:
+            it.write(given)
+        with open(self.script) as it:
+            return subprocess.Popen(words, stdin=it, stdout=subprocess.PIPE,
+                                    stderr=subprocess.PIPE, env=env)
 
     def calls(self):
         """The calls of the last run."""

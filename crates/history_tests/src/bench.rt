@@ -10,16 +10,20 @@
 //! | `index` | each row is looked up | `1:read-by:1,2:blocked-by:2 2:unread` (`index.rt`) |
 //!
 //! A plan that is stale is kept, and so is one that is committed to a full history.
+//!
+//! If memory runs out for a call, a commit, an undo or a redo, the history is compared with what it
+//! was before, and what comes back with what was handed in. Then the call is made again.
 
 ghost use Rattle.std.specs.Prelude.{◌≤◌};
 
 use crate::index::{agrees, push_index};
+use crate::texts::text_of;
 use footprint::{Answer, Operation};
-use history::{CallError, Commit, History, MAX_ROWS, Operator, Plan, Uncommitted, Unrun};
+use history::{CallError, Commit, History, MAX_ROWS, Plan, Request, RowReply, Uncommitted, Unrun};
 use link_tree::{Tree, push_decimal};
 use sample_steps::{
-    Step, begin_word, is, number, operator, parts, push_numbered, push_pair, push_reply, step,
-    unit_at,
+    Step, begin_word, is, number, operator, parts, push_numbered, push_pair, push_reply, push_row,
+    step, unit_at,
 };
 use std::alloc::{AllocError, Global};
 
@@ -33,6 +37,8 @@ enum Toggle {
 pub(crate) struct Bench {
     pub(crate) history: Box<History<Step>>,
     plan: Option<Box<Plan<Step>>>,
+    /// The word of the plan's step.
+    planned: Vec<u8>,
 }
 
 /// A history of the empty tree.
@@ -51,6 +57,7 @@ impl Bench {
         Ok(Bench {
             history: begun(alloc, limit)?,
             plan: None,
+            planned: Vec::new(alloc),
         })
     }
 
@@ -62,14 +69,13 @@ impl Bench {
         }
     }
 
-    /// Whether there are as many rows as before, and what the history looks up is what a walk
-    /// finds.
-    fn is_as_before(&self, alloc: Global, rows: usize) -> Result<bool, AllocError> {
-        Ok(self.history.rows().len() == rows && agrees(alloc, &self.history)?)
+    /// Whether the history is as it was, and what it looks up is what a walk finds.
+    fn is_as_before(&self, alloc: Global, before: &[u8]) -> Result<bool, AllocError> {
+        let now = text_of(alloc, &*self.history)?;
+        Ok(now.as_slice() == before && agrees(alloc, &self.history)?)
     }
 
-    /// If memory ran out, calls the operation that came back; if the history is full, that is the
-    /// step of the word.
+    /// If memory ran out, calls the operation that came back. It is the step of the word.
     fn call_again(
         &mut self,
         alloc: Global,
@@ -81,21 +87,22 @@ impl Bench {
         if why == CallError::Full {
             return push_if_same(alloc, &operation, word, b"full", out);
         }
+        push_if_same(alloc, &operation, word, b"", out)?;
         match self.history.call(alloc, operator(b"alice")?, operation) {
             Ok(_) => self.push_last(out),
-            Err(_) => Err(AllocError),
+            Err(_) => out.extend_from_slice(TWICE),
         }
     }
 
     /// Alice's call of the step of a word.
     fn call(&mut self, alloc: Global, word: &[u8], out: &mut Vec<u8>) -> Result<(), AllocError> {
-        let rows = self.history.rows().len();
+        let before = text_of(alloc, &*self.history)?;
         let step = step(alloc, word)?;
         let unrun = match self.history.call(alloc, operator(b"alice")?, step) {
             Ok(_) => return self.push_last(out),
             Err(unrun) => unrun,
         };
-        if self.is_as_before(alloc, rows)? {
+        if self.is_as_before(alloc, &before)? {
             self.call_again(alloc, unrun, word, out)
         } else {
             out.extend_from_slice(b"changed")
@@ -126,7 +133,7 @@ impl Bench {
         }
         match self.toggle(alloc, toggle, n) {
             Ok(()) => self.push_last(out),
-            Err(_) => Err(AllocError),
+            Err(_) => out.extend_from_slice(TWICE),
         }
     }
 
@@ -138,12 +145,12 @@ impl Bench {
         n: u32,
         out: &mut Vec<u8>,
     ) -> Result<(), AllocError> {
-        let rows = self.history.rows().len();
+        let before = text_of(alloc, &*self.history)?;
         let why = match self.toggle(alloc, toggle, n) {
             Ok(()) => return self.push_last(out),
             Err(why) => why,
         };
-        if self.is_as_before(alloc, rows)? {
+        if self.is_as_before(alloc, &before)? {
             self.toggle_again(alloc, toggle, n, why, out)
         } else {
             out.extend_from_slice(b"changed")
@@ -152,19 +159,71 @@ impl Bench {
 
     fn plan(&mut self, alloc: Global, word: &[u8], out: &mut Vec<u8>) -> Result<(), AllocError> {
         self.plan = Some(planned(alloc, self.history.tree(), step(alloc, word)?)?);
+        self.planned = Vec::from_slice(alloc, word)?;
         out.extend_from_slice(b"planned")
     }
 
     /// Bob commits the plan, which is kept if it makes no row.
     fn commit(&mut self, alloc: Global, out: &mut Vec<u8>) -> Result<(), AllocError> {
-        let bob = operator(b"bob")?;
         let Some(plan) = self.plan.take() else {
             return out.extend_from_slice(b"no-plan");
         };
-        let committing = Box::new(alloc, committed(&mut self.history, bob, plan))?;
+        let text = text_of_plan(alloc, &plan)?;
+        let committing = self.committed_once_more(alloc, plan, out)?;
         push_committed(out, &committing)?;
         self.plan = kept_plan(alloc, committing)?;
-        Ok(())
+        self.push_unless_kept(alloc, &text, out)
+    }
+
+    /// Commits the plan. If memory runs out, the plan that came back is committed, and what has
+    /// changed is added.
+    fn committed_once_more(
+        &mut self,
+        alloc: Global,
+        plan: Box<Plan<Step>>,
+        out: &mut Vec<u8>,
+    ) -> Result<Box<Committing>, AllocError> {
+        let before = text_of(alloc, &*self.history)?;
+        let committing = committed(alloc, &mut self.history, plan)?;
+        if !lacks_memory(&committing) {
+            return Ok(committing);
+        }
+        if !self.is_as_before(alloc, &before)? {
+            out.extend_from_slice(b"changed ")?;
+        }
+        match kept_plan(alloc, committing)? {
+            Some(plan) => committed(alloc, &mut self.history, plan),
+            None => Err(AllocError),
+        }
+    }
+
+    /// Adds what is wrong, unless the plan that is kept, or the row of the one that isn't, is of the
+    /// step and has the answer that the plan had.
+    fn push_unless_kept(
+        &self,
+        alloc: Global,
+        text: &[u8],
+        out: &mut Vec<u8>,
+    ) -> Result<(), AllocError> {
+        let is_kept = match &self.plan {
+            Some(plan) => text_of_plan(alloc, plan)?.as_slice() == text,
+            None => self.has_row(alloc, text)?,
+        };
+        if is_kept {
+            return Ok(());
+        }
+        out.extend_from_slice(b" another-plan")
+    }
+
+    /// Whether the last row is bob's, and is of the step of the plan and has its answer.
+    fn has_row(&self, alloc: Global, text: &[u8]) -> Result<bool, AllocError> {
+        let wanted = Request::Do(step(alloc, &self.planned)?);
+        let Some(row) = self.history.rows().last() else {
+            return Ok(false);
+        };
+        let mut reply = Vec::new(alloc);
+        push_row(&mut reply, row)?;
+        Ok(reply.as_slice() == text && row.request.same(&wanted))
     }
 
     /// The answer of the plan.
@@ -257,20 +316,34 @@ fn planned(alloc: Global, tree: &Tree, step: Step) -> Result<Box<Plan<Step>>, Al
 /// What a commit returns.
 type Committing = Result<Commit<Plan<Step>>, Uncommitted<Plan<Step>>>;
 
-/// Commits a plan. If memory runs out, the plan that came back is committed.
+/// What is wrong if a call that is made again has too little memory: one growth alone is refused.
+const TWICE: &[u8] = b"out-of-memory-twice";
+
+/// What the row of a plan says once bob has committed it.
+fn text_of_plan(alloc: Global, plan: &Plan<Step>) -> Result<Vec<u8>, AllocError> {
+    let mut text = Vec::new(alloc);
+    push_pair(&mut text, b"bob", b"")?;
+    let reply = Box::new(alloc, RowReply::Answered(plan.answer().copy()?))?;
+    push_reply(&mut text, &reply)?;
+    Ok(text)
+}
+
+/// Bob commits a plan.
 fn committed(
+    alloc: Global,
     history: &mut History<Step>,
-    committer: Operator,
     plan: Box<Plan<Step>>,
-) -> Committing {
-    match history.commit(committer, Box::into_inner(plan)) {
-        Err(
-            Uncommitted {
-                plan,
-                why: CallError::OutOfMemory,
-            },
-        ) => history.commit(committer, plan),
-        answer => answer,
+) -> Result<Box<Committing>, AllocError> {
+    let bob = operator(b"bob")?;
+    let committing = history.commit(bob, Box::into_inner(plan));
+    Ok(Box::new(alloc, committing)?)
+}
+
+/// Whether memory ran out for a commit.
+fn lacks_memory(committing: &Committing) -> bool {
+    match committing {
+        Ok(_) => false,
+        Err(left) => left.why == CallError::OutOfMemory,
     }
 }
 
@@ -279,7 +352,7 @@ fn push_committed(out: &mut Vec<u8>, committing: &Committing) -> Result<(), Allo
         Ok(Commit::Committed(n)) => push_numbered(out, b"row", *n),
         Ok(Commit::Stale { plan: _, at }) => push_pair(out, b"stale", unit_at(at)),
         Err(left) if left.why == CallError::Full => out.extend_from_slice(b"full"),
-        Err(_) => Err(AllocError),
+        Err(_) => out.extend_from_slice(TWICE),
     }
 }
 

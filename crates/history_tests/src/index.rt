@@ -1,7 +1,7 @@
 //! Which rows looked at what a row changed, and which row blocks its undo or hinders its redo: as a
 //! history looks it up, and as a walk over its rows finds it.
 
-use footprint::touches;
+use footprint::{Operation, touches};
 use history::{History, Row, RowReply};
 use link_tree::{Change, push_decimal};
 use sample_steps::{Step, push_numbered};
@@ -44,10 +44,10 @@ fn push_readers(out: &mut Vec<u8>, readers: &[u32]) -> Result<(), AllocError> {
 }
 
 /// The rows that the history lists as those that looked at what a row changed.
-fn listed_readers(
+fn listed_readers<O: Operation>(
     alloc: Global,
-    history: &History<Step>,
-    row: &Row<Step>,
+    history: &History<O>,
+    row: &Row<O>,
 ) -> Result<Vec<u32>, AllocError> {
     let mut readers = Vec::new(alloc);
     for change in row.changes.as_slice() {
@@ -57,9 +57,9 @@ fn listed_readers(
 }
 
 /// Adds a word for each row, as the history looks it up.
-pub(crate) fn push_index(
+pub(crate) fn push_index<O: Operation>(
     alloc: Global,
-    history: &History<Step>,
+    history: &History<O>,
     out: &mut Vec<u8>,
 ) -> Result<(), AllocError> {
     let mut n = 0u32;

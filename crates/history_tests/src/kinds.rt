@@ -1,5 +1,6 @@
 //! What blocks an undo, by keys of each kind.
 
+use crate::texts::text_of;
 use crate::watching::{Watch, looking};
 use history::{History, RowReply};
 use link_tree::Tree;
@@ -32,17 +33,22 @@ const ROWS: &[u8] = b"\
     link\t/etc/systemd/system-preset/1.preset\tlinks\treaders:1 undid:1\n\
     ";
 
-/// The call of a watch. If memory runs out, the operation that came back is run.
-fn call(alloc: Global, history: &mut History<Watch>, watch: Box<Watch>) -> Result<u32, AllocError> {
+/// The call of a watch. If memory runs out, the operation that came back is run. Returns whether
+/// the history was as before then, and the row is made.
+fn call(
+    alloc: Global,
+    history: &mut History<Watch>,
+    watch: Box<Watch>,
+) -> Result<bool, AllocError> {
     let alice = operator(b"alice")?;
-    let called = match history.call(alloc, alice, Box::into_inner(watch)) {
-        Err(unrun) => history.call(alloc, alice, unrun.operation),
-        answer => answer,
+    let before = text_of(alloc, history)?;
+    let unrun = match history.call(alloc, alice, Box::into_inner(watch)) {
+        Ok(_) => return Ok(true),
+        Err(unrun) => unrun,
     };
-    match called {
-        Ok(row) => Ok(row),
-        Err(_) => Err(AllocError),
-    }
+    let is_kept = text_of(alloc, history)? == before;
+    let again = history.call(alloc, alice, unrun.operation);
+    Ok(is_kept && again.is_ok())
 }
 
 /// How many rows looked at what the first one changed.
@@ -73,26 +79,38 @@ fn begun(alloc: Global) -> Result<Box<History<Watch>>, AllocError> {
     Ok(Box::new(alloc, history)?)
 }
 
-/// Makes the two rows.
+/// Makes the two rows. Returns whether they are made, and the history was kept whenever memory ran
+/// out.
 fn looked(
     alloc: Global,
     history: &mut History<Watch>,
     slot: &[u8],
     key: &[u8],
-) -> Result<(), AllocError> {
-    call(alloc, history, looking(alloc, b"slot:y.service", slot)?)?;
+) -> Result<bool, AllocError> {
+    let first = call(alloc, history, looking(alloc, b"slot:y.service", slot)?)?;
     let later = looking(alloc, key, b"/run/systemd/system/z.service")?;
-    call(alloc, history, later)?;
-    Ok(())
+    Ok(call(alloc, history, later)? && first)
+}
+
+/// The undo of the first row. If memory runs out, it is called again. Returns whether the history
+/// was as before then, and the row of the undo is made.
+fn undo(alloc: Global, history: &mut History<Watch>) -> Result<bool, AllocError> {
+    let alice = operator(b"alice")?;
+    let before = text_of(alloc, history)?;
+    if history.undo(alloc, alice, 1).is_ok() {
+        return Ok(true);
+    }
+    let is_kept = text_of(alloc, history)? == before;
+    Ok(history.undo(alloc, alice, 1).is_ok() && is_kept)
 }
 
 /// How many rows looked at the link, and what results from the undo.
 fn told(alloc: Global, history: &mut History<Watch>) -> Result<Vec<u8>, AllocError> {
     let mut out = Vec::new(alloc);
     push_numbered(&mut out, b"readers", readers_of_the_first(alloc, history)?)?;
-    match history.undo(alloc, operator(b"alice")?, 1) {
-        Ok(_) => out.extend_from_slice(b" ")?,
-        Err(_) => return Err(AllocError),
+    out.extend_from_slice(b" ")?;
+    if !undo(alloc, history)? {
+        out.extend_from_slice(b"changed ")?;
     }
     push_last(&mut out, history)?;
     Ok(out)
@@ -100,7 +118,9 @@ fn told(alloc: Global, history: &mut History<Watch>) -> Result<Vec<u8>, AllocErr
 
 fn answer(alloc: Global, row: &Row) -> Result<Vec<u8>, AllocError> {
     let mut history = begun(alloc)?;
-    looked(alloc, &mut history, &row.one, &row.two)?;
+    if !looked(alloc, &mut history, &row.one, &row.two)? {
+        return Vec::from_slice(alloc, b"changed");
+    }
     told(alloc, &mut history)
 }
 

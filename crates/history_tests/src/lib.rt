@@ -14,4 +14,6 @@ mod operations;
 #[cfg(test)]
 mod scripts;
 #[cfg(test)]
+mod texts;
+#[cfg(test)]
 mod watching;

@@ -109,13 +109,31 @@ fn boxed_reply(alloc: Global, word: &[u8]) -> Result<Box<RowReply>, AllocError> 
     Ok(Box::new(alloc, reply(alloc, word)?)?)
 }
 
+/// A copy of a reply. If memory runs out, the reply is the same as another of its word, and is
+/// copied again; if it isn't, there is none.
+fn reply_copied(
+    alloc: Global,
+    reply: &RowReply,
+    same: &RowReply,
+) -> Result<Option<Box<RowReply>>, AllocError> {
+    if let Ok(copy) = reply.copy() {
+        return Ok(Some(Box::new(alloc, copy)?));
+    }
+    if !reply.same(same) {
+        return Ok(None);
+    }
+    Ok(Some(Box::new(alloc, reply.copy()?)?))
+}
+
 /// The word of a reply's copy, if that is the same.
 fn copied_reply(alloc: Global, word: &[u8]) -> Result<Vec<u8>, AllocError> {
     let reply = boxed_reply(alloc, word)?;
-    let copy = Box::new(alloc, reply.copy()?)?;
+    let same = boxed_reply(alloc, word)?;
+    let copy = reply_copied(alloc, &reply, &same)?;
     let mut out = Vec::new(alloc);
-    if copy.same(&reply) {
-        push_reply(&mut out, &copy)?;
+    match &copy {
+        Some(copy) if copy.same(&same) => push_reply(&mut out, copy)?,
+        _ => out.extend_from_slice(b"another")?,
     }
     Ok(out)
 }
@@ -124,29 +142,57 @@ fn boxed_request(alloc: Global, word: &[u8]) -> Result<Box<Request<Step>>, Alloc
     Ok(Box::new(alloc, request(alloc, word)?)?)
 }
 
+/// A copy of a request. If memory runs out, the request is the same as another of its word, and is
+/// copied again; if it isn't, there is none.
+fn request_copied(
+    alloc: Global,
+    request: &Request<Step>,
+    same: &Request<Step>,
+) -> Result<Option<Box<Request<Step>>>, AllocError> {
+    if let Ok(copy) = request.copy() {
+        return Ok(Some(Box::new(alloc, copy)?));
+    }
+    if !request.same(same) {
+        return Ok(None);
+    }
+    Ok(Some(Box::new(alloc, request.copy()?)?))
+}
+
 /// Whether a request's copy is the same, and not another.
 fn copied_request(alloc: Global, word: &[u8], other: &[u8]) -> Result<&'static [u8], AllocError> {
     let request = boxed_request(alloc, word)?;
+    let same = boxed_request(alloc, word)?;
     let other = boxed_request(alloc, other)?;
-    let copy = Box::new(alloc, request.copy()?)?;
-    let is_told_apart = copy.same(&request) && !copy.same(&other);
-    Ok(if is_told_apart {
-        b"the same"
-    } else {
-        b"not the same"
-    })
+    match &request_copied(alloc, &request, &same)? {
+        Some(copy) if copy.same(&same) && !copy.same(&other) => Ok(b"the same"),
+        _ => Ok(b"not the same"),
+    }
+}
+
+/// A copy of a watch. If memory runs out, the watch is the same as another of its word, and is
+/// copied again; if it isn't, there is none.
+fn watch_copied(
+    alloc: Global,
+    watch: &Watch,
+    same: &Watch,
+) -> Result<Option<Box<Watch>>, AllocError> {
+    if let Ok(copy) = watch.copy() {
+        return Ok(Some(Box::new(alloc, copy)?));
+    }
+    if !watch.same(same) {
+        return Ok(None);
+    }
+    Ok(Some(Box::new(alloc, watch.copy()?)?))
 }
 
 /// Whether an operation's copy is the same, and no question.
 fn copied_operation(alloc: Global, word: &[u8]) -> Result<&'static [u8], AllocError> {
-    let watch = watch(alloc, word)?;
-    let copy = Box::new(alloc, watch.copy()?)?;
-    let is_same = copy.same(&watch) && !copy.asks_only();
-    Ok(if is_same {
-        b"the same"
-    } else {
-        b"not the same"
-    })
+    let original = watch(alloc, word)?;
+    let same = watch(alloc, word)?;
+    match &watch_copied(alloc, &original, &same)? {
+        Some(copy) if copy.same(&same) && !copy.asks_only() => Ok(b"the same"),
+        _ => Ok(b"not the same"),
+    }
 }
 
 /// Whether two operations as one are only questions, or a copy is the same.

@@ -1,7 +1,7 @@
 //! Earlier histories: `history.1` to `history.999999`.
 
 use crate::error::{HistoryError, if_there};
-use crate::held::{Held, Name, sync_above};
+use crate::held::Held;
 use crate::history_directory::{HISTORY, HistoryDirectory};
 use real_roots::{Identity, Trouble, at};
 use std::os::unix::fs::MetadataExt;
@@ -95,45 +95,62 @@ impl<'a> HistoryDirectory<'a> {
         Err(HistoryError::TooMany)
     }
 
-    /// Begins a history. If that fails, the second name of the one so far is removed.
+    /// Begins a history, once the second name of the one so far is on the disk: otherwise a power
+    /// failure could leave neither. If that fails, the second name is removed.
     fn begin_after(&self, text: &[u8], earlier: &str) -> Result<(), HistoryError> {
-        let begun = self.begin(text);
+        let begun = match self.sync() {
+            Ok(()) => self.begin(text),
+            Err(trouble) => Err(HistoryError::Trouble(trouble)),
+        };
         match &begun {
             Ok(()) | Err(HistoryError::MayNotLast(_)) => {}
             Err(_) => {
                 // (if this fails too, the next run removes it)
-                let _removed = remove_here(&self.held, earlier);
+                let _removed = self.remove_earlier(earlier);
             }
         }
         begun
     }
 
-    /// Removes all files of a history, `history` last, and the directory if nothing else is in it.
+    /// Removes the second name of `history`, and syncs the directory.
+    fn remove_earlier(&self, earlier: &str) -> Result<(), Trouble> {
+        remove_here(&self.held, earlier)?;
+        self.sync()
+    }
+
+    /// Removes all files of a history, `history` last, and the directory if nothing else is in it
+    /// and this user may.
     ///
-    /// Errors: the system's own: `history` is still there; `MayNotLast`.
+    /// Errors: the system's own: `history` is still there; `MayNotLast`: the files were removed,
+    /// and so was the directory, unless that is what failed.
     pub fn forget(&self) -> Result<(), HistoryError> {
         self.held.enter()?;
-        for name in &earlier_here(&self.held)? {
-            remove_here(&self.held, name.as_str())?;
+        let removed = self.remove_files();
+        if removed.is_err() {
+            // (what was removed before is gone, whatever else fails)
+            let _synced = self.sync();
         }
-        remove_here(&self.held, HISTORY)?;
+        removed?;
         match self.remove_directory() {
             Ok(()) => Ok(()),
             Err(trouble) => Err(HistoryError::MayNotLast(trouble)),
         }
     }
 
-    /// Removes the directory, unless something is in it, and syncs what was changed.
-    fn remove_directory(&self) -> Result<(), Trouble> {
-        let held = &self.held;
-        held.sync()?;
-        if fs::remove_dir(held.rt, &held.path).is_err() {
-            return Ok(());
+    /// Removes all files of a history, `history` last.
+    fn remove_files(&self) -> Result<(), Trouble> {
+        for name in &earlier_here(&self.held)? {
+            remove_here(&self.held, name.as_str())?;
         }
-        let name = Name {
-            opened: held.path.as_str(),
-            shown: held.shown.as_str(),
-        };
-        sync_above(held.rt, name, held.time)
+        remove_here(&self.held, HISTORY)
+    }
+
+    /// Syncs the directory, and removes it unless something is in it. If the first fails, the
+    /// second is tried all the same.
+    fn remove_directory(&self) -> Result<(), Trouble> {
+        let synced = self.held.sync();
+        let removed = self.held.remove_if_empty();
+        synced?;
+        removed
     }
 }

@@ -24,7 +24,8 @@ pub(crate) fn dependencies_of(
     }
 }
 
-fn is_kept_or_gone(kind: io::ErrorKind) -> bool {
+/// Whether a directory could not be removed since something is in it, or there is none.
+pub(crate) fn is_kept_or_gone(kind: io::ErrorKind) -> bool {
     kind == io::ErrorKind::DirectoryNotEmpty
         || kind == io::ErrorKind::AlreadyExists
         || kind == io::ErrorKind::NotFound

@@ -1,10 +1,11 @@
 //! A directory that this run has locked.
 
+use crate::emptied::is_kept_or_gone;
 use crate::error::{DirectoryFault, HistoryError, if_there, refused};
 use real_roots::{GivenTime, Hold, Identity, Patience, Trouble, at, changed, hold_root};
 use std::fs::{File, Metadata};
 use std::os::unix::fs::MetadataExt;
-use std::{env, fs};
+use std::{env, fs, io};
 
 /// Only for its owner.
 pub(crate) const DIRECTORY_MODE: u32 = 0o700;
@@ -50,6 +51,14 @@ fn check_directory(rt: &HostRuntime, shown: &str, found: &Metadata) -> Result<()
         return Err(refused(rt.alloc(), shown, DirectoryFault::Mode));
     }
     Ok(())
+}
+
+/// Whether a directory that could not be removed may stay: something is in it, it is a mount point,
+/// or this user may not remove it.
+fn may_stay(kind: io::ErrorKind) -> bool {
+    is_kept_or_gone(kind)
+        || kind == io::ErrorKind::ResourceBusy
+        || kind == io::ErrorKind::PermissionDenied
 }
 
 fn hold(
@@ -123,6 +132,19 @@ impl<'a> Held<'a> {
         self.enter()?;
         self.set_time()?;
         at(self.rt.alloc(), &self.shown, self.lock.sync_all())
+    }
+
+    /// Removes it, unless it has to stay, and syncs the directory that contains it.
+    pub fn remove_if_empty(&self) -> Result<(), Trouble> {
+        let shown = self.shown.as_str();
+        match fs::remove_dir(self.rt, &self.path) {
+            Ok(()) => {
+                let opened = self.path.as_str();
+                sync_above(self.rt, Name { opened, shown }, self.time)
+            }
+            Err(e) if may_stay(e.kind()) => Ok(()),
+            Err(e) => at(self.rt.alloc(), shown, Err(e)),
+        }
     }
 
     /// The path of a file in it, for messages.

@@ -2,11 +2,12 @@
 
 use crate::error::{HistoryError, if_there};
 use crate::held::Held;
-use crate::leftovers::{NEW, check_owner, clear, create_new};
+use crate::leftovers::{FILE_MODE, NEW, check_owner, clear, create_new};
 use real_roots::{Hold, Identity, Trouble, at, changed};
 use std::fs;
-use std::fs::File;
+use std::fs::{File, Permissions};
 use std::io::{Read, Write};
+use std::os::unix::fs::PermissionsExt;
 
 /// At most this number of bytes of a history is read, unless a larger limit is given: 64 MiB.
 pub const MOST_BYTES: u64 = 67_108_864;
@@ -39,6 +40,14 @@ impl HistoryFile {
 #[derive(Drop)]
 pub struct HistoryDirectory<'a> {
     pub(crate) held: Held<'a>,
+    /// This run has made the directory.
+    is_new: bool,
+}
+
+/// Refuses a directory of another user, and removes what runs left in it that were cut short.
+fn prepare(held: &Held<'_>) -> Result<(), HistoryError> {
+    check_owner(held)?;
+    Ok(clear(held)?)
 }
 
 impl<'a> HistoryDirectory<'a> {
@@ -46,10 +55,36 @@ impl<'a> HistoryDirectory<'a> {
     /// runs left there that were cut short is removed.
     pub(crate) fn taken(held: Held<'a>, hold: Hold) -> Result<HistoryDirectory<'a>, HistoryError> {
         if hold == Hold::Alone {
-            check_owner(&held)?;
-            clear(&held)?;
+            prepare(&held)?;
         }
-        Ok(HistoryDirectory { held })
+        Ok(HistoryDirectory {
+            held,
+            is_new: false,
+        })
+    }
+
+    /// A directory that this run has made and locked. If it can't be used, it is removed.
+    pub(crate) fn made(held: Held<'a>) -> Result<HistoryDirectory<'a>, HistoryError> {
+        match prepare(&held) {
+            Ok(()) => Ok(HistoryDirectory { held, is_new: true }),
+            Err(e) => {
+                // (its absolute path, since it is the working directory now)
+                let _removed = held.remove_if_empty();
+                Err(e)
+            }
+        }
+    }
+
+    /// Removes the directory if this run has made it, unless something is in it, and syncs the one
+    /// that contains it.
+    ///
+    /// Error: the system's own.
+    pub fn take_back(&self) -> Result<(), Trouble> {
+        if self.is_new {
+            self.held.remove_if_empty()
+        } else {
+            Ok(())
+        }
     }
 
     pub(crate) fn runtime(&self) -> &'a HostRuntime {
@@ -64,6 +99,17 @@ impl<'a> HistoryDirectory<'a> {
     /// The path that messages have: in the root that from the root on, else as it was given.
     pub fn shown_path(&self) -> &str {
         self.held.shown.as_str()
+    }
+
+    /// Whether a file exists, or anything else of its name.
+    ///
+    /// Errors: the system's own.
+    pub fn has(&self, file: HistoryFile) -> Result<bool, Trouble> {
+        let (rt, name) = (self.held.rt, file.name());
+        let path = self.held.shown_path(name)?;
+        self.held.enter()?;
+        let found = at(rt.alloc(), &path, if_there(fs::symlink_metadata(rt, name)))?;
+        Ok(found.is_some())
     }
 
     /// What a file contains; `None` if there is no such file. No link is followed.
@@ -98,6 +144,9 @@ impl<'a> HistoryDirectory<'a> {
         let alloc = self.held.rt.alloc();
         let path = self.held.shown_path(NEW)?;
         let mut file = create_new(&self.held)?;
+        // (whatever the umask is)
+        let mode = Permissions::from_mode(FILE_MODE);
+        at(alloc, &path, file.set_permissions(mode))?;
         at(alloc, &path, file.write_all(text))?;
         at(alloc, &path, self.held.time.set_on(&file))?;
         at(alloc, &path, file.sync_all())

@@ -11,7 +11,8 @@ use std::os::unix::fs::{MetadataExt, OpenOptionsExt};
 /// Files have this name until they are whole.
 pub(crate) const NEW: &str = "history.new";
 
-const FILE_MODE: u32 = 0o600;
+/// Only for its owner.
+pub(crate) const FILE_MODE: u32 = 0o600;
 
 /// Removes `history.new`, if there is one.
 fn remove_new(held: &Held<'_>) -> Result<(), Trouble> {

@@ -130,16 +130,22 @@ fn finish(rt: &HostRuntime, name: Name<'_>) -> Result<(), Trouble> {
 }
 
 /// Finishes a directory that was just made, and locks it.
-fn finish_and_take<'a>(
+fn finish_and_hold<'a>(
     rt: &'a HostRuntime,
     name: Name<'_>,
     patience: Patience,
-) -> Result<HistoryDirectory<'a>, HistoryError> {
+) -> Result<Held<'a>, HistoryError> {
     finish(rt, name)?;
-    match take(rt, name, Hold::Alone, patience)? {
-        Some(directory) => Ok(directory),
+    match Held::take(rt, name, Hold::Alone, patience)? {
+        Some(held) => Ok(held),
         None => Err(refused(rt.alloc(), name.shown, DirectoryFault::NoDirectory)),
     }
+}
+
+/// Removes a directory that was just made, and syncs the one that contains it.
+fn remove_made(rt: &HostRuntime, name: Name<'_>) -> Result<(), Trouble> {
+    at(rt.alloc(), name.shown, fs::remove_dir(rt, name.opened))?;
+    sync_above(rt, name, GivenTime::of_environment(rt)?)
 }
 
 /// Makes a directory, and locks it. If that fails, it is removed.
@@ -151,11 +157,13 @@ fn make<'a>(
     let mut builder = DirBuilder::new();
     builder.mode(DIRECTORY_MODE);
     at(rt.alloc(), name.shown, builder.create(rt, name.opened))?;
-    let made = finish_and_take(rt, name, patience);
-    if made.is_err() {
-        let _removed = fs::remove_dir(rt, name.opened);
+    match finish_and_hold(rt, name, patience) {
+        Ok(held) => HistoryDirectory::made(held),
+        Err(e) => {
+            let _removed = remove_made(rt, name);
+            Err(e)
+        }
     }
-    made
 }
 
 /// Locks a directory, which is made if there is none.
@@ -183,8 +191,9 @@ fn make_at<'a>(
     }
 }
 
-/// Locks the directory of a history alone. If there is none, one with mode 700 is made. If it
-/// fails, what was made is removed.
+/// Locks the directory of a history alone. If there is none, one with mode 700 is made. If that
+/// fails, it is removed, and `RealDisk::settle_back` removes the directories that were made above
+/// it.
 ///
 /// Errors: those of `open_directory`.
 pub fn make_directory<'a>(
@@ -195,8 +204,5 @@ pub fn make_directory<'a>(
 ) -> Result<HistoryDirectory<'a>, HistoryError> {
     let made = make_at(rt, disk, place, patience);
     disk.leave();
-    if made.is_err() {
-        let _removed = disk.settle_back();
-    }
     made
 }

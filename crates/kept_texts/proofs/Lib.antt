@@ -4,6 +4,7 @@ mod LineSplits
 mod LinesBack
 mod PartBytes
 mod Parts
+mod SlotsAlone
 mod SumBytes
 mod TextsBack
 mod Times

@@ -1,7 +1,9 @@
 -- The whole text of a history: what begins it, and what a run adds to it.
-use Rattle.std.specs.Prelude.{◌≡◌, ℕ, ◌+◌, Bool, not, ◌==◌, ◌&&◌, ◌||◌, nat_eq, List, [], ◌∷◌, ◌++◌, length, codes}
+use Rattle.std.specs.Prelude.{◌≡◌, ℕ, ◌+◌, Bool, true, not, ◌==◌, ◌&&◌, ◌||◌, nat_eq, List, [], ◌∷◌, ◌++◌, Some, length, codes}
 use Rattle.std.specs.List.{list_any, slice_split, starts_with, ends_with}
 use Rattle.std.specs.FinMap as map
+use Rattle.unit_paths.specs.Slots.{is_slot}
+use Rattle.link_tree.specs.declared.entry.Entry.{Entry}
 use Rattle.link_tree.specs.Trees.{Entries, inventory_text, after_changes}
 use Rattle.tree_steps.specs.Steps.{slot_changes_between}
 use Rattle.kept_texts.specs.declared.sums.Sum.{Sum}
@@ -17,6 +19,10 @@ use Rattle.kept_texts.specs.Readings.{is_line_end, count_lines, count_calls, fro
 -- the entries of a tree that are at slots
 abbrev pub slots_of : Entries → Entries
 slots_of tree = after_changes (slot_changes_between map.empty tree) map.empty
+
+-- each entry is at a slot
+abbrev pub IsOfSlots : Entries → Type 0
+IsOfSlots tree = (path : List ℕ) (entry : Entry) → map.get tree path ≡ Some entry → is_slot path ≡ true
 
 -- the sum of what a tree has at slots
 unfoldable pub sum_of_slots : Entries → Sum

@@ -1,14 +1,17 @@
 //! The inventories in a history: that of the first tree, and those of which sums are kept.
-ghost use Rattle.std.specs.Prelude.{◌≡◌, IfOk};
+ghost use Rattle.std.specs.Prelude.{◌≡◌, true, IfOk};
 ghost use Rattle.std.specs.Option.{option_map};
+ghost use Rattle.unit_paths.specs.Slots.{is_slot};
 ghost use Rattle.link_tree.specs.Trees.{inventory_text};
 ghost use Rattle.link_tree.specs.Inventory.{inventory_of};
 ghost use Rattle.kept_texts.specs.Readings.{front_text, front_of, tree_if_any};
-ghost use Rattle.kept_texts.specs.Texts.{slots_of, sum_of_slots};
+ghost use Rattle.kept_texts.specs.Texts.{IsOfSlots, slots_of, sum_of_slots};
 
 use crate::memory_sink::MemorySink;
 use crate::sums::{Sum, sum_of};
-use link_tree::{FromRead, InventoryError, Tree, WriteError, read_inventory, write_inventory};
+use link_tree::{
+    FromRead, InventoryError, Slot, Tree, TreePath, WriteError, read_inventory, write_inventory,
+};
 use std::alloc::{AllocError, Global};
 use tree_steps::slot_changes_between;
 
@@ -56,10 +59,33 @@ pub(crate) fn front_of(alloc: Global, bytes: &[u8]) -> Result<Option<Vec<u8>>, A
     }
 }
 
+fn is_slot(path: &TreePath) -> bool
+    ensures { result ≡ is_slot path.now }
+{
+    Slot::of(path).is_some()
+}
+
+/// Whether a tree has entries at slots alone.
+fn is_of_slots(tree: &Tree) -> bool
+    ensures { result ≡ true → IsOfSlots tree.now }
+{
+    for (path, _entry) in tree.iter() {
+        if !is_slot(path) {
+            return false;
+        }
+    }
+    true
+}
+
 /// The entries of a tree that are at slots.
+#[tactic(auto, using(crate::proofs::SlotsAlone::slots_are_all))]
 fn slots_of(alloc: Global, tree: &Tree) -> Result<Tree, AllocError>
     ensures { IfOk result (λ slots. slots ≡ slots_of tree.now) }
 {
+    if is_of_slots(tree) {
+        // (nearly always: then nothing is copied)
+        return tree.share();
+    }
     let none = Tree::empty(alloc)?;
     let changes = slot_changes_between(alloc, &none, tree)?;
     none.with_changes(&changes)

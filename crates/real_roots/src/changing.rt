@@ -240,13 +240,14 @@ impl<'a> RootFiles<'a> {
         let Some((name, above)) = made.names.split_last() else {
             return Ok(());
         };
+        let path = path_of_names(self.rt.alloc(), &made.names)?;
         self.root.enter(self.rt)?;
         for name in above {
-            enter_name(self.rt, name.as_str(), name.as_str())?;
+            enter_name(self.rt, path.as_str(), name.as_str())?;
         }
-        match found_under(self.rt, name.as_str(), name.as_str())? {
+        match found_under(self.rt, path.as_str(), name.as_str())? {
             Some(found) if Identity::of(&found) == made.identity => {
-                self.remove_directory_here(name.as_str(), name.as_str(), name.as_str())
+                self.remove_directory_here(path.as_str(), path.as_str(), name.as_str())
             }
             _ => Ok(()),
         }
@@ -284,6 +285,16 @@ fn is_kept_or_gone(kind: io::ErrorKind) -> bool {
     kind == io::ErrorKind::DirectoryNotEmpty
         || kind == io::ErrorKind::AlreadyExists
         || kind == io::ErrorKind::NotFound
+}
+
+/// The path of a directory beneath the root, by the names on the way to it.
+fn path_of_names(alloc: Global, names: &[String]) -> Result<String, Trouble> {
+    let mut path = String::new(alloc);
+    for name in names {
+        path.push_str("/")?;
+        path.push_str(name.as_str())?;
+    }
+    Ok(path)
 }
 
 fn copies(alloc: Global, names: &[String]) -> Result<Vec<String>, Trouble> {

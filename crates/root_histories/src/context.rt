@@ -1,5 +1,6 @@
 //! What all parts of a run on a root with a history need.
 
+use real_roots::at;
 use root_access::Failure;
 use root_words::Asked;
 use std::fs;
@@ -15,11 +16,9 @@ pub struct Context<'a> {
     pub path: &'a str,
 }
 
-/// The canonical path of a root. If there is none, it is the path as it was given: locking the root
-/// says why.
+/// The canonical path of a root.
+///
+/// Error: the system's own.
 pub fn canonical_root(rt: &HostRuntime, root: &str) -> Result<String, Failure> {
-    match fs::canonicalize(rt, root) {
-        Ok(path) => Ok(path.into_string()),
-        Err(_) => Ok(String::from_str(rt.alloc(), root)?),
-    }
+    Ok(at(rt.alloc(), root, fs::canonicalize(rt, root))?.into_string())
 }

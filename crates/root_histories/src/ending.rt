@@ -21,6 +21,8 @@ pub enum Stop {
     Unmade(RunError, Option<String>),
     /// A run that was cut short could not be finished.
     Unfinished(FinishError),
+    /// What comes before the calls was done, and may not last: no call was made.
+    NotBegun,
 }
 
 impl From<Failure> for Stop {
@@ -73,10 +75,11 @@ fn failed_path(
     }
 }
 
-/// Writes a history to the disk. The root already is as it says.
+/// Writes a history to the disk, before calls are made. The root already is as it says.
 pub fn write_to(alloc: Global, root: &mut KeptRoot<'_>, kept: &Kept) -> Result<(), Stop> {
     match commit_others(alloc, &mut root.disk, kept) {
         Ok(()) => Ok(()),
+        Err(_) if root.disk.is_ending() => Err(Stop::NotBegun),
         Err(error) => Err(Stop::Unmade(error, None)),
     }
 }
@@ -161,12 +164,21 @@ fn unmade_failure(
     }
 }
 
+/// Whether a run that failed so has changed nothing.
+pub fn is_of_nothing(failure: &Failure) -> bool {
+    let status = failure.status();
+    status == 1 || status == 4
+}
+
 /// Removes the directories that were made for nothing.
-fn after_nothing(disk: &mut RealDisk<'_>, failure: Failure) -> Failure {
-    if failure.status() == 1 {
-        let _removed = disk.settle_back();
+pub fn after_nothing(disk: &mut RealDisk<'_>, failure: Failure) -> Failure {
+    if !is_of_nothing(&failure) {
+        return failure;
     }
-    failure
+    match disk.settle_back() {
+        Ok(()) => failure,
+        Err(trouble) => Failure::NotSettledBack(trouble),
+    }
 }
 
 /// Why a run failed. The history is unlocked.
@@ -179,6 +191,7 @@ fn failure_of(alloc: Global, root: KeptRoot<'_>, stop: Stop) -> Failure {
         Stop::Unmade(error, path) => unmade_failure(alloc, &mut disk, is_ending, error, path),
         Stop::Unfinished(_) if is_ending => unsynced(&mut disk),
         Stop::Unfinished(_) => promised(alloc, &mut disk),
+        Stop::NotBegun => read_trouble(alloc, &mut disk),
     }
 }
 

@@ -2,8 +2,8 @@
 
 use crate::context::Context;
 use crate::kept_root::KeptRoot;
-use kept_roots::{HistoryDirectory, HistoryPlace, open_directory};
-use real_roots::RealDisk;
+use kept_roots::{HistoryDirectory, HistoryFile, HistoryPlace, open_directory};
+use real_roots::{RealDisk, Trouble};
 use root_access::{Failure, hold_of, patience_of, print_messages, push_message, take_root};
 use std::alloc::AllocError;
 use std::fs;
@@ -30,16 +30,9 @@ pub fn place_of(cx: Context<'_>) -> Result<HistoryPlace, Failure> {
     }
 }
 
-/// Whether a file is in the directory of a history.
-pub fn has_file(rt: &HostRuntime, directory: &str, name: &str) -> Result<bool, AllocError> {
-    let path = format!(in rt.alloc(); "{directory}/{name}")?;
-    Ok(fs::symlink_metadata(rt, &path).is_ok())
-}
-
 /// Whether there is a history in a directory.
-fn has_history(rt: &HostRuntime, directory: &HistoryDirectory<'_>) -> Result<bool, AllocError> {
-    let path = directory.path();
-    Ok(has_file(rt, path, "history")? || has_file(rt, path, "history.next")?)
+fn has_history(directory: &HistoryDirectory<'_>) -> Result<bool, Trouble> {
+    Ok(directory.has(HistoryFile::Current)? || directory.has(HistoryFile::Next)?)
 }
 
 /// The directory of the history of a root, if it has a history.
@@ -50,7 +43,7 @@ pub fn directory_of<'a>(
 ) -> Result<Option<HistoryDirectory<'a>>, Failure> {
     let (hold, patience) = (hold_of(cx.asked), patience_of(cx.asked.wait));
     match open_directory(cx.rt, disk, place, hold, patience) {
-        Ok(Some(directory)) if has_history(cx.rt, &directory)? => Ok(Some(directory)),
+        Ok(Some(directory)) if has_history(&directory)? => Ok(Some(directory)),
         Ok(_) => Ok(None),
         Err(e) => Err(Failure::from(e)),
     }
@@ -101,10 +94,9 @@ pub fn note_promise(
     Ok(())
 }
 
-/// The same for a dry run on a root with a history.
-pub fn note_promise_of(cx: Context<'_>, root: &mut KeptRoot<'_>) -> Result<(), AllocError> {
-    let is_promised = has_file(cx.rt, root.disk.directory().path(), "history.next")?;
-    if is_promised {
+/// The same for what only looks at a root with a history, or is a dry run on one.
+pub fn note_promise_of(root: &mut KeptRoot<'_>) -> Result<(), Failure> {
+    if root.disk.directory().has(HistoryFile::Next)? {
         root.notes.warn(PROMISED)?;
     }
     Ok(())

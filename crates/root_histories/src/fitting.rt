@@ -169,9 +169,17 @@ fn begin_anew(
     let number = if cx.asked.how.dry_run {
         None
     } else {
-        Some(set_aside(root, turn.kept.text().bytes())?)
+        Some(set_aside_first(root, turn.kept.text().bytes())?)
     };
     Ok(note_anew(cx, root, why, rows, number)?)
+}
+
+/// Sets the history so far aside, before calls are made: if that may not last, none is made.
+fn set_aside_first(root: &mut KeptRoot<'_>, text: &[u8]) -> Result<u32, Failure> {
+    match set_aside(root, text) {
+        Err(Failure::Unsynced(trouble)) => Err(Failure::Root(trouble)),
+        number => number,
+    }
 }
 
 /// Writes the history as it was fitted, with no steps, since the root is already as it says.

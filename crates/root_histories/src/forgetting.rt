@@ -2,19 +2,23 @@
 
 use crate::context::Context;
 use crate::ending::{Stop, end};
-use crate::finding::{Taken, has_file, take};
+use crate::finding::{Taken, take};
 use crate::kept_root::KeptRoot;
-use crate::reading::read_kept;
+use crate::reading::{read_kept, unless_of_text};
+use kept_roots::HistoryFile;
 use root_access::Failure;
 
-/// A history of another root isn't removed.
+/// A history of another root isn't removed. One that is in the root belongs to it.
 fn check(cx: Context<'_>, root: &mut KeptRoot<'_>) -> Result<(), Failure> {
-    if has_file(cx.rt, root.disk.directory().path(), "history.next")? {
+    if root.disk.directory().has(HistoryFile::Next)? {
         return Err(Failure::StillPromised);
     }
+    if cx.asked.history.is_none() {
+        return Ok(());
+    }
     match read_kept(cx, root) {
-        Err(Failure::OtherRoot(other)) => Err(Failure::OtherRoot(other)),
-        _ => Ok(()),
+        Ok(_kept) => Ok(()),
+        Err(failure) => unless_of_text(failure),
     }
 }
 

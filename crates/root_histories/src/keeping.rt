@@ -1,20 +1,20 @@
 //! `keep`: a history begins.
 
 use crate::context::Context;
-use crate::ending::{Stop, end};
+use crate::ending::{Stop, after_nothing, end, is_of_nothing};
 use crate::finding::{Taken, place_of, take_any};
 use crate::headers::new_history;
 use crate::kept_root::KeptRoot;
-use crate::reading::read_kept;
-use crate::recovery::{finish_promised, rows_text};
+use crate::reading::{read_kept, unless_of_text};
+use crate::recovery::{finish_before, rows_text};
 use crate::setting_aside::set_aside;
 use disk::capture;
 use kept_roots::{HistoryDirectory, HistoryPlace, make_directory};
 use kept_runs::Kept;
+use link_tree::Tree;
 use real_roots::RealDisk;
 use root_access::{Failure, captured_in, paths_of, patience_of};
-use std::alloc::AllocError;
-use std::fs;
+use std::alloc::{AllocError, Global};
 
 /// Says where the history is.
 fn note_place(cx: Context<'_>, root: &mut KeptRoot<'_>) -> Result<(), AllocError> {
@@ -43,16 +43,19 @@ fn note_lost(
     root.notes.say(line.as_str())
 }
 
-/// Finishes a run that was cut short. If its history can't be read, its promise is withdrawn, since a
-/// new history begins with the root as it is.
+/// Finishes a run that was cut short. If the text of its history is at fault, its promise is
+/// withdrawn, since a new history begins with the root as it is.
 fn finish_or_withdraw(cx: Context<'_>, root: &mut KeptRoot<'_>) -> Result<(), Stop> {
-    match finish_promised(cx, root) {
-        Err(Stop::Failed(_)) => Ok(withdraw(cx, root)?),
+    match finish_before(cx, root) {
+        Err(Stop::Failed(failure)) => {
+            unless_of_text(failure)?;
+            Ok(withdraw(root)?)
+        }
         finished => finished,
     }
 }
 
-fn withdraw(cx: Context<'_>, root: &mut KeptRoot<'_>) -> Result<(), Failure> {
+fn withdraw(root: &mut KeptRoot<'_>) -> Result<(), Failure> {
     let directory = root.disk.directory();
     directory.withdraw()?;
     directory.sync()?;
@@ -60,36 +63,43 @@ fn withdraw(cx: Context<'_>, root: &mut KeptRoot<'_>) -> Result<(), Failure> {
     Ok(root.notes.warn(line)?)
 }
 
-/// How many rows the history so far has, if it can be read.
-fn rows_so_far(cx: Context<'_>, root: &mut KeptRoot<'_>) -> Option<usize> {
+/// How many rows the history so far has; `None` if its text is at fault.
+fn rows_so_far(cx: Context<'_>, root: &mut KeptRoot<'_>) -> Result<Option<usize>, Failure> {
     match read_kept(cx, root) {
-        Ok(kept) => Some(kept.history().rows().len()),
-        Err(_) => None,
+        Ok(kept) => Ok(Some(kept.history().rows().len())),
+        Err(failure) => {
+            unless_of_text(failure)?;
+            Ok(None)
+        }
     }
 }
 
-/// The history that begins with the root as it is.
-fn history_of_today(cx: Context<'_>, root: &mut KeptRoot<'_>) -> Result<Kept, Stop> {
+/// The root with a history, as it is.
+fn kept_tree_of_today(cx: Context<'_>, root: &mut KeptRoot<'_>) -> Result<Tree, Stop> {
     let alloc = cx.rt.alloc();
     let paths = paths_of(alloc, &cx.asked.with)?;
-    let first = capture(alloc, &mut root.disk, &paths)?;
-    Ok(new_history(cx, &first)?)
+    Ok(capture(alloc, &mut root.disk, &paths)?)
+}
+
+/// The text of another history, which begins with the root as it is.
+fn text_of_another(cx: Context<'_>, root: &mut KeptRoot<'_>) -> Result<Vec<u8>, Stop> {
+    match kept_tree_of_today(cx, root) {
+        Ok(first) => Ok(text_of_tree(cx, &first)?),
+        Err(stop) => Err(stop),
+    }
 }
 
 /// Lets another history begin with the root as it is. The one so far becomes `history.N`, and N is
 /// returned.
 fn begin_another(cx: Context<'_>, root: &mut KeptRoot<'_>) -> Result<u32, Stop> {
-    let kept = history_of_today(cx, root)?;
-    match set_aside(root, kept.text().bytes()) {
-        Ok(number) => Ok(number),
-        Err(failure) => Err(Stop::Failed(failure)),
-    }
+    let text = text_of_another(cx, root)?;
+    Ok(set_aside(root, &text)?)
 }
 
 /// Begins again on a root with a history.
 fn keep_anew(cx: Context<'_>, root: &mut KeptRoot<'_>) -> Result<u8, Stop> {
     finish_or_withdraw(cx, root)?;
-    let rows = rows_so_far(cx, root);
+    let rows = rows_so_far(cx, root)?;
     let number = begin_another(cx, root)?;
     note_lost(cx, root, number, rows)?;
     note_place(cx, root)?;
@@ -103,18 +113,31 @@ fn begin_in(cx: Context<'_>, root: &mut KeptRoot<'_>, text: &[u8]) -> Result<u8,
     Ok(0)
 }
 
-/// Removes a directory that was made for a history that could not be begun.
-fn take_back(cx: Context<'_>, root: &mut KeptRoot<'_>) {
-    let _removed = fs::remove_dir(cx.rt, root.disk.directory().path());
+/// The root as it is.
+fn tree_of_today(cx: Context<'_>, disk: &mut RealDisk<'_>) -> Result<Tree, Failure> {
+    let alloc = cx.rt.alloc();
+    let paths = paths_of(alloc, &cx.asked.with)?;
+    captured_in(alloc, disk, &paths)
+}
+
+fn copied_text(alloc: Global, kept: &Kept) -> Result<Vec<u8>, Failure> {
+    Ok(Vec::from_slice(alloc, kept.text().bytes())?)
+}
+
+/// The text of a history that begins with a tree.
+fn text_of_tree(cx: Context<'_>, first: &Tree) -> Result<Vec<u8>, Failure> {
+    match new_history(cx, first) {
+        Ok(kept) => copied_text(cx.rt.alloc(), &kept),
+        Err(failure) => Err(failure),
+    }
 }
 
 /// The text of a history that begins with the root as it is.
 fn text_of_today(cx: Context<'_>, disk: &mut RealDisk<'_>) -> Result<Vec<u8>, Failure> {
-    let alloc = cx.rt.alloc();
-    let paths = paths_of(alloc, &cx.asked.with)?;
-    let first = captured_in(alloc, disk, &paths)?;
-    let kept = new_history(cx, &first)?;
-    Ok(Vec::from_slice(alloc, kept.text().bytes())?)
+    match tree_of_today(cx, disk) {
+        Ok(first) => text_of_tree(cx, &first),
+        Err(failure) => Err(failure),
+    }
 }
 
 /// The directory for the history.
@@ -133,19 +156,27 @@ fn made_directory<'a>(
 fn keep_first(cx: Context<'_>, disk: RealDisk<'_>, place: &HistoryPlace) -> Result<u8, Failure> {
     let mut disk = disk;
     let text = text_of_today(cx, &mut disk)?;
-    let directory = made_directory(cx, &mut disk, place)?;
-    let mut root = KeptRoot::new(cx, disk, directory);
-    let begun = begin_in(cx, &mut root, &text);
-    if begun.is_err() {
-        take_back(cx, &mut root);
+    match made_directory(cx, &mut disk, place) {
+        Ok(directory) => begin_first(cx, KeptRoot::new(cx, disk, directory), &text),
+        Err(failure) => Err(after_nothing(&mut disk, failure)),
     }
-    end(cx, root, stop_of(begun))
 }
 
-fn stop_of(ended: Result<u8, Failure>) -> Result<u8, Stop> {
-    match ended {
+/// Begins the first history of a root, in its directory.
+fn begin_first(cx: Context<'_>, root: KeptRoot<'_>, text: &[u8]) -> Result<u8, Failure> {
+    let mut root = root;
+    let begun = match begin_in(cx, &mut root, text) {
         Ok(status) => Ok(status),
-        Err(failure) => Err(Stop::Failed(failure)),
+        Err(failure) => Err(Stop::Failed(take_back(&mut root, failure))),
+    };
+    end(cx, root, begun)
+}
+
+/// Removes a directory that was made for a history that could not be begun.
+fn take_back(root: &mut KeptRoot<'_>, failure: Failure) -> Failure {
+    match root.disk.directory().take_back() {
+        Err(trouble) if is_of_nothing(&failure) => Failure::NotSettledBack(trouble),
+        _ => failure,
     }
 }
 

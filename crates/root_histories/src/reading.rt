@@ -2,7 +2,7 @@
 
 use crate::context::Context;
 use crate::kept_root::KeptRoot;
-use kept_roots::{HistoryFile, MOST_BYTES};
+use kept_roots::{HistoryError, HistoryFile, MOST_BYTES};
 use kept_runs::{Kept, KeptError};
 use root_access::{Failure, RULES};
 use root_runs::push_shown;
@@ -74,6 +74,27 @@ pub fn kept_of(alloc: Global, text: Vec<u8>) -> Result<Kept, Failure> {
             Err(Failure::BadCall(before.saturating_add(line as usize), reason))
         }
         Err(e) => Err(Failure::from(e)),
+    }
+}
+
+/// Whether a history can't be read because of its text, and not because the system refused
+/// something, memory ran out, or the history is that of another root.
+fn is_of_text(failure: &Failure) -> bool {
+    match failure {
+        Failure::Unreadable(_) | Failure::BadCall(..) | Failure::OnlyPromised => true,
+        Failure::OtherRules(..) | Failure::OtherRows(_) => true,
+        Failure::ManyRows | Failure::ManyLines | Failure::Full => true,
+        Failure::History(HistoryError::NoFile(_) | HistoryError::TooLarge(..)) => true,
+        _ => false,
+    }
+}
+
+/// The reason why a history can't be read, unless its text is at fault.
+pub fn unless_of_text(failure: Failure) -> Result<(), Failure> {
+    if is_of_text(&failure) {
+        Ok(())
+    } else {
+        Err(failure)
     }
 }
 

@@ -106,10 +106,20 @@ pub fn finish_promised(cx: Context<'_>, root: &mut KeptRoot<'_>) -> Result<(), S
     }
 }
 
-/// What a run does first: it finishes one that was cut short. A dry run only says that there is one.
+/// Finishes a run that was cut short, before something else is done: if only the last sync fails,
+/// that isn't done.
+pub fn finish_before(cx: Context<'_>, root: &mut KeptRoot<'_>) -> Result<(), Stop> {
+    match finish_promised(cx, root) {
+        Err(Stop::Unfinished(_)) if root.disk.is_ending() => Err(Stop::NotBegun),
+        finished => finished,
+    }
+}
+
+/// What a run with calls does first: it finishes one that was cut short. A dry run only says that
+/// there is one.
 pub fn begin_run(cx: Context<'_>, root: &mut KeptRoot<'_>) -> Result<(), Stop> {
     if cx.asked.how.dry_run {
-        return Ok(note_promise_of(cx, root)?);
+        return Ok(note_promise_of(root)?);
     }
-    finish_promised(cx, root)
+    finish_before(cx, root)
 }

@@ -2,11 +2,11 @@
 
 use crate::context::Context;
 use crate::ending::{Stop, commit_to, disk_after, end};
-use crate::finding::{Taken, take};
+use crate::finding::{Taken, note_promise_of, take};
 use crate::fitting::Turn;
 use crate::kept_root::KeptRoot;
 use crate::lines::Wanted;
-use crate::recovery::begin_run;
+use crate::recovery::{begin_run, finish_promised};
 use crate::rounds::made_in_rounds;
 use real_roots::RealDisk;
 use root_access::{Done, Failure};
@@ -83,7 +83,11 @@ pub fn disk_after_recovery<'a>(
 }
 
 fn recovered(cx: Context<'_>, root: &mut KeptRoot<'_>) -> Result<u8, Stop> {
-    begin_run(cx, root)?;
+    if cx.asked.how.dry_run {
+        note_promise_of(root)?;
+    } else {
+        finish_promised(cx, root)?;
+    }
     Ok(0)
 }
 

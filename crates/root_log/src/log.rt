@@ -184,7 +184,7 @@ fn print_log(
     filter: &Filter,
     full: bool,
 ) -> Result<u8, Stop> {
-    note_promise_of(cx, root)?;
+    note_promise_of(root)?;
     let kept = read_kept(cx, root)?;
     let text = text_of(cx, &kept, zone, filter, full)?;
     print(cx.rt, &text, Done::Nothing)?;

@@ -101,11 +101,16 @@ fn check_passed_over(cx: Context<'_>, failure: Failure) -> Result<(), Failure> {
     Ok(())
 }
 
+/// Reads the history of a root that is only looked at.
+fn read_history(cx: Context<'_>, root: &mut KeptRoot<'_>) -> Result<Kept, Failure> {
+    note_promise_of(root)?;
+    root.notes.print(cx.rt);
+    read_kept(cx, root)
+}
+
 /// The history of a root, if it can be read.
 fn history_of(cx: Context<'_>, root: &mut KeptRoot<'_>) -> Result<Option<Kept>, Failure> {
-    note_promise_of(cx, root)?;
-    root.notes.print(cx.rt);
-    match read_kept(cx, root) {
+    match read_history(cx, root) {
         Ok(kept) => Ok(Some(kept)),
         Err(failure) => {
             check_passed_over(cx, failure)?;

@@ -246,7 +246,7 @@ fn print_row(
     zone: &LocalZone,
     n: u32,
 ) -> Result<u8, Stop> {
-    note_promise_of(cx, root)?;
+    note_promise_of(root)?;
     let kept = read_kept(cx, root)?;
     Ok(print_row_of(cx, &kept, zone, n)?)
 }

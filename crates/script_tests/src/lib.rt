@@ -1,6 +1,6 @@
 //! Tests of `unit_script`, from outside it: with tests of its own it would be proved twice. Those of
-//! failing streams are of `link_tree`'s reader and writer too, and those of faults of sessions are of
-//! `session_script`.
+//! failing streams are of `link_tree`'s reader and writer too, and those of faults of sessions and of
+//! runs with sessions are of `session_script`.
 #![tactic(auto)]
 
 #[cfg(test)]
@@ -23,3 +23,5 @@ mod session_faults;
 mod streams;
 #[cfg(test)]
 mod verbs;
+#[cfg(test)]
+mod with_sessions;

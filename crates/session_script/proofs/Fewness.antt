@@ -9,6 +9,7 @@ use Rattle.std.proofs.lemmas.List.Elements.{All-nil, All-cons, All-append, All-h
 use Rattle.std.proofs.lemmas.Map.Keys.{IsDistinct-push}
 use Rattle.std.proofs.lemmas.Map.Made.{length-le_from_is_member}
 use Rattle.std.proofs.lemmas.Slice.Eq.{bytes_eq-Decides}
+use Rattle.load_path.specs.Search.{with_cell, with_cells, each_once}
 use Rattle.shared_admin.specs.Sharing.{MayShare, is_among}
 use Rattle.unit_script.specs.declared.call.Call.{Call}
 use Rattle.session_script.specs.Served.{operators_of, AreOfTooMany}
@@ -49,20 +50,39 @@ of_more : (calls : List Call) (call : Call) → operators_of (calls ++ call ∷ 
 of_more [] call = refl
 of_more (first ∷ calls) call = ap (λ os. first.operator ∷ os) (of_more calls call)
 
--- The operators of calls, each once, and at most sixteen.
+-- one more operator after those that are there once each
+with_cells-push : (names more : List (List ℕ)) (name : List ℕ) → with_cells names (more ++ name ∷ []) ≡ with_cell (with_cells names more) name
+with_cells-push names [] name = refl
+with_cells-push names (first ∷ more) name = with_cells-push (with_cell names first) more name
+
+there_already : (names : List (List ℕ)) (name : List ℕ) → is_among names name ≡ true → names ≡ with_cell names name
+unfolding with_cell
+there_already names name there = rw there refl
+
+goes_last : (names : List (List ℕ)) (name : List ℕ) → is_among names name ≡ false → names ++ name ∷ [] ≡ with_cell names name
+unfolding with_cell
+goes_last names name off = rw off refl
+
+-- The operators of calls, each once, in the order of their first calls, and at most sixteen.
 pub record AreOf (calls : List Call) (operators : List (List ℕ)) : Type 0 where
   pub distinct : IsDistinct bytes_eq operators
   pub few : length operators ≤ 16
   pub own : All (Among (operators_of calls)) operators
   pub each : All (Among operators) (operators_of calls)
+  pub order : operators ≡ each_once (operators_of calls)
 
 pub of_none : AreOf [] []
 unfolding IsDistinct
-of_none = record { distinct = tt; few = omega arith; own = All-nil (Among []); each = All-nil (Among []) }
+of_none = record { distinct = tt; few = omega arith; own = All-nil (Among []); each = All-nil (Among []); order = refl }
 
 module _ (calls : List Call) (operators : List (List ℕ)) (call : Call) (before : AreOf calls operators) where
   own_more : All (Among (operators_of (calls ++ call ∷ []))) operators
   own_more = subst (λ os. All (Among os) operators) (sym (of_more calls call)) (all_more (operators_of calls) call.operator operators before.own)
+
+  -- the operator of one more call comes last, unless it is there already
+  order_more : (more : List (List ℕ)) → more ≡ with_cell operators call.operator → more ≡ each_once (operators_of (calls ++ call ∷ []))
+  order_more more is =
+      is ∙ ap (λ names. with_cell names call.operator) before.order ∙ sym (with_cells-push [] (operators_of calls) call.operator) ∙ ap each_once (sym (of_more calls call))
 
   -- a call of an operator that has an earlier one
   pub again : Among operators call.operator → AreOf (calls ++ call ∷ []) operators
@@ -71,6 +91,7 @@ module _ (calls : List Call) (operators : List (List ℕ)) (call : Call) (before
     few = before.few;
     own = own_more;
     each = subst (All (Among operators)) (sym (of_more calls call)) (All-append (Among operators) (operators_of calls) (call.operator ∷ []) before.each (All-cons (Among operators) call.operator [] there (All-nil (Among operators))));
+    order = order_more operators (there_already operators call.operator there);
   }
 
   module _ (off : is_among operators call.operator ≡ false) where
@@ -91,6 +112,7 @@ module _ (calls : List Call) (operators : List (List ℕ)) (call : Call) (before
           few = omega (arith, more);
           own = own_too;
           each = subst (All P) (sym (of_more calls call)) (All-append P (operators_of calls) (call.operator ∷ []) (all_more operators call.operator (operators_of calls) before.each) (All-cons P call.operator [] (among_last operators call.operator) (All-nil P)));
+          order = order_more (operators ++ call.operator ∷ []) (goes_last operators call.operator off);
         }
 
     in_front : (later some : List (List ℕ)) (operator : List ℕ) → Among some operator → Among (some ++ later) operator
@@ -142,6 +164,9 @@ module _ (calls : List Call) (index : ℕ) (operators : List (List ℕ)) (call :
 
 pub none_left : (calls : List Call) (index : ℕ) (operators : List (List ℕ)) → length calls ≤ index → AreOf (take index calls) operators → ¬ AreOfTooMany calls
 none_left calls index operators through before = not_too_many calls operators (subst (λ cs. AreOf cs operators) (take_all index calls through) before)
+
+pub ordered : (calls : List Call) (index : ℕ) (operators : List (List ℕ)) → length calls ≤ index → AreOf (take index calls) operators → operators ≡ each_once (operators_of calls)
+ordered calls index operators through before = (subst (λ cs. AreOf cs operators) (take_all index calls through) before).order
 
 pub may_share : (calls : List Call) (index : ℕ) (operators : List (List ℕ)) → AreOf (take index calls) operators → MayShare operators
 may_share calls index operators before = (before.few, before.distinct)

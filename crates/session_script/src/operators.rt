@@ -2,6 +2,7 @@
 ghost use Rattle.std.specs.Prelude.{◌≡◌, ◌<◌, ◌++◌, ◌∷◌, [], All, IsTrue, IfOk, IfErr, OnOk, length};
 ghost use Rattle.std.specs.List.{IsDistinct};
 ghost use Rattle.std.specs.Str.{bytes_eq};
+ghost use Rattle.load_path.specs.Search.{each_once};
 ghost use Rattle.shared_admin.specs.Sharing.{MayShare, is_among};
 ghost use Rattle.session_script.specs.Served.{operators_of, AreOfTooMany};
 
@@ -33,6 +34,7 @@ fn add(operators: &mut Operators, operator: Operator)
 
 /// The operators of calls, each once, in the order of their first calls. Allocates no memory.
 pub(crate) fn operators_of(alloc: Global, calls: &[Call]) -> Result<Operators, TooMany>
+    ensures order { IfOk result (λ operators. operators ≡ each_once (operators_of calls.now)) }
     ensures all { IfOk result (λ operators. All (λ operator. IsTrue (is_among operators operator)) (operators_of calls.now)) }
     ensures share { IfOk result (λ operators. MayShare operators) }
     ensures few { OnOk result (¬ AreOfTooMany calls.now) }

@@ -39,6 +39,16 @@ fn answer_of(alloc: Global, word: &[u8]) -> Result<Box<Answered>, AllocError> {
     Ok(Box::new(alloc, answer)?)
 }
 
+/// Adds the answer of such a word to others.
+pub(crate) fn push_answer(
+    alloc: Global,
+    word: &[u8],
+    answers: &mut Vec<Answered>,
+) -> Result<(), AllocError> {
+    let answer = answer_of(alloc, word)?;
+    Ok(answers.push(Box::into_inner(answer))?)
+}
+
 pub(crate) fn text_of(accepted: Result<(), AcceptError>) -> &'static [u8] {
     match accepted {
         Ok(()) => b"taken",

@@ -17,7 +17,8 @@ use std::test::Fail;
 use unit_name::ample;
 
 /// What a desk says to words. What closing returns for alice's session, in which she put a file at
-/// the slot of a and undid that, if this is what she had asked for. What her last entry says: if
+/// the slot of a and undid that, if this is what she had asked for, and if these jobs were issued
+/// and these answers are handed in. What her last entry says: if
 /// bob meddles with each plan of hers; after the requests of a script, with two digits for each
 /// call of the gate, which are the request and the attempt; after requests of which some find the
 /// history full; or if she had seen this many rows before she put a file at the slot of a and undid
@@ -38,10 +39,21 @@ const ROWS: &[u8] = b"\
     asked\talice:put:a alice:undo:1 alice:put:b\t\tmismatch:alice:3\n\
     asked\talice:put:a\t\tmismatch:alice:2\n\
     asked\t\t\tmismatch:alice:1\n\
-    # all was served, but the desk has no answer; a log that isn't of what was asked for\n\
-    # comes first\n\
-    asked\talice:put:a alice:undo:1\tand a job is left\tmismatch:alice:0\n\
-    asked\talice:put:a alice:undo:2\tand a job is left\tmismatch:alice:2\n\
+    # all was served, and each job has its answer\n\
+    asked\talice:put:a alice:undo:1\tissue:alice issue:bob answer:2:bob answer:1:alice\tclosed\n\
+    # a job has no answer; the first of two; a log that isn't of what was asked for comes first\n\
+    asked\talice:put:a alice:undo:1\tissue:alice\tmismatch:alice:0\n\
+    asked\talice:put:a alice:undo:1\tissue:alice issue:bob issue:carol answer:1:alice\t\
+        mismatch:bob:0\n\
+    asked\talice:put:a alice:undo:2\tissue:alice\tmismatch:alice:2\n\
+    # a second answer to a job, and answers to no job and to another operator's: the first that\n\
+    # isn't taken names its operator, also while an earlier job has no answer\n\
+    asked\talice:put:a alice:undo:1\tissue:alice answer:1:alice answer:1:alice\tmismatch:alice:0\n\
+    asked\talice:put:a alice:undo:1\tissue:alice answer:1:alice answer:2:bob\tmismatch:bob:0\n\
+    asked\talice:put:a alice:undo:1\tissue:alice answer:1:bob answer:1:alice\tmismatch:bob:0\n\
+    asked\talice:put:a alice:undo:1\t\
+        issue:alice issue:bob answer:2:bob answer:2:bob answer:3:carol\tmismatch:bob:0\n\
+    asked\talice:put:a alice:undo:2\tissue:alice answer:2:bob\tmismatch:alice:2\n\
     \n\
     # four plans are stale, and then she calls while the lock is held\n\
     meddled\tput:a\t\trow:5:seen:0:ok attempts:1234\n\
@@ -362,7 +374,7 @@ fn push_answer(
         return desk::push_said(alloc, &row.one, out);
     }
     if is(&row.kind, b"asked") {
-        return checking::push_said(rt, alloc, &row.one, !row.two.is_empty(), out);
+        return checking::push_said(rt, alloc, &row.one, &row.two, out);
     }
     if is(&row.kind, b"meddled") {
         return push_meddled(rt, alloc, &row.one, out);

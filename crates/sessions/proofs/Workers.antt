@@ -15,7 +15,7 @@ use Rattle.shared_admin.specs.Sharing.{Opening}
 use Rattle.shared_admin.specs.Closing.{Numbered, rows_of, entries_of, AreTold, IsTold, IsClosed}
 use Rattle.sessions.specs.Sessions.{requests_of}
 use Rattle.sessions.specs.declared.works.Work.{Work}
-use Rattle.sessions.specs.Runs.{IsWorkOf, AreWorkOf, operators_of, HoldsWork, HasRun}
+use Rattle.sessions.specs.Runs.{IsWorkOf, AreWorkOf, AreInOrder, operators_of, HoldsWork, HasRun}
 
 module _ {O : Type 0} where
   one_more : (works : List (Work O)) (logs : List (SessionLog O)) (work : Work O) (log : SessionLog O) → AreWorkOf works logs → IsWorkOf work.operator work.requests log
@@ -33,6 +33,16 @@ module _ {O : Type 0} where
       let front' = subst (λ b. IfOk b (λ ls. AreWorkOf works ls)) is front in
       let here' = subst (λ l. IfOk l (λ l. IsWorkOf work.operator work.requests l)) also here in
       subst (λ (ls : List (SessionLog O)). AreWorkOf all ls) (sym added) (subst (λ (ws : List (Work O)). AreWorkOf ws (logs ++ log ∷ [])) (sym split) (one_more works logs work log front' here'))
+
+  in_order : (works : List (Work O)) (logs : List (SessionLog O)) → AreWorkOf works logs → AreInOrder (operators_of works) logs
+  in_order [] [] are = refl
+  in_order [] (log ∷ logs) are = absurd are
+  in_order (work ∷ works) [] are = absurd are
+  in_order (work ∷ works) (log ∷ logs) are = λ i. are.0.0 i ∷ in_order works logs are.1 i
+
+  -- the same for logs that are returned
+  pub in_order_back : (works : List (Work O)) (served logs : List (SessionLog O)) → AreWorkOf works served → logs ≡ served → AreInOrder (operators_of works) logs
+  in_order_back works served logs are same = subst (λ (ls : List (SessionLog O)). AreInOrder (operators_of works) ls) (sym same) (in_order works served are)
 
   pub told_requests : (entries : List (LogEntry O)) (rows : List (Numbered O)) → AreTold entries rows → requests_of entries ≡ map (λ row. row.1.request) rows
   told_requests [] [] told = refl

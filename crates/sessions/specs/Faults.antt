@@ -18,6 +18,8 @@ use Rattle.shared_admin.specs.Closing.{IsClosed, IsFault}
 use Rattle.shared_admin.specs.Sharing.{MayShare}
 use Rattle.sessions.specs.Fed.{IsUnserved}
 use Rattle.sessions.specs.declared.asks.Ask.{Ask}
+use Rattle.sessions.specs.declared.desk.Answered.{Answered}
+use Rattle.sessions.specs.declared.desk.Issued.{Issued}
 use Rattle.sessions.specs.declared.faults.RunError.{RunError}
 use Rattle.sessions.specs.declared.faults.RunError.TheVariants.{TooManySessions, SameOperator, NoWorker, Full, OutOfMemory, Close}
 use Rattle.sessions.specs.declared.faults.WorkFault.{WorkFault}
@@ -90,7 +92,12 @@ module _ {O : Type 0} (asks : O → Bool) (meaning : O → Inquiry Effect) (tree
     pub legal : ComesBackLegal left
 
   -- What is returned if the logs don't match the rows; or they do, but an operator wasn't served
-  -- exactly the requests passed to it.
-  pub record IsUnfed (asked : List (Ask O)) (left : Unclosed (Log O) (List (SessionLog O))) : Type 0 where
-    pub unfed : ComesBackUnclosed left ⊎ (IsClosed tree operators left.logs left.history × ((operator : List ℕ) × (place : ℕ) × (left.fault ≡ Mismatch operator place) × IsUnserved asked left.logs operator place))
+  -- exactly the requests passed to it, by these jobs and their answers.
+  pub record IsUnfed (issued : List Issued) (answers : List Answered) (asked : List (Ask O)) (left : Unclosed (Log O) (List (SessionLog O))) : Type 0 where
+    pub unfed : ComesBackUnclosed left
+        ⊎ (IsClosed tree operators left.logs left.history × ((operator : List ℕ) × (place : ℕ) × (left.fault ≡ Mismatch operator place) × IsUnserved issued answers asked left.logs operator place))
     pub legal : ComesBackLegal left
+
+  -- The same for some jobs and answers: nothing is known of what passes through channels.
+  abbrev pub IsUnfedBySome : List (Ask O) → Unclosed (Log O) (List (SessionLog O)) → Type 0
+  IsUnfedBySome asked left = (issued : List Issued) × (answers : List Answered) × IsUnfed issued answers asked left

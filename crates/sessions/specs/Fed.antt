@@ -1,5 +1,5 @@
 -- Runs of sessions to which requests are passed one by one.
-use Rattle.std.specs.Prelude.{◌≡◌, ◌≢◌, ◌≤◌, ◌⊎◌, ℕ, zero, suc, false, if◌then◌else◌, IsTrue, List, [], ◌∷◌, All, map, length, take, slice_get}
+use Rattle.std.specs.Prelude.{◌≡◌, ◌≢◌, ◌≤◌, ◌⊎◌, ℕ, zero, suc, false, if◌then◌else◌, IsTrue, List, [], ◌∷◌, All, map, length, take, slice_get, Some}
 use Rattle.std.specs.Str.{bytes_eq}
 use Rattle.link_tree.specs.Trees.{Entries}
 use Rattle.history.specs.Logs.{Log}
@@ -8,6 +8,7 @@ use Rattle.history.specs.declared.row.Request.{Request}
 use Rattle.shared_admin.specs.declared.log.SessionLog.{SessionLog}
 use Rattle.shared_admin.specs.Closing.{IsClosed, IsFirstNot}
 use Rattle.shared_admin.specs.Sharing.{is_among}
+use Rattle.sessions.specs.Desks.{first_amiss}
 use Rattle.sessions.specs.Runs.{requests_in}
 use Rattle.sessions.specs.Sessions.{Opened, IsServed, requests_of}
 use Rattle.sessions.specs.declared.asks.Ask.{Ask}
@@ -46,9 +47,11 @@ module _ {O : Type 0} where
       (log : SessionLog O) × IsFirstNot (IsAsked asks) logs log × (log.operator ≡ operator) × DiffersFirstAt place (requests_of log.entries) (asked operator asks)
 
   -- The first position at which a log doesn't match the requests is reported; or all logs match,
-  -- but the answers aren't those of the jobs, and then the position is 0.
-  abbrev pub IsUnserved : List (Ask O) → List (SessionLog O) → List ℕ → ℕ → Type 0
-  IsUnserved asks logs operator place = IsFirstUnasked asks logs operator place ⊎ (All (IsAsked asks) logs × (place ≡ 0))
+  -- but of these answers to these jobs one is rejected, or a job has none: then the position is 0,
+  -- and the operator is that of the first such answer, or else of the first such job.
+  abbrev pub IsUnserved : List Issued → List Answered → List (Ask O) → List (SessionLog O) → List ℕ → ℕ → Type 0
+  IsUnserved issued answers asks logs operator place =
+      IsFirstUnasked asks logs operator place ⊎ (All (IsAsked asks) logs × (place ≡ 0) × (first_amiss issued answers ≡ Some operator))
 
   -- The rows of an operator hold exactly its requests, in order.
   abbrev pub HoldsAsked : List (Ask O) → List (Row O) → List ℕ → Type 0

@@ -21,6 +21,10 @@ module _ {O : Type 0} where
   AreWorkOf (work ∷ works) [] = ⊥
   AreWorkOf (work ∷ works) (log ∷ logs) = IsWorkOf work.operator work.requests log × AreWorkOf works logs
 
+  -- The logs are those of these operators, one log per operator, in this order.
+  abbrev pub AreInOrder : List (List ℕ) → List (SessionLog O) → Type 0
+  AreInOrder operators logs = map (λ log. log.operator) logs ≡ operators
+
   -- the operators of the work, in order
   abbrev pub operators_of : List (Work O) → List (List ℕ)
   operators_of = map (λ work. work.operator)

@@ -1,5 +1,5 @@
 //! Whether a run served exactly the requests that were passed to it.
-ghost use Rattle.std.specs.Prelude.{◌≡◌, ◌≤◌, [], true, false, Some, All, IfOk, IfErr, IfNone, IfSome, length, slice_get};
+ghost use Rattle.std.specs.Prelude.{◌≡◌, ◌≤◌, [], true, false, Some, None, All, IfOk, IfErr, IfNone, IfSome, length, slice_get};
 ghost use Rattle.history.specs.Rows.{run, calls_of};
 ghost use Rattle.shared_admin.specs.declared.log.LogEntry.{LogEntry};
 ghost use Rattle.sessions.specs.Desks.{first_amiss};
@@ -24,10 +24,12 @@ pub struct Fed<O> {
 
 /// Closes a run. If the logs match the rows, checks whether each log matches its operator's
 /// requests, and whether the desk accepts each answer and has one for each job. `run_desk` ends
-/// with this; code that passes requests to sessions in another way can use it too.
+/// with this; code that passes requests to sessions in another way can use it too. History and logs
+/// are always returned, the logs unchanged.
 ///
-/// Fails with the first that applies of what `CloseFault` lists, or with `Mismatch` for the first
-/// log that doesn't match its operator's requests, and returns history and logs.
+/// Fails with the first that applies of what `CloseFault` lists; or with `Mismatch` for the first
+/// log that doesn't match its operator's requests; or with `Mismatch` at position 0 for the first
+/// answer that the desk rejects, or else for the first job without an answer.
 pub fn close_fed<O: Operation>(
     admin: SharedAdmin<O>,
     fed: Fed<O>,
@@ -35,7 +37,10 @@ pub fn close_fed<O: Operation>(
 ) -> Result<(History<O>, SessionLogs<O>), Unclosed<History<O>, SessionLogs<O>>>
     ensures fed { IfOk result (λ r. HasFed admin.first admin.operators asks.now r.0 r.1) }
     ensures legal { IfOk result (λ r. r.0.rows ≡ run O.asks O.meaning r.0.first [] (calls_of r.0.rows)) }
-    ensures unfed { IfErr result (IsUnfed O.asks O.meaning admin.first admin.operators asks.now) }
+    ensures answered { IfOk result (λ r. first_amiss fed.desk.issued fed.answers.items ≡ None) }
+    ensures logs { IfOk result (λ r. r.1 ≡ fed.logs) }
+    ensures unfed { IfErr result (IsUnfed O.asks O.meaning admin.first admin.operators fed.desk.issued fed.answers.items asks.now) }
+    ensures logs_back { IfErr result (λ left. left.logs ≡ fed.logs) }
 {
     let Fed {
         mut desk,
@@ -70,7 +75,8 @@ fn amiss<O: Operation>(
 ) -> Option<(Operator, u32)>
     requires { All HasCountable logs.now }
     ensures none { IfNone result (All (IsAsked asks.now) logs.now) }
-    ensures some { IfSome result (λ first. IsUnserved asks.now logs.now first.0 first.1) }
+    ensures answered { IfNone result (first_amiss desk.old.issued answers.now ≡ None) }
+    ensures some { IfSome result (λ first. IsUnserved desk.old.issued answers.now asks.now logs.now first.0 first.1) }
 {
     match first_unasked(logs, asks) {
         Some(first) => Some(first),

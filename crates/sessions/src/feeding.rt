@@ -3,7 +3,7 @@ ghost use Rattle.std.specs.Prelude.{◌≡◌, ◌+◌, ◌<◌, ◌≤◌, ◌+
 ghost use Rattle.history.specs.Rows.{run, calls_of};
 ghost use Rattle.shared_admin.specs.Sharing.{MayShare};
 ghost use Rattle.sessions.specs.Fed.{AreOf, HasFed, IsAnswerOf, jobs_of};
-ghost use Rattle.sessions.specs.Faults.{IsRunError, IfUnclosed, IsUnfed};
+ghost use Rattle.sessions.specs.Faults.{IsRunError, IfUnclosed, IsUnfedBySome};
 
 use crate::asks::Asks;
 use crate::checking::{Fed, close_fed};
@@ -56,7 +56,7 @@ where
     ensures fed { IfOk result (λ r. HasFed tree operators asks r.0 r.1) }
     ensures legal { IfOk result (λ r. r.0.rows ≡ run O.asks O.meaning r.0.first [] (calls_of r.0.rows)) }
     ensures why { IfErr result (λ why. IsRunError operators why) }
-    ensures unclosed { IfErr result (λ why. IfUnclosed why (IsUnfed O.asks O.meaning tree operators asks)) }
+    ensures unclosed { IfErr result (λ why. IfUnclosed why (IsUnfedBySome O.asks O.meaning tree operators asks)) }
 {
     if operators.as_slice().len() > MAX_SESSIONS {
         return Err(RunError::TooManySessions);
@@ -84,7 +84,7 @@ where
     ensures fed { IfOk result (λ r. HasFed admin.first admin.operators asks r.0 r.1) }
     ensures legal { IfOk result (λ r. r.0.rows ≡ run O.asks O.meaning r.0.first [] (calls_of r.0.rows)) }
     ensures why { IfErr result (λ why. IsRunError admin.operators why) }
-    ensures unclosed { IfErr result (λ why. IfUnclosed why (IsUnfed O.asks O.meaning admin.first admin.operators asks)) }
+    ensures unclosed { IfErr result (λ why. IfUnclosed why (IsUnfedBySome O.asks O.meaning admin.first admin.operators asks)) }
 {
     let copies = asks.copy()?;
     let fed = feed_in_threads(rt, alloc, &admin, gate, operators, asks)?;

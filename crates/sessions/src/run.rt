@@ -2,7 +2,7 @@
 ghost use Rattle.std.specs.Prelude.{◌≡◌, ◌≤◌, [], IfOk, IfErr, length};
 ghost use Rattle.history.specs.Rows.{run, calls_of};
 ghost use Rattle.shared_admin.specs.Sharing.{MayShare};
-ghost use Rattle.sessions.specs.Runs.{IsWorkOf, AreWorkOf, operators_of, HasRun};
+ghost use Rattle.sessions.specs.Runs.{IsWorkOf, AreWorkOf, AreInOrder, operators_of, HasRun};
 ghost use Rattle.sessions.specs.Faults.{IsRunError, IfUnclosed, IsUnclosed};
 
 use crate::faults::{RunError, WorkFault, both};
@@ -22,8 +22,8 @@ use std::thread::{Promise, Scope, Threads};
 
 /// Runs sessions concurrently on a tree, and closes the run. Each session has a thread of its own,
 /// which serves all requests of one operator in order. Afterwards the rows of each operator are
-/// exactly its requests, in order, and each log matches them. Several runs of the same work may
-/// result in different histories.
+/// exactly its requests, in order, and each log matches them; the logs are in the order of the
+/// work. Several runs of the same work may result in different histories.
 ///
 /// The gate is called by all threads. [`RunError`] lists the errors in the order in which they are
 /// reported; of the workers' errors, the first in that order is reported. All workers have ended
@@ -40,6 +40,7 @@ where
     R: Threads + Wait + Sync,
     G: Gate + Sync,
     ensures ran { IfOk result (λ r. HasRun tree works r.0 r.1) }
+    ensures order { IfOk result (λ r. AreInOrder (operators_of works) r.1) }
     ensures legal { IfOk result (λ r. r.0.rows ≡ run O.asks O.meaning r.0.first [] (calls_of r.0.rows)) }
     ensures why { IfErr result (λ why. IsRunError (operators_of works) why) }
     ensures unclosed { IfErr result (λ why. IfUnclosed why (IsUnclosed O.asks O.meaning tree (operators_of works))) }
@@ -67,6 +68,7 @@ where
     requires operators { admin.operators ≡ operators_of works }
     requires share { MayShare admin.operators }
     ensures ran { IfOk result (λ r. HasRun admin.first works r.0 r.1) }
+    ensures order { IfOk result (λ r. AreInOrder (operators_of works) r.1) }
     ensures legal { IfOk result (λ r. r.0.rows ≡ run O.asks O.meaning r.0.first [] (calls_of r.0.rows)) }
     ensures why { IfErr result (λ why. IsRunError admin.operators why) }
     ensures unclosed { IfErr result (λ why. IfUnclosed why (IsUnclosed O.asks O.meaning admin.first admin.operators)) }

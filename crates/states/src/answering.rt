@@ -6,29 +6,12 @@ ghost use Rattle.footprint.specs.declared.reading.Seen.TheVariants as sees;
 ghost use Rattle.footprint.specs.Keys.{seen};
 ghost use Rattle.footprint.specs.Readings.{reading_of};
 
-use footprint::{Answer, Changes, Key, Keys, Outcome, Reading};
-use link_tree::{Tree, TreePart};
+use footprint::{Answer, Changes, Key, Outcome, Reading};
+use link_tree::TreePart;
 use std::alloc::{AllocError, Global};
 
-/// The result of a question: an answer and no change, with the reading of the tree by the keys of
-/// what was looked at. Fails only if memory runs out.
-pub(crate) fn answered(
-    alloc: Global,
-    tree: &Tree,
-    keys: Keys,
-    answer: Answer,
-) -> Result<Outcome, AllocError>
-    ensures outcome { IfOk result (λ outcome. outcome ≡ record { answer = answer; changes = []; reading = reading_of keys tree.now }) }
-    ensures slots { IfOk result (λ outcome. All (λ change. is_slot change.path ≡ true) outcome.changes) }
-{
-    Ok(Outcome {
-        answer,
-        changes: Changes::none(alloc),
-        reading: Reading::of(alloc, tree, keys)?,
-    })
-}
-
-/// The same for one key, given the entries at which it looks.
+/// The result of a question that looked at one key: an answer and no change, given the entries at
+/// which the key looks. Fails only if memory runs out.
 pub(crate) fn answered_by(
     alloc: Global,
     key: Key,

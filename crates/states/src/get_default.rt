@@ -1,12 +1,11 @@
 //! get-default.
 ghost use Rattle.std.specs.Prelude.{◌≡◌, IfOk};
-ghost use Rattle.footprint.specs.Inquiry.{Asks};
-ghost use Rattle.states.specs.GetDefault.{default_target, named_by};
+ghost use Rattle.states.specs.GetDefault.{default_target};
 
-use crate::answering::answered;
-use footprint::{Answer, Keys, Operation, Outcome, Refusal};
-use link_tree::{Tree, TreePath};
+use footprint::{Answer, Operation, Outcome};
+use link_tree::Tree;
 use std::alloc::{AllocError, Global};
+use transaction::{Stop, Transaction};
 use unit_name::{NameError, UnitName};
 
 /// systemctl(1), `get-default`: the own name of the unit as which `default.target` is found
@@ -14,16 +13,6 @@ use unit_name::{NameError, UnitName};
 /// nothing.
 #[derive(Debug, Drop)]
 pub struct GetDefault {}
-
-/// The unit's own name, or why there is none.
-fn named_by(unit: Result<(UnitName, TreePath), Refusal>) -> Answer
-    ensures { result ≡ named_by unit }
-{
-    match unit {
-        Ok((real, _file)) => Answer::Name(real),
-        Err(refusal) => Answer::Refused(refusal),
-    }
-}
 
 /// `default.target`.
 fn default_target(alloc: Global) -> Result<UnitName, AllocError>
@@ -46,10 +35,12 @@ impl Operation for GetDefault {
     ghost asks = { λ c. true };
 
     fn run(&self, alloc: Global, tree: &Tree) -> Result<Outcome, AllocError> {
-        let mut keys = Keys::none(alloc);
-        let name = default_target(alloc)?;
-        let unit = keys.find_unit(alloc, tree, &name)?;
-        answered(alloc, tree, keys, named_by(unit))
+        let mut txn = Transaction::new(alloc, tree);
+        match txn.unit(alloc, &default_target(alloc)?) {
+            Ok((real, _file)) => txn.answer(alloc, Answer::Name(real)),
+            Err(Stop::Refused(refusal)) => txn.answer(alloc, Answer::Refused(refusal)),
+            Err(Stop::OutOfMemory) => Err(AllocError),
+        }
     }
 
     fn asks_only(&self) -> bool {

@@ -1,17 +1,18 @@
 //! is-enabled.
-ghost use Rattle.std.specs.Prelude.{◌≡◌, IfOk};
+ghost use Rattle.std.specs.Prelude.{◌≡◌, Ok, IfOk};
 ghost use Rattle.std.specs.Option.{option_copied};
-ghost use Rattle.footprint.specs.Inquiry.{Asks, by_cells};
+ghost use Rattle.footprint.specs.Inquiry.{by_cells};
 ghost use Rattle.install_section.specs.Sections.{section_of};
 ghost use Rattle.states.specs.IsEnabled as states;
 ghost use Rattle.states.specs.IsEnabled.{by_place, has_other, asks_for_none, by_lists, by_file, by_links, state_word};
+ghost use Rattle.transaction.specs.Runs.{Runs, asking};
 
-use crate::answering::answered;
-use footprint::{Answer, Key, Keys, Operation, Outcome, StateWord};
+use footprint::{Answer, Operation, Outcome, StateWord};
 use install_section::{Section, section_into};
 use link_tree::{Place, Scope, Slot, Tree, TreePart, TreePath};
 use load_path::{Cells, Found};
 use std::alloc::{AllocError, Global};
+use transaction::Transaction;
 use unit_name::UnitName;
 
 /// systemctl(1), `is-enabled`: the first of these words that applies (`Answer::State`). It is a
@@ -130,80 +131,76 @@ fn by_links(
 /// The section of a unit's file.
 fn section_asked(
     alloc: Global,
-    tree: &Tree,
     unit: &UnitName,
-    keys: &mut Keys,
+    txn: &mut Transaction<'_>,
 ) -> Result<Option<Section>, AllocError>
-    ensures { IfOk result (Asks tree.now (by_cells (section_of unit.now)) keys.old keys.new) }
+    ensures { IfOk result (λ section. Runs (asking (by_cells (section_of unit.now))) txn.old txn.new (Ok section)) }
 {
     let mut cells = Cells::new(alloc);
-    let section = section_into(alloc, tree, unit, &mut cells)?;
-    keys.push_cells(cells)?;
+    let section = section_into(alloc, txn.tree(), unit, &mut cells)?;
+    txn.note(cells)?;
     Ok(section)
 }
 
 /// The word for a unit that is found under its own name and has this section.
 fn linked_word(
     alloc: Global,
-    tree: &Tree,
     unit: &UnitName,
     file: &TreePath,
     place: Place,
     section: Option<&Section>,
-    keys: &mut Keys,
+    txn: &mut Transaction<'_>,
 ) -> Result<StateWord, AllocError>
-    ensures { IfOk result (Asks tree.now (states.linked_word unit.now file.now place (option_copied section.entry)) keys.old keys.new) }
+    ensures { IfOk result (λ word. Runs (asking (states.linked_word unit.now file.now place (option_copied section.entry))) txn.old txn.new (Ok word)) }
 {
-    let etc = keys.entries(alloc, tree, Key::Marked(Scope::Etc, unit.copy()?))?;
-    let run = keys.entries(alloc, tree, Key::Marked(Scope::Run, unit.copy()?))?;
+    let etc = txn.links_of(alloc, Scope::Etc, unit)?;
+    let run = txn.links_of(alloc, Scope::Run, unit)?;
     by_links(alloc, unit, file, place, section, &etc, &run)
 }
 
 /// The word for a unit that is found under its own name.
 fn unit_word(
     alloc: Global,
-    tree: &Tree,
     unit: &UnitName,
     file: &TreePath,
     place: Place,
-    keys: &mut Keys,
+    txn: &mut Transaction<'_>,
 ) -> Result<StateWord, AllocError>
-    ensures { IfOk result (Asks tree.now (states.unit_word unit.now file.now place) keys.old keys.new) }
+    ensures { IfOk result (λ word. Runs (asking (states.unit_word unit.now file.now place)) txn.old txn.new (Ok word)) }
 {
-    let section = section_asked(alloc, tree, unit, keys)?;
-    linked_word(alloc, tree, unit, file, place, section.as_ref(), keys)
+    let section = section_asked(alloc, unit, txn)?;
+    linked_word(alloc, unit, file, place, section.as_ref(), txn)
 }
 
 /// The word for a unit that is found, by its own name.
 fn named_word(
     alloc: Global,
-    tree: &Tree,
     name: &UnitName,
     real: &UnitName,
     file: &TreePath,
     place: Place,
-    keys: &mut Keys,
+    txn: &mut Transaction<'_>,
 ) -> Result<StateWord, AllocError>
-    ensures { IfOk result (Asks tree.now (states.named_word name.now real.now file.now place) keys.old keys.new) }
+    ensures { IfOk result (λ word. Runs (asking (states.named_word name.now real.now file.now place)) txn.old txn.new (Ok word)) }
 {
     if real.text() == name.text() {
-        return unit_word(alloc, tree, name, file, place, keys);
+        return unit_word(alloc, name, file, place, txn);
     }
     Ok(StateWord::Alias)
 }
 
 impl IsEnabled {
     /// The word, by what the name is found as.
-    fn word(&self, alloc: Global, tree: &Tree, keys: &mut Keys) -> Result<StateWord, AllocError>
-        ensures { IfOk result (Asks tree.now (state_word self.now.unit) keys.old keys.new) }
+    fn word(&self, alloc: Global, txn: &mut Transaction<'_>) -> Result<StateWord, AllocError>
+        ensures { IfOk result (λ word. Runs (asking (state_word self.now.unit)) txn.old txn.new (Ok word)) }
     {
-        match keys.find(alloc, tree, &self.unit)? {
+        match txn.find(alloc, &self.unit)? {
             Found::Missing | Found::Dangling(_) => Ok(StateWord::NotFound),
             Found::Masked(place) => {
                 Ok(by_place(place, StateWord::MaskedRuntime, StateWord::Masked))
             }
             Found::Unit { real, file, place } => {
-                named_word(alloc, tree, &self.unit, &real, &file, place, keys)
+                named_word(alloc, &self.unit, &real, &file, place, txn)
             }
         }
     }
@@ -219,9 +216,9 @@ impl Operation for IsEnabled {
     ghost asks = { λ c. true };
 
     fn run(&self, alloc: Global, tree: &Tree) -> Result<Outcome, AllocError> {
-        let mut keys = Keys::none(alloc);
-        let word = self.word(alloc, tree, &mut keys)?;
-        answered(alloc, tree, keys, Answer::State(word))
+        let mut txn = Transaction::new(alloc, tree);
+        let word = self.word(alloc, &mut txn)?;
+        txn.answer(alloc, Answer::State(word))
     }
 
     fn asks_only(&self) -> bool {

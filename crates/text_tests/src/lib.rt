@@ -3,6 +3,8 @@
 #![tactic(auto)]
 
 #[cfg(test)]
+mod keeping;
+#[cfg(test)]
 mod of_byte_streams;
 #[cfg(test)]
 mod of_rows;

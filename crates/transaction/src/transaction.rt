@@ -1,17 +1,19 @@
 //! Trees that a command reads and edits.
-ghost use Rattle.std.specs.Prelude.{◌≡◌, [], true, Ok, All, IfOk, OnOk, OnErr};
+ghost use Rattle.std.specs.Prelude.{◌≡◌, ◌++◌, [], true, Ok, All, map as list_map, IfOk, OnOk, OnErr};
 ghost use Rattle.unit_paths.specs.Slots.{is_slot};
 ghost use Rattle.load_path.specs.Find.{find};
 ghost use Rattle.load_path.specs.Follow.{follow};
-ghost use Rattle.footprint.specs.Inquiry.{by_cells, giving, stands_at};
+ghost use Rattle.footprint.specs.declared.key.Key.TheVariants.{Cell, Marked};
+ghost use Rattle.footprint.specs.Inquiry.{by_cells, entries_seen, giving, stands_at};
+ghost use Rattle.footprint.specs.Readings.{reading_of};
 ghost use Rattle.footprint.specs.Units.{found_unit};
 ghost use Rattle.transaction.specs.Seen.{tree_of, StartsAt};
 ghost use Rattle.transaction.specs.Runs.{asking, asking_for, put, silently, Runs, Closes};
 
 use crate::stop::Stop;
-use footprint::{Edit, Key, Keys, Notices, Outcome, Refusal, Subject};
-use link_tree::{Entry, Tree, TreePath};
-use load_path::{End, Found};
+use footprint::{Answer, Changes, Edit, Key, Keys, Notices, Outcome, Reading, Refusal, Subject};
+use link_tree::{Entry, Scope, Tree, TreePart, TreePath};
+use load_path::{Cells, End, Found};
 use std::alloc::{AllocError, Global};
 use std::marker::Model;
 use unit_name::UnitName;
@@ -125,6 +127,38 @@ impl<'t> Transaction<'t> {
         self.keys.follow(alloc, tree, path)
     }
 
+    /// The links of a scope that belong to a unit's name now, after all edits so far. Notes that
+    /// these links were looked at. Fails only if memory runs out.
+    pub fn links_of(
+        &mut self,
+        alloc: Global,
+        scope: Scope,
+        name: &UnitName,
+    ) -> Result<TreePart, AllocError>
+        ensures ok { IfOk result (λ links. Runs (asking (entries_seen (Marked scope name.now))) self.old self.new (Ok links)) }
+        ensures err { OnErr result (self.new.first ≡ self.old.first) }
+    {
+        let tree = current(self.first, &self.edit);
+        self.keys
+            .entries(alloc, tree, Key::Marked(scope, name.copy()?))
+    }
+
+    /// The whole tree as it is now. If you look things up in it by other calls than those of a
+    /// transaction, `note` the paths that these looked at.
+    pub fn tree(&self) -> &Tree
+        ensures { result.now ≡ self.now.tree }
+    {
+        current(self.first, &self.edit)
+    }
+
+    /// Notes that these paths were looked at. Fails only if memory runs out.
+    pub fn note(&mut self, cells: Cells) -> Result<(), AllocError>
+        ensures ok { OnOk result (self.new ≡ record self.old { keys = self.old.keys ++ list_map Cell cells }) }
+        ensures err { OnErr result (self.new.first ≡ self.old.first) }
+    {
+        self.keys.push_cells(cells)
+    }
+
     /// Replaces what is at a slot by an entry, or removes it if `entry` is `None`. The path must be
     /// a slot, which `Slot::of` tests. Fails only if memory runs out, and then all edits so far are
     /// lost.
@@ -160,6 +194,20 @@ impl<'t> Transaction<'t> {
             }
             Err(Stop::OutOfMemory) => Err(AllocError),
         }
+    }
+
+    /// Ends a question: its outcome has this answer, no change, and what was looked at. Edits, if
+    /// there are any, are lost. Fails only if memory runs out.
+    pub fn answer(self, alloc: Global, answer: Answer) -> Result<Outcome, AllocError>
+        ensures outcome { IfOk result (λ outcome. outcome ≡ record { answer = answer; changes = []; reading = reading_of self.entry.keys self.entry.first }) }
+        ensures slots { IfOk result (λ outcome. All (λ change. is_slot change.path ≡ true) outcome.changes) }
+    {
+        let Transaction { first, keys, .. } = self;
+        Ok(Outcome {
+            answer,
+            changes: Changes::none(alloc),
+            reading: Reading::of(alloc, first, keys)?,
+        })
     }
 
     /// Ends a command that reports no notices, as `outcome` does.

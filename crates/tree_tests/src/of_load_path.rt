@@ -1,4 +1,5 @@
 mod chains;
+mod looking;
 mod names;
 mod places;
 mod trees;

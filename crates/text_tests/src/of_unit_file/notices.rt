@@ -170,11 +170,23 @@ fn digits_of(alloc: Global, notices: &Notices) -> Result<Vec<u8>, AllocError> {
     Ok(digits)
 }
 
+/// The digits of a copy of notices. If memory runs out, the notices are as before, with these
+/// digits, and are copied again.
+fn copied_digits(alloc: Global, notices: &Notices, digits: &[u8]) -> Result<Vec<u8>, AllocError> {
+    if let Ok(copy) = notices.copy() {
+        return digits_of(alloc, &copy);
+    }
+    if digits_of(alloc, notices)?.as_slice() != digits {
+        return Vec::from_slice(alloc, b"notices were left");
+    }
+    let copy = notices.copy()?;
+    digits_of(alloc, &copy)
+}
+
 /// The digits of notices, which their copy has too.
 fn shared_digits(alloc: Global, notices: &Notices) -> Result<Vec<u8>, AllocError> {
-    let copy = notices.copy()?;
-    let digits = digits_of(alloc, &copy)?;
-    if digits_of(alloc, notices)? != digits {
+    let digits = digits_of(alloc, notices)?;
+    if copied_digits(alloc, notices, &digits)? != digits {
         return Vec::from_slice(alloc, b"another copy");
     }
     Ok(digits)

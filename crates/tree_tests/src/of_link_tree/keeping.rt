@@ -1,11 +1,13 @@
-//! Trees that are changed, and entries that are copied. If memory runs out for a call, what it was
-//! given is as it was, and the call is made again.
+//! Trees that are changed, and entries that are made and copied. If memory runs out for a call,
+//! what it was given is as it was, and the call is made again.
 use crate::of_link_tree::changes::{are_from, change};
 use crate::of_link_tree::entries::entry_of;
 use crate::of_link_tree::names::LINKS;
 use crate::of_link_tree::writing::inventory_of;
-use crate::rows::{assert_rows, is, texts_of};
-use link_tree::{Change, Entry, PlacedEntry, Scope, Slot, Tree, TreePath, copy_of};
+use crate::rows::{assert_rows, is, number_of, texts_of};
+use link_tree::{
+    Change, Entry, FileError, PlacedEntry, Scope, Slot, TargetError, Tree, TreePath, copy_of,
+};
 use sample_rows::Row;
 use sample_values::{name, path, tree};
 use std::alloc::{AllocError, Global};
@@ -42,6 +44,31 @@ const ROWS: &[u8] = b"\
         11\\n/etc/systemd/system/a.service\\n\
         /etc/systemd/system/multi-user.target.wants/ssh.service\\n\
         /etc/systemd/system/rescue.target.wants/ssh.service\\n/etc/systemd/system/sshd.service\\n\n\
+    # Two changes, at ONE and at TWO: a link to ssh.service is made, or what is there is removed.\n\
+    with both\t/etc/systemd/system/a.service\t/etc/systemd/system/a.target.wants/ssh.service\t\
+        12\\n/etc/systemd/system/a.service\\n/etc/systemd/system/a.target.wants/ssh.service\\n\
+        /etc/systemd/system/multi-user.target.wants/ssh.service\\n\
+        /etc/systemd/system/rescue.target.wants/ssh.service\\n/etc/systemd/system/sshd.service\\n\n\
+    with both\t/etc/systemd/system/a.service\t/etc/systemd/system/sshd.service\t\
+        10\\n/etc/systemd/system/a.service\\n\
+        /etc/systemd/system/multi-user.target.wants/ssh.service\\n\
+        /etc/systemd/system/rescue.target.wants/ssh.service\\n\n\
+    make both\t/etc/systemd/system/a.service\t/etc/systemd/system/a.target.wants/ssh.service\t\
+        12\\n/etc/systemd/system/a.service\\n/etc/systemd/system/a.target.wants/ssh.service\\n\
+        /etc/systemd/system/multi-user.target.wants/ssh.service\\n\
+        /etc/systemd/system/rescue.target.wants/ssh.service\\n/etc/systemd/system/sshd.service\\n\n\
+    make both\t/etc/systemd/system/sshd.service\t/etc/systemd/system/a.service\t\
+        10\\n/etc/systemd/system/a.service\\n\
+        /etc/systemd/system/multi-user.target.wants/ssh.service\\n\
+        /etc/systemd/system/rescue.target.wants/ssh.service\\n\n\
+    \n\
+    # A file of the bytes ONE, or of this many, and a link to ONE.\n\
+    file\tab\t\tas written\n\
+    file\t\t\tas written\n\
+    file of size\t1048576\t\tas written\n\
+    file of size\t1048577\t\tfile too large\n\
+    link\t../b.service\t\tas written\n\
+    link\t\t\tbad target\n\
     \n\
     # A copy of an entry, or of none.\n\
     copied\tfile of ab\t\tthe same\n\
@@ -59,12 +86,37 @@ fn text_of(alloc: Global, tree: &Tree) -> Result<Vec<u8>, AllocError> {
     Ok(text)
 }
 
-/// Makes a change by the call that is named.
+fn push_side(text: &mut Vec<u8>, side: &Option<Entry>) -> Result<(), AllocError> {
+    if let Some(entry) = side {
+        let kind = if matches!(entry, Entry::File(_)) {
+            b'F'
+        } else {
+            b'L'
+        };
+        text.push(kind)?;
+        text.extend_from_slice(entry.bytes())?;
+    }
+    text.extend_from_slice(b"\n")
+}
+
+/// All that a call is given: a tree, and changes of it.
+fn text_of_given(alloc: Global, tree: &Tree, changes: &[Change]) -> Result<Vec<u8>, AllocError> {
+    let mut text = text_of(alloc, tree)?;
+    for change in changes {
+        text.extend_from_slice(change.path.text())?;
+        text.push(b'\n')?;
+        push_side(&mut text, &change.before)?;
+        push_side(&mut text, &change.after)?;
+    }
+    Ok(text)
+}
+
+/// Makes changes by the call that is named.
 fn change_by(tree: &mut Tree, row: &Row, changes: &[Change]) -> Result<(), AllocError> {
     if !are_from(tree, changes) {
         return Err(AllocError);
     }
-    if is(row, b"make changes") {
+    if is(row, b"make changes") || is(row, b"make both") {
         return tree.make_changes(changes);
     }
     *tree = tree.with_changes(changes)?;
@@ -111,10 +163,25 @@ fn change_once(
     }
 }
 
-/// The change of the slot of a row.
-fn change_of(alloc: Global, row: &Row, tree: &Tree) -> Result<Vec<Change>, AllocError> {
+/// The change by which a link to ssh.service is made at a slot, or what is there is removed.
+fn turned(alloc: Global, tree: &Tree, slot: &[u8]) -> Result<Change, AllocError> {
+    let slot = path(alloc, slot)?;
+    let target: &[u8] = match tree.get(&slot) {
+        Some(_) => b"",
+        None => b"/lib/systemd/system/ssh.service",
+    };
+    change(alloc, tree, slot, target)
+}
+
+/// The changes of a row, one or two.
+fn changes_of(alloc: Global, row: &Row, tree: &Tree) -> Result<Vec<Change>, AllocError> {
     let mut changes = Vec::new(alloc);
-    changes.push(change(alloc, tree, path(alloc, &row.one)?, &row.two)?)?;
+    if is(row, b"with both") || is(row, b"make both") {
+        changes.push(turned(alloc, tree, &row.one)?)?;
+        changes.push(turned(alloc, tree, &row.two)?)?;
+    } else {
+        changes.push(change(alloc, tree, path(alloc, &row.one)?, &row.two)?)?;
+    }
     Ok(changes)
 }
 
@@ -126,8 +193,8 @@ fn other_of(alloc: Global, tree: &Tree, changes: &[Change]) -> Result<Box<Tree>,
     Ok(Box::new(alloc, tree.with_changes(changes)?)?)
 }
 
-/// Makes a change of a tree, and makes it again if memory runs out. Returns whether the tree was as
-/// before then, and is the other tree in the end.
+/// Makes changes of a tree, and makes them again if memory runs out. Returns whether the tree and
+/// the changes were as before then, and the tree is the other tree in the end.
 fn change_kept(
     alloc: Global,
     tree: &mut Tree,
@@ -135,9 +202,9 @@ fn change_kept(
     changes: &[Change],
     other: &Tree,
 ) -> Result<bool, AllocError> {
-    let before = text_of(alloc, tree)?;
+    let before = text_of_given(alloc, tree, changes)?;
     if change_once(tree, row, changes, other).is_err() {
-        if text_of(alloc, tree)? != before {
+        if text_of_given(alloc, tree, changes)? != before {
             return Ok(false);
         }
         change_once(tree, row, changes, other)?;
@@ -156,7 +223,7 @@ fn told_of(alloc: Global, tree: &Tree) -> Result<Vec<u8>, AllocError> {
 
 fn changed(alloc: Global, row: &Row) -> Result<Vec<u8>, AllocError> {
     let mut tree = tree(alloc, LINKS)?;
-    let changes = change_of(alloc, row, &tree)?;
+    let changes = changes_of(alloc, row, &tree)?;
     let other = other_of(alloc, &tree, &changes)?;
     if change_kept(alloc, &mut tree, row, &changes, &other)? {
         told_of(alloc, &tree)
@@ -209,9 +276,60 @@ fn copied(alloc: Global, words: &[u8]) -> Result<Vec<u8>, AllocError> {
     told_of_copy(alloc, &copy, &same)
 }
 
+/// Whether a file has these bytes, or why there is none.
+fn told_of_file(alloc: Global, bytes: &[u8]) -> Result<&'static [u8], AllocError> {
+    match Entry::file(alloc, bytes) {
+        Ok(file) if file.bytes() == bytes => Ok(b"as written"),
+        Ok(_) => Ok(b"another file"),
+        Err(FileError::TooLarge) => Ok(b"file too large"),
+        Err(FileError::OutOfMemory) => Err(AllocError),
+    }
+}
+
+/// Whether a link has this target, or why there is none.
+fn told_of_link(alloc: Global, target: &[u8]) -> Result<&'static [u8], AllocError> {
+    match Entry::link(alloc, target) {
+        Ok(link) if link.bytes() == target => Ok(b"as written"),
+        Ok(_) => Ok(b"another link"),
+        Err(TargetError::BadTarget) => Ok(b"bad target"),
+        Err(TargetError::OutOfMemory) => Err(AllocError),
+    }
+}
+
+fn told_of_entry(alloc: Global, row: &Row, bytes: &[u8]) -> Result<&'static [u8], AllocError> {
+    if is(row, b"link") {
+        told_of_link(alloc, bytes)
+    } else {
+        told_of_file(alloc, bytes)
+    }
+}
+
+/// What an entry is that is made of these bytes. If memory runs out, the bytes are as they were,
+/// and it is made again.
+fn made_of(alloc: Global, row: &Row, bytes: &[u8]) -> Result<&'static [u8], AllocError> {
+    let before = Vec::from_slice(alloc, bytes)?;
+    if let Ok(told) = told_of_entry(alloc, row, bytes) {
+        return Ok(told);
+    }
+    if before.as_slice() != bytes {
+        return Ok(b"the bytes are changed");
+    }
+    told_of_entry(alloc, row, bytes)
+}
+
+fn made(alloc: Global, row: &Row) -> Result<Vec<u8>, AllocError> {
+    if is(row, b"file of size") {
+        let bytes = Vec::from_elem(alloc, b'x', number_of(&row.one))?;
+        return Vec::from_slice(alloc, made_of(alloc, row, &bytes)?);
+    }
+    Vec::from_slice(alloc, made_of(alloc, row, &row.one)?)
+}
+
 fn answer(alloc: Global, row: &Row) -> Result<Vec<u8>, AllocError> {
     if is(row, b"copied") {
         copied(alloc, &row.one)
+    } else if is(row, b"file") || is(row, b"file of size") || is(row, b"link") {
+        made(alloc, row)
     } else {
         changed(alloc, row)
     }

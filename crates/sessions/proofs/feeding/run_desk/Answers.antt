@@ -2,20 +2,20 @@ use Rattle.std.proofs.Common.{IfOk, IfErr, subst}
 use Rattle.link_tree.proofs.Stops.{returned}
 use Rattle.shared_admin.specs.Sharing.{Opening}
 use Rattle.sessions.specs.Fed.{HasFed}
-use Rattle.sessions.specs.Faults.{of_open, IsRunError, IfUnclosed, IsUnfed}
+use Rattle.sessions.specs.Faults.{of_open, IsRunError, IfUnclosed, IsUnfedBySome}
 use Rattle.sessions.proofs.Reasons.{told_of_open}
 use Rattle.sessions.proofs.feeding.run_desk.Goals as goal
 
 pub returns-in_err-admin-clause-why : goal.returns-in_err-admin-clause-why
 returns-in_err-admin-clause-why g c =
     let why = c.in_err-admin.field-0.0 in
-    (told_of_open c.args.operators (IsUnfed g.O.Operation.asks g.O.Operation.meaning c.args.tree c.args.operators c.args.asks) c.from_residual.result why c.in_err-admin.ensures.unshared
+    (told_of_open c.args.operators (IsUnfedBySome g.O.Operation.asks g.O.Operation.meaning c.args.tree c.args.operators c.args.asks) c.from_residual.result why c.in_err-admin.ensures.unshared
     (returned c.from_residual.result (of_open why) c.from_residual.ensures)).0
 
 pub returns-in_err-admin-clause-unclosed : goal.returns-in_err-admin-clause-unclosed
 returns-in_err-admin-clause-unclosed g c =
     let why = c.in_err-admin.field-0.0 in
-    (told_of_open c.args.operators (IsUnfed g.O.Operation.asks g.O.Operation.meaning c.args.tree c.args.operators c.args.asks) c.from_residual.result why c.in_err-admin.ensures.unshared
+    (told_of_open c.args.operators (IsUnfedBySome g.O.Operation.asks g.O.Operation.meaning c.args.tree c.args.operators c.args.asks) c.from_residual.result why c.in_err-admin.ensures.unshared
     (returned c.from_residual.result (of_open why) c.from_residual.ensures)).1
 
 pub returns-clause-fed : goal.returns-clause-fed
@@ -30,5 +30,5 @@ returns-clause-why g c = subst (λ (o : Opening). IfErr c.feed_and_close.result 
 
 pub returns-clause-unclosed : goal.returns-clause-unclosed
 returns-clause-unclosed g c =
-    subst (λ (o : Opening). IfErr c.feed_and_close.result (λ why. IfUnclosed why (IsUnfed g.O.Operation.asks g.O.Operation.meaning o.first o.operators c.args.asks)))
+    subst (λ (o : Opening). IfErr c.feed_and_close.result (λ why. IfUnclosed why (IsUnfedBySome g.O.Operation.asks g.O.Operation.meaning o.first o.operators c.args.asks)))
     c.in_ok-admin.ensures.shared.0 c.feed_and_close.ensures.unclosed

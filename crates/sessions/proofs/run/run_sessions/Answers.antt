@@ -26,6 +26,9 @@ returns-in_err-admin-clause-unclosed g c =
 pub returns-clause-ran : goal.returns-clause-ran
 returns-clause-ran g c = subst (λ (o : Opening). IfOk c.serve_and_close.result (λ r. HasRun o.first c.args.works r.0 r.1)) c.in_ok-admin.ensures.shared.0 c.serve_and_close.ensures.ran
 
+pub returns-clause-order : goal.returns-clause-order
+returns-clause-order g c = c.serve_and_close.ensures.order
+
 pub returns-clause-legal : goal.returns-clause-legal
 returns-clause-legal g c = c.serve_and_close.ensures.legal
 

@@ -2,7 +2,7 @@ use Rattle.std.proofs.Common.{refl}
 use Rattle.link_tree.proofs.Stops.{returned}
 use Rattle.sessions.specs.Faults.{of_worker, IsUnclosed}
 use Rattle.sessions.proofs.Reasons.{told_of_worker, unclosed}
-use Rattle.sessions.proofs.Workers.{has_run_of}
+use Rattle.sessions.proofs.Workers.{has_run_of, in_order_back}
 use Rattle.sessions.proofs.run.serve_and_close.Goals as goal
 
 pub returns-in_err-logs-clause-why : goal.returns-in_err-logs-clause-why
@@ -20,6 +20,9 @@ returns-in_err-logs-clause-unclosed g c =
 pub returns-in-Ok-clause-ran : goal.returns-in-Ok-clause-ran
 returns-in-Ok-clause-ran g c =
     has_run_of c.args.admin c.args.admin.first c.args.admin.operators c.args.works c.in-Ok.run'.0 c.in_ok-logs.logs c.in-Ok.run'.1 refl c.requires.operators c.requires.share.1 c.in_ok-logs.ensures c.in-Ok.ensures.logs c.in-Ok.ensures.closed
+
+pub returns-in-Ok-clause-order : goal.returns-in-Ok-clause-order
+returns-in-Ok-clause-order g c = in_order_back c.args.works c.in_ok-logs.logs c.in-Ok.run'.1 c.in_ok-logs.ensures c.in-Ok.ensures.logs
 
 pub returns-in-Err-clause-unclosed : goal.returns-in-Err-clause-unclosed
 returns-in-Err-clause-unclosed g c =

@@ -1,0 +1,5 @@
+pub mod Sets
+pub mod Questions
+pub mod Slots
+pub mod Installs
+pub mod Discovery

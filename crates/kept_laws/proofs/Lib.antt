@@ -1,0 +1,5 @@
+pub mod Found
+pub mod Parts
+pub mod Paths
+pub mod Unsynced
+pub mod Rows

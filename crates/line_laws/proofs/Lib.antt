@@ -1,0 +1,9 @@
+pub mod Places
+pub mod Stripping
+pub mod WordLists
+pub mod PresetRules
+pub mod PresetFiles
+pub mod PhysicalCuts
+pub mod JoinedBlocks
+pub mod InstallTexts
+pub mod InstallReads

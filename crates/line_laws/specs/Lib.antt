@@ -1,0 +1,4 @@
+pub mod Blanks
+pub mod FileLines
+pub mod PresetLines
+pub mod InstallLines

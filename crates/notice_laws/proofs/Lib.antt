@@ -1,0 +1,12 @@
+mod Private
+mod Told
+mod Silent
+mod Reasons
+mod LinkKeys
+mod Enabling
+mod Disabling
+mod InTurn
+mod Reenabling
+mod Listing
+mod Presetting
+mod Cutting

@@ -1,0 +1,4 @@
+pub mod Skipped
+pub mod Reports
+pub mod Installs
+pub mod Lines

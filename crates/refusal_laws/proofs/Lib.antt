@@ -1,0 +1,9 @@
+mod Rulings
+mod Turned
+mod Lookups
+mod Taking
+mod Defaulting
+mod Linking
+mod Adding
+mod Wanting
+mod Enabling
