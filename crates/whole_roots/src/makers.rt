@@ -1,11 +1,12 @@
 //! Which rows of a history made what is at paths of a root that is only looked at.
 
 use history::{History, Operator};
-use kept_runs::Kept;
 use link_tree::{PathError, Tree, TreePath};
 use real_roots::RealDisk;
-use root_access::{Failure, print_messages, push_message, take_root};
-use root_histories::{Context, KeptRoot, directory_of, note_promise_of, place_of, read_kept};
+use root_histories::{
+    Context, Failure, Kept, KeptRoot, directory_of, note_promise_of, place_of, print_messages,
+    push_message, read_kept, take_root,
+};
 use row_makers::maker_of;
 use std::alloc::{AllocError, Global};
 use unit_lists::UnitStatus;

@@ -1,17 +1,11 @@
 //! Calls on a root with a history. They are made on all that its slots have, and on what else they
 //! look at, which is captured round after round.
 
-use crate::context::Context;
-use crate::ending::Stop;
 use crate::fitting::{Turn, fit};
-use crate::kept_root::KeptRoot;
 use crate::lines::Wanted;
-use crate::marks::words_of_run;
 use crate::paths::Paths;
-use crate::reading::read_kept;
 use disk::capture;
-use kept_runs::KeepIf;
-use root_access::{Failure, paths_of};
+use root_histories::{Context, Failure, KeepIf, KeptRoot, Stop, paths_of, read_kept, words_of_run};
 use std::alloc::AllocError;
 
 /// After this number of rounds a run is refused: each but the last finds a path more.

@@ -1,12 +1,11 @@
 //! What units are, and what enables or masks them: `status`.
 
-use kept_runs::Kept;
+use crate::makers::{MadeBy, look_at_root, makers_of};
 use link_tree::{Tree, push_decimal};
-use root_access::{Done, Failure, name_of, paths_of, print, shown_lines};
-use root_histories::Context;
+use root_histories::{
+    Context, Done, Failure, Kept, capture_to_list, name_of, paths_of, print, shown_lines,
+};
 use root_json::{push_maker, push_unit_status};
-use root_log::{MadeBy, look_at_root, makers_of};
-use root_reports::capture_to_list;
 use std::alloc::{AllocError, Global};
 use unit_lists::{PathNote, UnitStatus, push_status, unit_status};
 use unit_name::UnitName;
@@ -149,7 +148,10 @@ fn text_or_json(
 
 /// Shows what units are, and what enables or masks them. If the root has a history, it says which
 /// rows of it made these entries.
-pub(crate) fn show_status(cx: Context<'_>, units: &[String]) -> Result<u8, Failure> {
+///
+/// Errors: a word is no name of a unit; the root can't be captured; the history that `--history`
+/// names can't be read; standard output fails.
+pub fn show_status(cx: Context<'_>, units: &[String]) -> Result<u8, Failure> {
     let alloc = cx.rt.alloc();
     let names = names_of(alloc, units)?;
     let paths = paths_of(alloc, &cx.asked.with)?;

@@ -1,14 +1,14 @@
 //! Commands on a whole root: its inventory, how it differs, and making it as an inventory says.
 
+use crate::json::{applied_text, changes_text};
 use byte_streams::ToWrite;
 use link_tree::{Change, Tree, write_inventory};
 use real_roots::RealDisk;
-use root_access::{
-    Done, Failure, capture_failure, captured_in, forbidden, make_tree, paths_of, print,
-    push_everything, read_tree, shown_lines, take_root,
+use root_histories::{
+    Context, Done, Failure, Taken, capture_failure, capture_for, captured_in, disk_after_recovery,
+    forbidden, make_tree, note_promise, paths_of, print, push_everything, read_tree, shown_lines,
+    take, take_root,
 };
-use root_histories::{Context, Taken, disk_after_recovery, note_promise, take};
-use root_reports::{applied_text, capture_for, changes_text};
 use root_runs::first_of_vendor;
 use root_words::Asked;
 use std::alloc::{AllocError, Global};
@@ -42,7 +42,9 @@ fn take_to_look<'a>(
 }
 
 /// Writes the inventory of a root.
-pub(crate) fn write_capture(
+///
+/// Errors: the root can't be captured; standard output fails.
+pub fn write_capture(
     rt: &HostRuntime,
     asked: &Asked,
     root: &str,
@@ -145,7 +147,9 @@ fn differences_text(alloc: Global, asked: &Asked, changes: &[Change]) -> Result<
 
 /// Reports at which slots another root, or an inventory, differs from a root: status 1 if there is
 /// such a slot.
-pub(crate) fn report_differences(
+///
+/// Errors: one of the two can't be captured, or the inventory can't be read; standard output fails.
+pub fn report_differences(
     rt: &HostRuntime,
     asked: &Asked,
     root: &str,
@@ -245,7 +249,11 @@ fn disk_of(cx: Context<'_>) -> Result<RealDisk<'_>, Failure> {
 }
 
 /// Makes the slots of a root as an inventory has them, all or none.
-pub(crate) fn apply_inventory(cx: Context<'_>, inventory: Option<&str>) -> Result<u8, Failure> {
+///
+/// Errors: the inventory can't be read; the root can't be captured, changed, or brought to the
+/// disk; something of the vendor's may not be changed; a run that was cut short can't be finished;
+/// standard output fails.
+pub fn apply_inventory(cx: Context<'_>, inventory: Option<&str>) -> Result<u8, Failure> {
     let inventory = read_tree(cx.rt, inventory)?;
     make_slots(cx, disk_of(cx)?, &inventory)
 }

@@ -1,7 +1,7 @@
-//! What all parts of a run on a root with a history need.
+//! What all parts of a run on a root need.
 
+use crate::failure::Failure;
 use real_roots::at;
-use root_access::Failure;
 use root_words::Asked;
 use std::fs;
 

@@ -1,10 +1,9 @@
 //! Taking back a row together with the later rows that depend on it.
 
-use crate::context::Context;
-use crate::kept_root::KeptRoot;
 use history::{History, Operator};
 use kept_rows::push_line;
 use link_tree::push_decimal;
+use root_histories::{Context, KeptRoot};
 use std::alloc::{AllocError, Global};
 use undo_orders::{ToUndoError, rows_to_undo};
 use unit_script::Action;

@@ -1,16 +1,11 @@
 //! Fitting a history to a root: what others did since the last run, and what is at no slot.
 
-use crate::context::Context;
-use crate::ending::{Stop, write_to};
-use crate::headers::{adopted, new_history};
-use crate::kept_root::KeptRoot;
-use crate::marks::words_of_run;
-use crate::reading::is_of_other_root;
-use crate::recovery::rows_text;
-use crate::setting_aside::set_aside;
-use kept_runs::{Kept, OthersError};
+use crate::committing::write_to;
 use link_tree::{Slot, Tree};
-use root_access::{Failure, shown_path};
+use root_histories::{
+    Context, Failure, Kept, KeptRoot, OthersError, Stop, adopted, is_of_other_root, new_history,
+    rows_text, set_aside, shown_path, words_of_run,
+};
 use std::alloc::{AllocError, Global};
 use tree_steps::{are_same, changes_between};
 

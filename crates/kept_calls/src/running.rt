@@ -1,15 +1,10 @@
 //! Runs on a root with a history.
 
-use crate::context::Context;
-use crate::ending::{Stop, commit_to, disk_after, end};
-use crate::finding::{Taken, note_promise_of, take};
+use crate::committing::commit_to;
 use crate::fitting::Turn;
-use crate::kept_root::KeptRoot;
 use crate::lines::Wanted;
-use crate::recovery::{begin_run, finish_promised};
 use crate::rounds::made_in_rounds;
-use real_roots::RealDisk;
-use root_access::{Done, Failure};
+use root_histories::{Context, Done, Failure, KeptRoot, Stop, begin_run, end};
 use root_reports::{Made, Report, print_report, report_of};
 use root_runs::Plan;
 
@@ -61,6 +56,10 @@ fn run_calls(
 }
 
 /// Makes calls on a root with a history. The script is that of `run`, for the numbers of its lines.
+///
+/// Errors: the root can't be captured; its history can't be read or fitted to it; a call isn't one
+/// that a history can have; the changes can't be made, or may not last; standard output fails. A
+/// call that is refused is no error: the status reports it.
 pub fn run_on_kept(
     cx: Context<'_>,
     root: KeptRoot<'_>,
@@ -70,35 +69,4 @@ pub fn run_on_kept(
     let mut root = root;
     let ended = run_calls(cx, &mut root, wanted, script);
     end(cx, root, ended)
-}
-
-/// Finishes a run that was cut short, and returns the root's disk.
-pub fn disk_after_recovery<'a>(
-    cx: Context<'_>,
-    root: KeptRoot<'a>,
-) -> Result<RealDisk<'a>, Failure> {
-    let mut root = root;
-    let begun = begin_run(cx, &mut root);
-    disk_after(cx, root, begun)
-}
-
-fn recovered(cx: Context<'_>, root: &mut KeptRoot<'_>) -> Result<u8, Stop> {
-    if cx.asked.how.dry_run {
-        note_promise_of(root)?;
-    } else {
-        finish_promised(cx, root)?;
-    }
-    Ok(0)
-}
-
-/// Finishes a run that was cut short, and does nothing else.
-pub fn recover_root(cx: Context<'_>) -> Result<u8, Failure> {
-    match take(cx)? {
-        Taken::Plain(_) => Err(Failure::NoHistory),
-        Taken::Kept(root) => {
-            let mut root = root;
-            let ended = recovered(cx, &mut root);
-            end(cx, root, ended)
-        }
-    }
 }

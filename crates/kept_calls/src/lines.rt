@@ -1,15 +1,13 @@
 //! The lines by which the calls of a run are kept.
 
-use crate::context::Context;
 use crate::fitting::Turn;
-use crate::kept_root::KeptRoot;
 use crate::with_later::lines_with_later;
 use byte_streams::ReadError;
 use footprint::Units;
 use history::{Operator, Request};
 use kept_rows::{can_be_word, push_line};
 use link_tree::{Scope, Tree, push_decimal};
-use root_access::{BadWords, Failure, refused_word};
+use root_histories::{Context, Failure, KeptRoot, refused_word};
 use root_reports::{choose_all, left_out_text, units_in_mode};
 use root_runs::CallWords;
 use root_words::RowsOf;
@@ -205,6 +203,8 @@ fn lines_for_all(
 }
 
 /// The name of others is no operator's on a root with a history.
+///
+/// Error: `OutsideAsOperator` if this is it.
 pub fn check_operator(operator: &[u8]) -> Result<(), Failure> {
     if operator == OUTSIDE {
         Err(Failure::OutsideAsOperator)
@@ -237,6 +237,8 @@ fn unkept_word(alloc: Global, word: &[u8]) -> Result<Failure, AllocError> {
 }
 
 /// The lines of the calls of a command.
+///
+/// Errors: those of `check_operator`; a word is one that no line can have; out of memory.
 pub fn lines_of_calls(
     alloc: Global,
     operator: &Operator,
@@ -274,6 +276,8 @@ fn escaped(alloc: Global, bytes: &[u8]) -> Result<Vec<u8>, AllocError> {
 }
 
 /// The line of the call that puts a file with these bytes at a path.
+///
+/// Errors: those of `lines_of_calls`.
 pub fn line_of_file(
     alloc: Global,
     operator: &Operator,
@@ -314,6 +318,8 @@ fn fault_of_line(
 
 /// Checks that a script can be run on a root with a history: no call is one of others, and if there
 /// is an `undo` or a `redo`, it is said whose rows they name.
+///
+/// Errors: `OutsideAsOperator`, `RowsUnsaid`; out of memory.
 pub fn check_script(alloc: Global, rows: Option<RowsOf>, lines: &[u8]) -> Result<(), Failure> {
     for line in lines.split(|b| *b == b'\n') {
         if let Some(failure) = fault_of_line(alloc, rows, line)? {

@@ -1,19 +1,14 @@
 //! `keep`: a history begins.
 
-use crate::context::Context;
-use crate::ending::{Stop, after_nothing, end, is_of_nothing};
-use crate::finding::{Taken, place_of, take_any};
-use crate::headers::new_history;
-use crate::kept_root::KeptRoot;
-use crate::reading::{read_kept, unless_of_text};
-use crate::recovery::{finish_before, rows_text};
-use crate::setting_aside::set_aside;
 use disk::capture;
 use kept_roots::{HistoryDirectory, HistoryPlace, make_directory};
-use kept_runs::Kept;
 use link_tree::Tree;
 use real_roots::RealDisk;
-use root_access::{Failure, captured_in, paths_of, patience_of};
+use root_histories::{
+    Context, Failure, Kept, KeptRoot, Stop, Taken, after_nothing, captured_in, end, finish_before,
+    is_of_nothing, new_history, paths_of, patience_of, place_of, read_kept, rows_text, set_aside,
+    take_any, unless_of_text,
+};
 use std::alloc::{AllocError, Global};
 
 /// Says where the history is.
@@ -181,6 +176,9 @@ fn take_back(root: &mut KeptRoot<'_>, failure: Failure) -> Failure {
 }
 
 /// Begins a history, or with `--anew` another one.
+///
+/// Errors: `HasHistory` if there is one, without `--anew`; the root can't be captured; the system's
+/// own.
 pub fn keep(cx: Context<'_>, anew: bool) -> Result<u8, Failure> {
     let place = place_of(cx)?;
     match take_any(cx, &place)? {

@@ -1,9 +1,8 @@
 //! Which units a root has: `list-unit-files`.
 
+use crate::json::units_text;
 use link_tree::Tree;
-use root_access::{Done, Failure, paths_of, print, take_root};
-use root_histories::note_promise;
-use root_reports::{capture_to_list, units_text};
+use root_histories::{Done, Failure, capture_to_list, note_promise, paths_of, print, take_root};
 use root_words::{Asked, Listed};
 use std::alloc::{AllocError, Global};
 use unit_file::Word;
@@ -38,7 +37,9 @@ fn table_of(alloc: Global, asked: &Asked, lines: &[UnitLine]) -> Result<Vec<u8>,
 
 /// Lists the unit files of a root, each with its state and what the preset files say. As in systemctl,
 /// the status is 1 if there is none.
-pub(crate) fn list_unit_files(
+///
+/// Errors: the root can't be captured; standard output fails.
+pub fn list_unit_files(
     rt: &HostRuntime,
     asked: &Asked,
     root: &str,

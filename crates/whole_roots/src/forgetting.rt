@@ -1,12 +1,9 @@
 //! `forget`: a history is removed.
 
-use crate::context::Context;
-use crate::ending::{Stop, end};
-use crate::finding::{Taken, take};
-use crate::kept_root::KeptRoot;
-use crate::reading::{read_kept, unless_of_text};
 use kept_roots::HistoryFile;
-use root_access::Failure;
+use root_histories::{
+    Context, Failure, KeptRoot, Stop, Taken, end, read_kept, take, unless_of_text,
+};
 
 /// A history of another root isn't removed. One that is in the root belongs to it.
 fn check(cx: Context<'_>, root: &mut KeptRoot<'_>) -> Result<(), Failure> {
@@ -29,6 +26,9 @@ fn forget_history(cx: Context<'_>, root: &mut KeptRoot<'_>) -> Result<u8, Failur
 }
 
 /// Removes the history of a root, which stays as it is.
+///
+/// Errors: `NoHistory` if there is none; `StillPromised` if a run on it was cut short; the history
+/// that `--history` names is that of another root; the system's own.
 pub fn forget(cx: Context<'_>) -> Result<u8, Failure> {
     match take(cx)? {
         Taken::Plain(_) => Err(Failure::NoHistory),
