@@ -150,7 +150,7 @@ impl<O> Promise<Result<Served<O>, CallError>> for ServesOperator {
 /// Starts a worker for each operator that has none yet, the last first; passes them all their
 /// requests; and joins those that it started, even if others fail. A worker ends when the sending
 /// end of its channel is dropped. The logs of these operators are in the operators' order.
-#[tactic(auto, using(crate::proofs::LogOrders::in_order_at_last, crate::proofs::LogOrders::in_order_then))]
+#[tactic(auto, using(crate::proofs::LogOrders::in_order_at_last))]
 fn feed_workers<'s, E, O, R, G>(
     scope: &'s Scope<'s, E>,
     rt: &'s R,
