@@ -4,17 +4,18 @@ ghost use Rattle.shared_admin.specs.Events.{HasSlot};
 
 use crate::sharing::operators;
 use footprint::{Answer, Key, Units};
-use history::{CallError, History, Plan, Uncommitted, Unrun};
+use history::{CallError, History, Plan, Uncommitted};
 use link_tree::{Scope, Tree, push_decimal};
-use sample_rows::assert_rows;
 use sample_steps::{begin_word, operator, push_numbered, push_pair};
 use sample_values::{name, path, tree};
 use shared_admin::{Event, EventReply, Settled, SharedAdmin, drive, plan};
 use slot_commands::{Mask, RemoveEntry, Unmask};
 use states::Dependencies;
 use std::alloc::{AllocError, Global};
+use std::str;
 use std::sync::Wait;
 use std::test::Fail;
+use unit_name::ample;
 use unit_script::Action;
 
 fn units(alloc: Global) -> Result<Units, AllocError> {
@@ -131,12 +132,14 @@ fn said(alloc: Global) -> Result<Vec<u8>, AllocError> {
 
 /// What results from the events.
 const STALE: &[u8] = b"\
-    events\t\t\ttaken row:1 planned stale:/etc/systemd/system/x.service / rows:1 entries:1\n";
+    taken row:1 planned stale:/etc/systemd/system/x.service / rows:1 entries:1";
 
 /// The unit isn't masked in the snapshot, so that the plan is of a slot without an entry.
 #[test]
 fn a_plan_on_a_snapshot_before_a_mask_is_stale(rt: HostRuntime) -> Result<(), Fail> {
-    assert_rows(&rt, rt.alloc(), STALE, |alloc, _row| said(alloc))
+    let said = ample!(said(rt.alloc()), AllocError)?;
+    assert!(rt; said.as_slice() == STALE, "{:?}", str::from_utf8(&said));
+    Ok(())
 }
 
 /// A unit that depends on two others.
@@ -169,35 +172,22 @@ fn planned(
     alloc: Global,
     admin: &SharedAdmin<Action>,
 ) -> Result<Box<Plan<Action>>, AllocError> {
-    let snapshot = Box::new(alloc, admin.snapshot(rt)?)?;
-    let planned = plan(alloc, &snapshot, question(alloc)?);
-    plan_of(alloc, Box::new(alloc, planned)?)
-}
-
-/// The plan that results from planning.
-fn plan_of(
-    alloc: Global,
-    planned: Box<Result<Plan<Action>, Unrun<Action>>>,
-) -> Result<Box<Plan<Action>>, AllocError> {
-    match Box::into_inner(planned) {
+    let snapshot = admin.snapshot(rt)?;
+    match plan(alloc, &snapshot, question(alloc)?) {
         Ok(plan) => Ok(Box::new(alloc, plan)?),
         Err(_) => Err(AllocError),
     }
 }
 
-fn removal(alloc: Global) -> Result<Action, AllocError> {
-    let path = path(alloc, b"/etc/systemd/system/a.target.wants/b.service")?;
-    Ok(Action::RemoveEntry(RemoveEntry { path }))
-}
-
 /// Bob removes one of the links.
 fn remove(rt: &impl Wait, alloc: Global, admin: &SharedAdmin<Action>) -> Result<(), AllocError> {
-    let bob = operator(b"bob")?;
-    let called = Box::new(alloc, admin.call(rt, alloc, bob, removal(alloc)?))?;
-    if called.is_ok() {
-        return Ok(());
+    let remove = RemoveEntry {
+        path: path(alloc, b"/etc/systemd/system/a.target.wants/b.service")?,
+    };
+    match admin.call(rt, alloc, operator(b"bob")?, Action::RemoveEntry(remove)) {
+        Ok(_) => Ok(()),
+        Err(_) => Err(AllocError),
     }
-    Err(AllocError)
 }
 
 /// How many units an answer names.
@@ -252,17 +242,12 @@ fn said_of_stale(rt: &impl Wait, alloc: Global) -> Result<Vec<u8>, AllocError> {
     Ok(out)
 }
 
-/// What results from the question and its commit.
-const STALE_QUESTION: &[u8] = b"question\t\t\tnamed:2 stale:links\n";
-
-/// The commit takes no memory, since the key has no path and the answer isn't copied. It isn't
-/// tried again, so that the row has another result if it takes some.
+/// This takes no memory, since the key has no path and the answer isn't copied. It isn't tried
+/// again, so that it fails if it takes some.
 #[test]
 fn a_commit_of_a_stale_plan_copies_no_answer(rt: HostRuntime) -> Result<(), Fail> {
-    assert_rows(
-        &rt,
-        rt.alloc(),
-        STALE_QUESTION,
-        |alloc, _row| said_of_stale(&rt, alloc),
-    )
+    let said = ample!(said_of_stale(&rt, rt.alloc()), AllocError)?;
+    let is_stale = said.as_slice() == b"named:2 stale:links".as_slice();
+    assert!(rt; is_stale, "{:?}", str::from_utf8(&said));
+    Ok(())
 }

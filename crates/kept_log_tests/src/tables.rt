@@ -2,7 +2,7 @@
 
 use history::Operator;
 use kept_log::{LogLine, push_log};
-use sample_rows::{Row, assert_rows, is};
+use sample_rows::{Row, unlike};
 use std::alloc::{AllocError, Global};
 use std::str;
 use std::test::Fail;
@@ -68,7 +68,7 @@ fn answer(alloc: Global, row: &Row) -> Result<Vec<u8>, AllocError> {
     let mut lines = Vec::new(alloc);
     push_line(alloc, &mut lines, 7, &row.two, Some(12_345))?;
     push_line(alloc, &mut lines, 1_234, b"undo 7", None)?;
-    let legend = is(row, b"heads");
+    let legend = row.kind.as_slice() == b"heads".as_slice();
     let mut out = Vec::new(alloc);
     if push_log(&mut out, columns_of(&row.one), legend, &lines).is_err() {
         if !out.is_empty() {
@@ -81,5 +81,7 @@ fn answer(alloc: Global, row: &Row) -> Result<Vec<u8>, AllocError> {
 
 #[test]
 fn tables_have_their_columns(rt: HostRuntime) -> Result<(), Fail> {
-    assert_rows(&rt, rt.alloc(), ROWS, answer)
+    let found = unlike(rt.alloc(), ROWS, answer)?;
+    assert!(rt; found.is_empty(), "{:?}", str::from_utf8(&found));
+    Ok(())
 }

@@ -1,7 +1,7 @@
 //! Texts that others changed: each fault with its line.
 use crate::sample::TEXT;
 use kept_texts::{KeptText, TextError};
-use sample_rows::{Row, assert_rows, is};
+use sample_rows::{Row, unlike};
 use std::alloc::{AllocError, Global};
 use std::test::Fail;
 
@@ -82,7 +82,7 @@ fn changed(alloc: Global, row: &Row) -> Result<Vec<u8>, AllocError> {
         return Ok(Vec::new(alloc));
     };
     let mut text = Vec::from_slice(alloc, front)?;
-    if is(row, b"replace") {
+    if row.kind.as_slice() == b"replace".as_slice() {
         text.extend_from_slice(&row.two)?;
         text.extend_from_slice(rest)?;
     }
@@ -106,5 +106,7 @@ fn answer(alloc: Global, row: &Row) -> Result<Vec<u8>, AllocError> {
 
 #[test]
 fn faults_have_their_lines(rt: HostRuntime) -> Result<(), Fail> {
-    assert_rows(&rt, rt.alloc(), ROWS, answer)
+    let found = unlike(rt.alloc(), ROWS, answer)?;
+    assert_eq!(rt; found.as_slice(), b"".as_slice());
+    Ok(())
 }

@@ -5,10 +5,8 @@
 //! that begin with `#` aren't rows.
 #![tactic(auto)]
 
-mod answers;
 mod fields;
 mod running;
 
-pub use answers::{is, number_of, yes_or_no};
 pub use fields::Row;
-pub use running::{assert_rows, unlike};
+pub use running::unlike;

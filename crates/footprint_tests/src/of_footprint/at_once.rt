@@ -3,7 +3,7 @@ use super::texts::{push_key, read_as};
 use footprint::{Answer, Edit, Key, Keys, Notices, Outcome, Refusal, WantedLinks};
 use link_tree::{Change, Entry, Scope, Slot, Tree, TreePath};
 use load_path::{End, Found};
-use sample_rows::{Row, assert_rows, is};
+use sample_rows::{Row, unlike};
 use sample_values::{name, path, tree};
 use std::alloc::{AllocError, Global};
 use std::test::Fail;
@@ -287,16 +287,17 @@ fn cleared(alloc: Global, one: &[u8], other: &[u8]) -> Result<Vec<u8>, AllocErro
 }
 
 fn answer(alloc: Global, row: &Row) -> Result<Vec<u8>, AllocError> {
-    if is(row, b"wanted") {
+    let kind = row.kind.as_slice();
+    if kind == b"wanted".as_slice() {
         return told(alloc, &row.one);
     }
-    if is(row, b"cleared") {
+    if kind == b"cleared".as_slice() {
         return cleared(alloc, &row.one, &row.two);
     }
-    if is(row, b"looks") {
+    if kind == b"looks".as_slice() {
         return looks(alloc, &row.one);
     }
-    if is(row, b"reads") {
+    if kind == b"reads".as_slice() {
         return read_as(alloc, TREE, &row.one);
     }
     Vec::from_slice(alloc, b"unknown kind")
@@ -304,5 +305,7 @@ fn answer(alloc: Global, row: &Row) -> Result<Vec<u8>, AllocError> {
 
 #[test]
 fn links_are_made_and_cleared_all_at_once(rt: HostRuntime) -> Result<(), Fail> {
-    assert_rows(&rt, rt.alloc(), ROWS, answer)
+    let found = unlike(rt.alloc(), ROWS, answer)?;
+    assert_eq!(rt; found.as_slice(), b"".as_slice());
+    Ok(())
 }

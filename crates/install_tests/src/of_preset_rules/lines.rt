@@ -1,7 +1,7 @@
 //! Lines of preset files.
 use super::verdicts::{enabled, policy_of_file, verdict, verdict_text};
 use preset_rules::{Instances, Verdict};
-use sample_rows::{Row, assert_rows, is};
+use sample_rows::{Row, unlike};
 use std::alloc::{AllocError, Global};
 use std::test::Fail;
 
@@ -83,10 +83,11 @@ fn copy(alloc: Global, lines: &[u8], unit: &[u8]) -> Result<Vec<u8>, AllocError>
 }
 
 fn answer(alloc: Global, row: &Row) -> Result<Vec<u8>, AllocError> {
-    if is(row, b"preset") {
+    let kind = row.kind.as_slice();
+    if kind == b"preset".as_slice() {
         return preset(alloc, &row.one, &row.two);
     }
-    if is(row, b"copy") {
+    if kind == b"copy".as_slice() {
         return copy(alloc, &row.one, &row.two);
     }
     Vec::from_slice(alloc, b"unknown kind")
@@ -94,5 +95,7 @@ fn answer(alloc: Global, row: &Row) -> Result<Vec<u8>, AllocError> {
 
 #[test]
 fn lines_are_read_by_words(rt: HostRuntime) -> Result<(), Fail> {
-    assert_rows(&rt, rt.alloc(), ROWS, answer)
+    let found = unlike(rt.alloc(), ROWS, answer)?;
+    assert_eq!(rt; found.as_slice(), b"".as_slice());
+    Ok(())
 }

@@ -1,6 +1,7 @@
 //! Lines, sections and keys of unit files.
 use super::{lines_of, read};
-use sample_rows::{Row, assert_rows};
+use crate::texts::assert_rows;
+use sample_rows::Row;
 use std::alloc::{AllocError, Global};
 use std::test::Fail;
 

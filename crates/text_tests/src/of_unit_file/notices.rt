@@ -1,5 +1,6 @@
 //! Notices: their lines, their order, and copies.
-use sample_rows::{Row, assert_rows, is};
+use crate::texts::{assert_rows, is};
+use sample_rows::Row;
 use sample_values::name;
 use std::alloc::{AllocError, Global};
 use std::test::Fail;

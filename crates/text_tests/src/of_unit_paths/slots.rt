@@ -1,4 +1,5 @@
-use sample_rows::{Row, assert_rows, is, yes_or_no};
+use crate::texts::{assert_rows, is, yes_or_no};
+use sample_rows::Row;
 use sample_values::{name, path};
 use std::alloc::{AllocError, Global};
 use std::test::Fail;

@@ -1,6 +1,7 @@
 //! Chains of links.
 use super::trees::{Named, answer_in};
-use sample_rows::{Row, assert_rows};
+use crate::rows::assert_rows;
+use sample_rows::Row;
 use std::alloc::{AllocError, Global};
 use std::test::Fail;
 

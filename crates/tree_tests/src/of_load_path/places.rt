@@ -1,6 +1,7 @@
 //! Directories, masks and the paths that are looked at.
 use super::trees::{Named, answer_in};
-use sample_rows::{Row, assert_rows};
+use crate::rows::assert_rows;
+use sample_rows::Row;
 use std::alloc::{AllocError, Global};
 use std::test::Fail;
 
