@@ -1,7 +1,8 @@
 //! What units are, and what enables or masks them: `status`.
 
 use crate::makers::{MadeBy, look_at_root, makers_of};
-use link_tree::{Tree, push_decimal};
+use link_tree::{Tree, TreePath, push_decimal};
+use real_roots::RealDisk;
 use root_histories::{
     Context, Done, Failure, Kept, capture_to_list, name_of, paths_of, print, shown_lines,
 };
@@ -146,6 +147,26 @@ fn text_or_json(
     }
 }
 
+/// Captures the root, and shows what the units are.
+fn show_captured(
+    cx: Context<'_>,
+    disk: RealDisk<'_>,
+    paths: &[TreePath],
+    kept: &Option<Kept>,
+    names: &[UnitName],
+) -> Result<u8, Failure> {
+    let alloc = cx.rt.alloc();
+    let tree = capture_to_list(cx.rt, cx.asked, disk, paths)?;
+    let text = text_or_json(alloc, &tree, kept, names, cx.asked.output.json)?;
+    print(cx.rt, &text, Done::Nothing)?;
+    Ok(0)
+}
+
+fn show_units(cx: Context<'_>, paths: &[TreePath], names: &[UnitName]) -> Result<u8, Failure> {
+    let (disk, kept) = look_at_root(cx)?;
+    show_captured(cx, disk, paths, &kept, names)
+}
+
 /// Shows what units are, and what enables or masks them. If the root has a history, it says which
 /// rows of it made these entries.
 ///
@@ -155,9 +176,5 @@ pub fn show_status(cx: Context<'_>, units: &[String]) -> Result<u8, Failure> {
     let alloc = cx.rt.alloc();
     let names = names_of(alloc, units)?;
     let paths = paths_of(alloc, &cx.asked.with)?;
-    let (disk, kept) = look_at_root(cx)?;
-    let tree = capture_to_list(cx.rt, cx.asked, disk, &paths)?;
-    let text = text_or_json(alloc, &tree, &kept, &names, cx.asked.output.json)?;
-    print(cx.rt, &text, Done::Nothing)?;
-    Ok(0)
+    show_units(cx, &paths, &names)
 }
