@@ -364,21 +364,39 @@ def layouts(unitroot, room):
     works('usr-etc-beside-etc', lambda root: os.makedirs(root + '/usr/etc/systemd'))
 
 
-def interrupted(unitroot, room):
-    count = 20000
-    lines = ''.join('a mask many-%05d.service\n' % number for number in range(count))
-    for number in (signal.SIGINT, signal.SIGTERM, signal.SIGHUP, signal.SIGKILL):
-        root = laid(room, 'interrupted-%d' % number, few())
+def masks(count):
+    return ''.join('a mask many-%05d.service\n' % number for number in range(count))
+
+
+def ended_by(unitroot, root, number, lines):
+    """The status of a run that gets a signal once it has made 51 links."""
+    running = subprocess.Popen([unitroot.path, '--root=%s' % root, 'run'], stdin=subprocess.PIPE,
+                               stdout=subprocess.DEVNULL, stderr=subprocess.DEVNULL)
+    running.stdin.write(lines.encode())
+    running.stdin.close()
+    first = root + ETC + '/many-00050.service'
+    while not os.path.lexists(first) and running.poll() is None:
+        time.sleep(0.001)
+    running.send_signal(number)
+    return running.wait()
+
+
+def ended_in_the_middle(unitroot, room, number):
+    """Ends a run by a signal, on a new root, and returns the root as it was, and how many links the run
+    was to make. On a busy machine a run may be over before the signal comes: then a longer one is ended.
+    """
+    for count in (20000, 40000, 60000):
+        root = laid(room, 'interrupted-%d-%d' % (number, count), few())
         was = shot(root)
-        running = subprocess.Popen([unitroot.path, '--root=%s' % root, 'run'], stdin=subprocess.PIPE,
-                                   stdout=subprocess.DEVNULL, stderr=subprocess.DEVNULL)
-        running.stdin.write(lines.encode())
-        running.stdin.close()
-        first = root + ETC + '/many-00050.service'
-        while not os.path.lexists(first) and running.poll() is None:
-            time.sleep(0.001)
-        running.send_signal(number)
-        status = running.wait()
+        status = ended_by(unitroot, root, number, masks(count))
+        if status != 0:
+            break
+    return root, was, count, status
+
+
+def interrupted(unitroot, room):
+    for number in (signal.SIGINT, signal.SIGTERM, signal.SIGHUP, signal.SIGKILL):
+        root, was, count, status = ended_in_the_middle(unitroot, room, number)
         now = shot(root)
         made = [path for path in now if path not in was]
         title = 'a run that is ended by %s' % signal.Signals(number).name
@@ -387,7 +405,7 @@ def interrupted(unitroot, room):
         well = all(now[path] == ('link', '/dev/null') for path in made if '.unitroot' not in path)
         hold(well and all(now.get(path) == was[path] for path in was),
              title + ' leaves each path as it was or as it is to be')
-        ran = unitroot.on(root, 'run', given=lines)
+        ran = unitroot.on(root, 'run', given=masks(count))
         end = shot(root)
         wanted = {**was, **{'%s/many-%05d.service' % (ETC, n): ('link', '/dev/null')
                             for n in range(count)}}

@@ -33,11 +33,12 @@ abbrev pub ReadsFront : {X Y F : Type 0} → (X → Y) → Option (List ℕ) →
 ReadsFront view left (Ok x) read = (rest : List ℕ) × (left ≡ Some rest) × (read ≡ Ok (view x, rest))
 ReadsFront view left (Err e) read = FailsAs e read
 
--- A read fault has a cause, and a successful read had no failure.
+-- A read fault has a cause. If something was read, or the bytes have a fault, the source didn't
+-- fail.
 abbrev pub AccountsRead : {X F : Type 0} → Result X (ReadError F) → Counters → Counters → Type 0
 AccountsRead (Ok x) old new = IsCalm old new
 AccountsRead (Err errors.ReadFault) old new = HasCause old new
-AccountsRead (Err (errors.Fault fault)) old new = Unit {0}
+AccountsRead (Err (errors.Fault fault)) old new = IsCalm old new
 AccountsRead (Err errors.OutOfMemory) old new = Unit {0}
 
 -- An error is reported at the end of the bytes or with the byte that decides it, and a read fault

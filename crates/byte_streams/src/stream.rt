@@ -4,14 +4,18 @@ ghost use Rattle.std.specs.Io.KnownBytes.{Keeps};
 ghost use Rattle.byte_streams.specs.Streams.{GivesNext, GivesSome, HasNoLineEnd, counters_after, counters_after_write, TakesBytes};
 ghost use Rattle.byte_streams.specs.declared.counters.Counters.{Counters};
 
+use thiserror::Error;
+
 /// After this number of interruptions in a row, a stream counts as failed.
 pub const MAX_INTERRUPTIONS: u32 = 1000;
 
 /// Why a stream read or wrote nothing: read(2) and write(2).
-#[derive(Clone, Copy, Debug, PartialEq, Eq)]
+#[derive(Clone, Copy, Debug, PartialEq, Eq, Error)]
 pub enum Stop {
     /// The call was interrupted by a signal: it may be made again.
+    #[error("interrupted")]
     Interrupted,
+    #[error("failed")]
     Failed,
 }
 

@@ -6,10 +6,12 @@ ghost use Rattle.std.specs.Io.KnownBytes.{Appends, Keeps};
 ghost use Rattle.byte_streams.specs.Streams.{Accounts, StopsIn, WritesSome};
 
 use crate::stream::{MAX_INTERRUPTIONS, Sink, Stop};
+use thiserror::Error;
 
 /// The sink failed, or was interrupted 1,000 times in a row, after this number of bytes had been
 /// written.
-#[derive(Clone, Copy, Debug, PartialEq, Eq)]
+#[derive(Clone, Copy, Debug, PartialEq, Eq, Error)]
+#[error("write fault after {0} bytes")]
 pub struct WriteFault(pub usize);
 
 /// Writes some of the bytes, at least one. On a write fault, which then reports 0 bytes, none was

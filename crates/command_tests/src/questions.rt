@@ -83,20 +83,37 @@ fn keys_read<O: Operation>(
     keys_text(alloc, &outcome)
 }
 
-/// Whether a copy of an operation is the same, and is a question or not, as `asks_only` says.
-fn is_copied<O: Operation>(operation: &O, asks_only: bool) -> Result<bool, AllocError> {
-    let copy = operation.copy()?;
-    Ok(copy.same(operation) && copy.asks_only() == asks_only)
+/// A copy of an operation. If memory runs out, the operation is the same as another of its line,
+/// and is copied again; there is no copy if it isn't.
+fn copy_of<O: Operation>(operation: &O, same: &O) -> Result<Option<O>, AllocError> {
+    if let Ok(copy) = operation.copy() {
+        return Ok(Some(copy));
+    }
+    if !operation.same(same) {
+        return Ok(None);
+    }
+    Ok(Some(operation.copy()?))
+}
+
+/// Whether a copy of an operation is the same as another of its line, and is a question or not, as
+/// `asks_only` says.
+fn is_copied<O: Operation>(operation: &O, same: &O, asks_only: bool) -> Result<bool, AllocError> {
+    match copy_of(operation, same)? {
+        Some(copy) => Ok(copy.same(same) && copy.asks_only() == asks_only),
+        None => Ok(false),
+    }
 }
 
 /// What an operation results in, if it is copied and is a question or not, as `asks_only` says.
+/// There is another operation of the same line.
 pub(crate) fn checked_result<O: Operation>(
     alloc: Global,
     operation: &O,
+    same: &O,
     tree: &Tree,
     asks_only: bool,
 ) -> Result<Vec<u8>, AllocError> {
-    if is_copied(operation, asks_only)? {
+    if is_copied(operation, same, asks_only)? {
         result_text(alloc, operation, tree)
     } else {
         Vec::from_slice(alloc, b"another copy")
@@ -107,12 +124,13 @@ fn answered<O: Operation>(
     alloc: Global,
     kind: &[u8],
     operation: &O,
+    same: &O,
     tree: &Tree,
 ) -> Result<Vec<u8>, AllocError> {
     if kind == b"run".as_slice() {
-        checked_result(alloc, operation, tree, false)
+        checked_result(alloc, operation, same, tree, false)
     } else if kind == b"ask".as_slice() {
-        checked_result(alloc, operation, tree, true)
+        checked_result(alloc, operation, same, tree, true)
     } else if kind == b"reads".as_slice() {
         keys_read(alloc, operation, tree)
     } else {
@@ -134,9 +152,17 @@ fn same_text<O: Operation>(one: &O, other: &O, copy: &O) -> &'static [u8] {
     }
 }
 
-fn compared<O: Operation>(alloc: Global, one: &O, other: &O) -> Result<Vec<u8>, AllocError> {
-    let copy = one.copy()?;
-    Vec::from_slice(alloc, same_text(one, other, &copy))
+/// The same, for the copy of an operation of which there is another of the same line.
+fn compared<O: Operation>(
+    alloc: Global,
+    one: &O,
+    same: &O,
+    other: &O,
+) -> Result<Vec<u8>, AllocError> {
+    match copy_of(one, same)? {
+        Some(copy) => Vec::from_slice(alloc, same_text(one, other, &copy)),
+        None => Vec::from_slice(alloc, b"what was given is changed"),
+    }
 }
 
 fn compared_lines<O: OfLine>(
@@ -145,13 +171,15 @@ fn compared_lines<O: OfLine>(
     other: &[u8],
 ) -> Result<Vec<u8>, AllocError> {
     let one = O::of_line(alloc, line)?;
+    let same = O::of_line(alloc, line)?;
     let other = O::of_line(alloc, other)?;
-    compared(alloc, &one, &other)
+    compared(alloc, &one, &same, &other)
 }
 
 fn asked_in<O: OfLine>(alloc: Global, row: &Row, tree: &Tree) -> Result<Vec<u8>, AllocError> {
     let operation = O::of_line(alloc, &row.one)?;
-    answered(alloc, &row.kind, &operation, tree)
+    let same = O::of_line(alloc, &row.one)?;
+    answered(alloc, &row.kind, &operation, &same, tree)
 }
 
 /// The answer to a row about an operation and the tree of an inventory.

@@ -1,4 +1,5 @@
 pub mod Ways
+pub mod Doing
 pub mod Going
 pub mod Directories
 pub mod Covering

@@ -17,7 +17,7 @@ mod step;
 mod taking;
 mod taking_parts;
 
-pub use applying::apply;
+pub use applying::{Left, Stop, apply, look_at_all, make_all, take_all_back};
 pub use capture_error::CaptureError;
 pub use capturing::capture;
 pub use disk::{Disk, Found, Listing, Oddity};

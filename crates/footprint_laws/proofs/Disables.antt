@@ -16,7 +16,7 @@ use Rattle.install_commands.specs.declared.disable.Disable.{Disable}
 use Rattle.install_commands.specs.Disable.{with_real, with_self, reals_behind, selves_behind, selves_named, reals_named, units_named, links_removed, disable_meaning}
 use Rattle.install_commands.specs.Laws.{GoesWith}
 use Rattle.install_commands.proofs.Disabled.{done_with, refuses}
-use Rattle.install_commands.proofs.Named.{reals, selves, reached_goes, goes_reached, gathered, gathered_is}
+use Rattle.install_commands.proofs.Named.{Names, reals, selves, reals_all, real_is, reached_goes, goes_reached, gathered, gathered_is}
 use Rattle.footprint_laws.specs.Sets.{IsLookedUp, IsLookedUpWith, IsNamedAt}
 use Rattle.footprint_laws.specs.Sets.IsLookedUpWith.{Itself, ItsWord}
 use Rattle.footprint_laws.specs.Sets.IsNamedAt.{Given, Real, Also}
@@ -24,7 +24,6 @@ use Rattle.footprint_laws.specs.Installs.{DisableKeys, DisableLooks}
 use Rattle.footprint_laws.specs.Installs.DisableKeys.{Name, Links, Link}
 use Rattle.footprint_laws.proofs.Keys.{looks, cell_among, among_cells, no_key}
 use Rattle.footprint_laws.proofs.Closures.{closure_looks_only, closure_looks_all}
-use Rattle.footprint_laws.proofs.Naming.{Names, reals_all, real_is}
 use Rattle.footprint_laws.proofs.Removals.{asked_only, asked_all, made_only, made_all}
 
 module _ (t : Entries) where

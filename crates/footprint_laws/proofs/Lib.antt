@@ -1,7 +1,6 @@
 mod Keys
 mod Turns
 mod Questions
-mod Masking
 mod Masks
 mod Unmasks
 mod Hands
@@ -10,8 +9,6 @@ mod Adding
 mod Closures
 mod Checks
 mod Enables
-mod Naming
-mod Keeping
 mod Removals
 mod Parts
 mod Disables

@@ -19,7 +19,7 @@ use Rattle.footprint_laws.specs.Sets.{IsUpTo}
 use Rattle.footprint_laws.specs.Slots.{MaysMask, MaskKeys, MaskLooks}
 use Rattle.footprint_laws.specs.Slots.MaskKeys.{Slot}
 use Rattle.footprint_laws.proofs.Keys.{looks, no_key}
-use Rattle.footprint_laws.proofs.Masking.{mask_filled, mask_refused, next, alike}
+use Rattle.slot_commands.proofs.Masked.{mask_filled, mask_refused, next, alike}
 
 module _ (scope : Scope) where
   abbrev slot : List ℕ → List ℕ

@@ -8,7 +8,6 @@ use Rattle.unit_paths.specs.Slots.{slot_of}
 use Rattle.link_tree.specs.declared.entry.Entry.{Entry}
 use Rattle.link_tree.specs.declared.entry.Entry.TheVariants as entries
 use Rattle.link_tree.specs.Trees.{Entries}
-use Rattle.link_tree.proofs.Changed.{same_tree}
 use Rattle.load_path.specs.declared.following.End.{End}
 use Rattle.load_path.specs.declared.following.End.TheVariants as ends
 use Rattle.load_path.specs.Follow.{chain_from, end_of, followed, follow}
@@ -19,19 +18,11 @@ use Rattle.preset_rules.specs.Files.{policy_of, presets_of, rules_behind, rules_
 use Rattle.preset_rules.proofs.Agreeing.{presets_decide}
 use Rattle.preset_rules.proofs.WinnersFound.{get-presets}
 use Rattle.footprint.specs.declared.key.Key.TheVariants.{Presets}
-use Rattle.footprint.specs.KeyLaws.{get-part}
-use Rattle.footprint.specs.Keys.{part, shown}
+use Rattle.footprint.specs.Keys.{part}
+use Rattle.install_commands.proofs.Verdicts.{presets_part}
 use Rattle.footprint_laws.specs.Installs.{IsPresetEnd}
 
--- the entries that the key sees are those at the preset slots
-presets_part : (t : Entries) → part Presets t ≡ presets_of t
-presets_part t = same_tree _ _ (λ path. get-part Presets t path ∙ by_entry path (map.get t path) ∙ sym (get-presets t path))
-  where
-    by_entry : (path : List ℕ) (there : Option Entry) → shown Presets path there ≡ cond (is_preset (slot_of path)) there None
-    by_entry path None = elim (cases_Bool (is_preset (slot_of path))) [ inl is ↦ sym (ap (λ b. cond b None None) is) | inr not ↦ sym (ap (λ b. cond b None None) not) ]
-    by_entry path (Some entry) = refl
-
--- so the rules of what it sees are those of the tree, and so are their cells
+-- the cells of the rules are the same for the entries that the key sees
 same_cells : (t : Entries) → (policy_of (part Presets t)).cells t ≡ (policy_of t).cells t
 same_cells t = ap (λ policy. policy.cells t) (ap policy_of (presets_part t) ∙ presets_decide t)
 

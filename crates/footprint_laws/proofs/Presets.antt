@@ -25,7 +25,7 @@ use Rattle.install_commands.specs.Enable.{units_enabled}
 use Rattle.install_commands.specs.Laws.{IsGone, IsNamed, Leaves}
 use Rattle.install_commands.specs.Preset.{counting_behind, units_judged, preset_judges, telling_too, judged_named, disabled_telling, judged_disabled, carried_through, preset_meaning}
 use Rattle.install_commands.proofs.Disabled.{by_names, none_kept}
-use Rattle.install_commands.proofs.Named.{named_refused, gathered_is}
+use Rattle.install_commands.proofs.Named.{Names, named_refused, gathered_is}
 use Rattle.install_commands.proofs.Presetting.{preset_in_turn}
 use Rattle.install_commands.proofs.Removal.{done_by, done_of}
 use Rattle.footprint_laws.specs.Sets.{IsNamedAt}
@@ -35,10 +35,13 @@ use Rattle.footprint_laws.proofs.Keys.{looks, cell_among, among_cells, no_key}
 use Rattle.footprint_laws.proofs.Counting.{counting_only, counting_at, all_found, all_count}
 use Rattle.footprint_laws.proofs.Disables.{names_only, names_all}
 use Rattle.footprint_laws.proofs.Enables as enables
-use Rattle.footprint_laws.proofs.Naming.{Given, Names}
 use Rattle.footprint_laws.proofs.Parts.{on_done, on_refused}
 use Rattle.footprint_laws.proofs.Policies.{policy_only, policy_all}
 use Rattle.footprint_laws.proofs.Removals.{asked_only, asked_all, made_only, made_all}
+
+-- what a function takes
+abbrev Given : {A B : Type 0} → (A → B) → Type 0
+Given {A} f = A
 
 -- the verdicts of a preset; the struct is private
 abbrev Verdicts : Type 0

@@ -29,9 +29,10 @@ use Rattle.install_commands.specs.Laws.IsNamed.{Given as GivenName, Found as Fou
 use Rattle.install_commands.specs.Reenable.{with_kept, kept_behind, checked_named, links_cleared, reenable_disables, reenable_enables, reenable_meaning}
 use Rattle.install_commands.proofs.Checked.{check_passes}
 use Rattle.install_commands.proofs.Composites.{refused_in_turn}
-use Rattle.install_commands.proofs.Named.{named_refused, gathered_is}
+use Rattle.install_commands.proofs.Named.{Names, named_refused, gathered_is}
 use Rattle.install_commands.proofs.Placed.{bare_of, get-cleared}
-use Rattle.install_commands.proofs.Removal.{is_kept, kept_is, is_kept_of, is_marked, marked_by, marks, gone, done_by, done_of}
+use Rattle.install_commands.proofs.Reenabled.{kept_are, ways_kept, kept_for, given, by_check, comes_to}
+use Rattle.install_commands.proofs.Removal.{is_kept, kept_is, is_kept_of, get-but_at, is_marked, marked_by, marks, gone, done_by, done_of}
 use Rattle.footprint_laws.specs.Sets.{IsLookedUp, IsNamedAt}
 use Rattle.footprint_laws.specs.Sets.IsLookedUpWith.{Itself}
 use Rattle.footprint_laws.specs.Sets.IsNamedAt.{Given as GivenAt, Real as RealAt, Also as AlsoAt}
@@ -41,8 +42,6 @@ use Rattle.footprint_laws.proofs.Keys.{looks, cell_among, among_cells, keys_have
 use Rattle.footprint_laws.proofs.Enables as enables
 use Rattle.footprint_laws.proofs.Checks.{checked_only, checked_at}
 use Rattle.footprint_laws.proofs.Disables.{names_only, names_all}
-use Rattle.footprint_laws.proofs.Keeping.{get-but_at, kept_are, ways_kept, kept_for, given, by_check, comes_to}
-use Rattle.footprint_laws.proofs.Naming.{Names}
 use Rattle.footprint_laws.proofs.Parts.{on_done, on_refused}
 use Rattle.footprint_laws.proofs.Removals.{marked_among, among_marked}
 

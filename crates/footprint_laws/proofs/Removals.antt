@@ -18,7 +18,7 @@ use Rattle.install_commands.specs.Disable.{links_removed}
 use Rattle.install_commands.proofs.Placed.{bare_of, get-cleared}
 use Rattle.install_commands.proofs.Removal.{is_marked, marked_by, marks}
 use Rattle.footprint_laws.proofs.Keys.{cell_among, among_cells, keys_have, have_key, no_key}
-use Rattle.footprint_laws.proofs.Naming.{Names}
+use Rattle.install_commands.proofs.Named.{Names}
 
 -- a key of a list of names
 pub marked_among : (scope : Scope) (names : List (List ℕ)) (key : Key) → Contains (list_map (Marked scope) names) key → (name : List ℕ) × (key ≡ Marked scope name) × Contains names name

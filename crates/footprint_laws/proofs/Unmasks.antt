@@ -15,7 +15,7 @@ use Rattle.slot_commands.specs.Masks.{unmask_at, ruled_unit, unmask_meaning}
 use Rattle.footprint_laws.specs.Slots.{UnmaskKeys, UnmaskLooks}
 use Rattle.footprint_laws.specs.Slots.UnmaskKeys.{Slot}
 use Rattle.footprint_laws.proofs.Keys.{looks, no_key}
-use Rattle.footprint_laws.proofs.Masking.{left, unmask_left}
+use Rattle.slot_commands.proofs.Masked.{left, unmask_left}
 
 module _ (scope : Scope) where
   abbrev slot : List ℕ → List ℕ

@@ -1,11 +1,10 @@
-pub mod Asked
 pub mod Checked
 pub mod Placed
 pub mod Enabled
 pub mod Named
 pub mod Removal
 pub mod Disabled
-pub mod Marks
+pub mod Going
 pub mod InTurn
 pub mod Composites
 pub mod Reenabled

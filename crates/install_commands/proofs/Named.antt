@@ -27,6 +27,10 @@ use Rattle.install_commands.specs.Laws.{GoesWith, IsNamed}
 use Rattle.install_commands.specs.Laws.GoesWith.{Own, Named as NamedIn}
 use Rattle.install_commands.specs.Laws.IsNamed.{Given, Found as FoundAs, Also}
 
+-- the names of a disable, with their notices
+abbrev pub Names : Type 0
+Names = Named
+
 module _ (t : Entries) where
   -- one of the units has this own name
   abbrev pub IsReal : (units : List (List ℕ)) → (real : List ℕ) → Type 0
@@ -62,7 +66,7 @@ module _ (t : Entries) where
   reals_kept [] names name here = here
   reals_kept (unit ∷ units) names name here = reals_kept units (with_real names ((find unit).conclusion t)) name (real_kept names name ((find unit).conclusion t) here)
 
-  reals_all : (units names : List (List ℕ)) (real : List ℕ) → IsReal units real → Contains ((reals_behind names units).conclusion t) real
+  pub reals_all : (units names : List (List ℕ)) (real : List ℕ) → IsReal units real → Contains ((reals_behind names units).conclusion t) real
   reals_all [] names real is = absurd (none_of [] is.0 refl is.2)
   reals_all (unit ∷ units) names real is = elim (in_first unit units is.0 is.2) [
     | inl first ↦ reals_kept units (with_real names ((find unit).conclusion t)) real
@@ -121,7 +125,7 @@ module _ (t : Entries) where
     abbrev pub selves : List (List ℕ)
     selves = (selves_behind [] reals).conclusion t
 
-    real_is : (real : List ℕ) → Contains reals real → IsReal units real
+    pub real_is : (real : List ℕ) → Contains reals real → IsReal units real
     real_is real here = elim (reals_are units [] real here) [ inl none ↦ absurd (none_of [] real refl none) | inr is ↦ is ]
 
     self_is : (name : List ℕ) → Contains selves name → IsReal units name × IsUnit t name

@@ -68,10 +68,10 @@ module _ (t : Entries) where
       subst (λ found. Contains (with_kept kept (found, (find name).cells t)) path) (sym way.3)
       (subst (λ b. Contains (cond b kept (kept ++ (find name).cells t)) path) (sym way.4) (Contains-append_right kept ((find name).cells t) path way.5))
 
-  abbrev IsWay : (names : List (List ℕ)) → (path : List ℕ) → Type 0
+  abbrev pub IsWay : (names : List (List ℕ)) → (path : List ℕ) → Type 0
   IsWay names path = (name : List ℕ) × Contains names name × IsWayOutside t name path
 
-  kept_are : (names kept : List (List ℕ)) (path : List ℕ) → Contains ((kept_behind kept names).conclusion t) path → Contains kept path ⊎ IsWay names path
+  pub kept_are : (names kept : List (List ℕ)) (path : List ℕ) → Contains ((kept_behind kept names).conclusion t) path → Contains kept path ⊎ IsWay names path
   kept_are [] kept path here = inl here
   kept_are (name ∷ names) kept path here = elim (kept_are names (with_kept kept ((find name).conclusion t, (find name).cells t)) path here) [
     | inl behind ↦ elim (kept_of_found name path kept ((find name).conclusion t) refl behind) [
@@ -86,7 +86,7 @@ module _ (t : Entries) where
   kept_through (name ∷ names) kept path here =
       kept_through names (with_kept kept ((find name).conclusion t, (find name).cells t)) path (kept_on name path kept ((find name).cells t) ((find name).conclusion t) here)
 
-  ways_kept : (names kept : List (List ℕ)) (path : List ℕ) → IsWay names path → Contains ((kept_behind kept names).conclusion t) path
+  pub ways_kept : (names kept : List (List ℕ)) (path : List ℕ) → IsWay names path → Contains ((kept_behind kept names).conclusion t) path
   ways_kept [] kept path way = absurd (none_of [] way.0 refl way.1)
   ways_kept (name ∷ names) kept path way = elim (first_or_later name names way.0 way.1.0 way.1.1 way.1.2) [
     | inl same ↦ kept_through names (with_kept kept ((find name).conclusion t, (find name).cells t)) path (kept_way name path kept (subst (λ name. IsWayOutside t name path) same way.2))
@@ -100,20 +100,20 @@ module _ (reenable : Reenable) (t : Entries) where
   abbrev units : List (List ℕ)
   units = reenable.units
 
-  abbrev kept_for : Named → List (List ℕ)
+  abbrev pub kept_for : Named → List (List ℕ)
   kept_for named = (kept_behind [] named.names).conclusion t
 
-  abbrev given : Result Named Refusal
+  abbrev pub given : Result Named Refusal
   given = (checked_named units).conclusion t
 
   by_names : (given : Result Named Refusal) → (taken ((unless_refused (links_cleared scope) given).conclusion t)).conclusion t ≡ done_by scope kept_for t given
   by_names (Ok named) = refl
   by_names (Err refusal) = refl
 
-  comes_to : (carried_out (reenable_disables reenable)).conclusion t ≡ done_by scope kept_for t given
+  pub comes_to : (carried_out (reenable_disables reenable)).conclusion t ≡ done_by scope kept_for t given
   comes_to = by_names given
 
-  by_check : (named : Named) (fine : Result (Unit {0}) Refusal) → (checked units).conclusion t ≡ fine → (going_on (λ fine. units_named units) fine).conclusion t ≡ Ok named
+  pub by_check : (named : Named) (fine : Result (Unit {0}) Refusal) → (checked units).conclusion t ≡ fine → (going_on (λ fine. units_named units) fine).conclusion t ≡ Ok named
       → ((checked units).conclusion t ≡ Ok tt) × ((units_named units).conclusion t ≡ Ok named)
   by_check named (Ok fine) at is = (at, is)
   by_check named (Err refusal) at is = cc

@@ -47,7 +47,7 @@ is_kept_of (first ∷ kept) path here = elim (first_or_later first kept path her
   | inr later ↦ or_right (is_at path first) (is_kept kept path) (is_kept_of kept path later)
 ]
 
-get-but_at : (wanted : Wanted) (kept : List (List ℕ)) (path : List ℕ) → map.get (but_at wanted kept) path ≡ cond (is_kept kept path) None (map.get wanted path)
+pub get-but_at : (wanted : Wanted) (kept : List (List ℕ)) (path : List ℕ) → map.get (but_at wanted kept) path ≡ cond (is_kept kept path) None (map.get wanted path)
 get-but_at wanted [] path = refl
 get-but_at wanted (first ∷ kept) path =
     get-but_at (map.remove wanted first) kept path

@@ -31,7 +31,7 @@ use Rattle.install_commands.specs.CompositeLaws.{rules_of, Counts, GivesUnit, Is
 use Rattle.install_commands.specs.Preset.{counts, counting_behind, with_one, with_disabled, with_listed, with_all_listed, with_enabled, with_unit, judged_by, none_judged, units_judged, preset_judges}
 
 -- the paths that a preset looks at are the preset slots
-presets_part : (t : Entries) → part Presets t ≡ presets_of t
+pub presets_part : (t : Entries) → part Presets t ≡ presets_of t
 presets_part t = same_tree _ _ (λ path. get-part Presets t path ∙ by_entry path (map.get t path) ∙ sym (get-presets t path))
   where
     by_entry : (path : List ℕ) (there : Option Entry) → shown Presets path there ≡ cond (is_preset (slot_of path)) there None

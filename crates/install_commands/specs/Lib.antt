@@ -3,7 +3,6 @@ pub mod Enable
 pub mod Disable
 pub mod Reenable
 pub mod Preset
-pub mod Following
 pub mod BothLaws
 pub mod Laws
 pub mod CompositeLaws

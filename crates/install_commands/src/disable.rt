@@ -1,19 +1,19 @@
 //! disable.
-ghost use Rattle.std.specs.Prelude.{◌≡◌, ◌++◌, [], map as list_map, IfOk, OnOk};
+ghost use Rattle.std.specs.Prelude.{◌≡◌, ◌++◌, [], Ok, map as list_map, IfOk, OnErr, OnOk};
 ghost use Rattle.footprint.specs.declared.key.Key.TheVariants.{Marked};
 ghost use Rattle.load_path.specs.Search.{with_cell, each_once};
-ghost use Rattle.footprint.specs.Edits.{Carries, CarriesOn};
-ghost use Rattle.footprint.specs.Inquiry.{Asks, entries_of_all, giving};
+ghost use Rattle.footprint.specs.Inquiry.{entries_of_all, giving};
 ghost use Rattle.footprint.specs.Placing.{cleared};
 ghost use Rattle.install_commands.specs.Disable.{with_real, reals_behind, is_itself, with_self, selves_behind, selves_named, reals_named, but_at, disable_command};
-ghost use Rattle.footprint.specs.Commands.{unless_refused};
 ghost use Rattle.install_commands.specs.Disable as disabling;
+ghost use Rattle.transaction.specs.Runs.{Runs, asking, asking_for, doing};
 
-use crate::enable::{closed, placed};
-use footprint::{Edit, Key, Keys, Notices, Operation, Outcome, Refusal, Units, WantedLinks};
+use crate::enable::closed;
+use footprint::{Notices, Operation, Outcome, Units, WantedLinks};
 use link_tree::{Scope, Tree, TreePath};
-use load_path::{Cells, Found};
+use load_path::Found;
 use std::alloc::{AllocError, Global};
+use transaction::{Stop, Transaction};
 use unit_name::UnitName;
 
 /// systemctl(1), `disable`: removes all links in the scope that belong to the units, no matter what
@@ -45,17 +45,13 @@ fn push_real(names: &mut Units, found: Found) -> Result<(), AllocError>
 }
 
 /// The own names of those that are found as units, in order.
-fn reals(
-    alloc: Global,
-    tree: &Tree,
-    units: &[UnitName],
-    keys: &mut Keys,
-) -> Result<Units, AllocError>
-    ensures { IfOk result (Asks tree.now (reals_behind [] units.now) keys.old keys.new) }
+fn reals(alloc: Global, units: &[UnitName], txn: &mut Transaction<'_>) -> Result<Units, AllocError>
+    ensures ok { IfOk result (λ names. Runs (asking (reals_behind [] units.now)) txn.old txn.new (Ok names)) }
+    ensures err { OnErr result (txn.new.first ≡ txn.old.first) }
 {
     let mut names = Units::none(alloc);
     for unit in units {
-        let found = keys.find(alloc, tree, unit)?;
+        let found = txn.find(alloc, unit)?;
         push_real(&mut names, found)?;
     }
     Ok(names)
@@ -82,17 +78,13 @@ fn push_self(names: &mut Units, name: &UnitName, found: &Found) -> Result<(), Al
 }
 
 /// Those that are found under their own names, in order.
-fn selves(
-    alloc: Global,
-    tree: &Tree,
-    units: &[UnitName],
-    keys: &mut Keys,
-) -> Result<Units, AllocError>
-    ensures { IfOk result (Asks tree.now (selves_behind [] units.now) keys.old keys.new) }
+fn selves(alloc: Global, units: &[UnitName], txn: &mut Transaction<'_>) -> Result<Units, AllocError>
+    ensures ok { IfOk result (λ names. Runs (asking (selves_behind [] units.now)) txn.old txn.new (Ok names)) }
+    ensures err { OnErr result (txn.new.first ≡ txn.old.first) }
 {
     let mut names = Units::none(alloc);
     for unit in units {
-        let found = keys.find(alloc, tree, unit)?;
+        let found = txn.find(alloc, unit)?;
         push_self(&mut names, unit, &found)?;
     }
     Ok(names)
@@ -139,68 +131,48 @@ fn joined_once(alloc: Global, mut names: Units, more: &[UnitName]) -> Result<Uni
     each_once(alloc, names.as_slice())
 }
 
-/// The closure of the units that are found under their own names, after these names. The outer
-/// error means only that memory ran out.
+/// The closure of the units that are found under their own names, after these names.
 fn selves_named(
     alloc: Global,
-    tree: &Tree,
     names: Units,
     selves: &[UnitName],
-    keys: &mut Keys,
-) -> Result<Result<Named, Refusal>, AllocError>
-    ensures { IfOk result (Asks tree.now (selves_named names selves.now) keys.old keys.new) }
+    txn: &mut Transaction<'_>,
+) -> Result<Named, Stop>
+    ensures { Runs (asking_for (selves_named names selves.now)) txn.old txn.new result }
 {
-    match closed(alloc, tree, selves, keys)? {
-        Ok(closed) => {
-            let names = joined_once(alloc, names, closed.units.as_slice())?;
-            let notices = closed.notices;
-            Ok(Ok(Named { names, notices }))
-        }
-        Err(refusal) => Ok(Err(refusal)),
-    }
+    let closed = closed(alloc, selves, txn)?;
+    let names = joined_once(alloc, names, closed.units.as_slice())?;
+    let notices = closed.notices;
+    Ok(Named { names, notices })
 }
 
 /// The names to disable, given the units' own names.
 fn reals_named(
     alloc: Global,
-    tree: &Tree,
     units: &[UnitName],
     reals: &[UnitName],
-    keys: &mut Keys,
-) -> Result<Result<Named, Refusal>, AllocError>
-    ensures { IfOk result (Asks tree.now (reals_named units.now reals.now) keys.old keys.new) }
+    txn: &mut Transaction<'_>,
+) -> Result<Named, Stop>
+    ensures { Runs (asking_for (reals_named units.now reals.now)) txn.old txn.new result }
 {
-    let selves = selves(alloc, tree, reals, keys)?;
+    let selves = selves(alloc, reals, txn)?;
     let mut names = Units::none(alloc);
     push_all(&mut names, units)?;
     push_all(&mut names, reals)?;
-    selves_named(alloc, tree, names, selves.as_slice(), keys)
+    selves_named(alloc, names, selves.as_slice(), txn)
 }
 
 /// The names to disable: those that are given, the own names of those that are found as units, and
-/// the closure of those of them that are found under their own names. The outer error means only
-/// that memory ran out.
+/// the closure of those of them that are found under their own names. Refused by `TooMany`.
 pub(crate) fn units_named(
     alloc: Global,
-    tree: &Tree,
     units: &[UnitName],
-    keys: &mut Keys,
-) -> Result<Result<Named, Refusal>, AllocError>
-    ensures { IfOk result (Asks tree.now (disabling.units_named units.now) keys.old keys.new) }
+    txn: &mut Transaction<'_>,
+) -> Result<Named, Stop>
+    ensures { Runs (asking_for (disabling.units_named units.now)) txn.old txn.new result }
 {
-    let reals = reals(alloc, tree, units, keys)?;
-    reals_named(alloc, tree, units, reals.as_slice(), keys)
-}
-
-/// The keys of the links of all these names.
-fn marks(alloc: Global, scope: Scope, names: &[UnitName]) -> Result<Keys, AllocError>
-    ensures { IfOk result (λ marks. marks ≡ list_map (Marked scope) names.now) }
-{
-    let mut marks = Keys::none(alloc);
-    for name in names {
-        marks.push(Key::Marked(scope, name.copy()?))?;
-    }
-    Ok(marks)
+    let reals = reals(alloc, units, txn)?;
+    reals_named(alloc, units, reals.as_slice(), txn)
 }
 
 /// Removes these paths from what is wanted: what is there stays as it is.
@@ -212,82 +184,58 @@ fn leave_all(wanted: &mut WantedLinks, kept: &[TreePath])
     }
 }
 
-/// Wants the removal of all links of the scope that belong to one of the names. Adds the keys by
-/// which they are looked up.
+/// Wants the removal of all links of the scope that belong to one of the names, but for the paths
+/// that are kept.
 fn links_unwanted(
     alloc: Global,
-    tree: &Tree,
-    scope: Scope,
-    names: &[UnitName],
-    keys: &mut Keys,
-) -> Result<WantedLinks, AllocError>
-    ensures { IfOk result (Asks tree.now (giving (entries_of_all (list_map (Marked scope) names.now)) cleared) keys.old keys.new) }
-{
-    let marks = marks(alloc, scope, names)?;
-    let links = keys.entries_of_all(alloc, tree, marks)?;
-    WantedLinks::cleared(alloc, &links)
-}
-
-/// The same, but without the paths that are kept.
-fn links_unwanted_but(
-    alloc: Global,
-    tree: &Tree,
     scope: Scope,
     names: &[UnitName],
     kept: &[TreePath],
-    keys: &mut Keys,
+    txn: &mut Transaction<'_>,
 ) -> Result<WantedLinks, AllocError>
-    ensures { IfOk result (Asks tree.now (giving (entries_of_all (list_map (Marked scope) names.now)) (λ links. but_at (cleared links) kept.now)) keys.old keys.new) }
+    ensures ok { IfOk result (λ wanted. Runs (asking (giving (entries_of_all (list_map (Marked scope) names.now)) (λ links. but_at (cleared links) kept.now))) txn.old txn.new (Ok wanted)) }
+    ensures err { OnErr result (txn.new.first ≡ txn.old.first) }
 {
-    let mut wanted = links_unwanted(alloc, tree, scope, names, keys)?;
+    let links = txn.links_of_all(alloc, scope, names)?;
+    let mut wanted = WantedLinks::cleared(alloc, &links)?;
     leave_all(&mut wanted, kept);
     Ok(wanted)
 }
 
-/// The links of the scope that belong to one of the names go, but those that are kept stay.
-pub(crate) fn links_removed_but<'a>(
+/// Removes the links of the scope that belong to one of the names, but for those that are kept.
+/// Returns the notices about skipped words.
+pub(crate) fn links_removed_but(
     alloc: Global,
-    edit: Edit<'a>,
     scope: Scope,
     kept: &[TreePath],
     named: Named,
-    keys: &mut Keys,
-) -> Result<(Notices, Result<Edit<'a>, Refusal>), AllocError>
-    ensures { IfOk result (λ done. CarriesOn (disabling.links_removed_but scope kept.now named) edit.entry keys.old keys.new done.0 done.1) }
+    txn: &mut Transaction<'_>,
+) -> Result<Notices, Stop>
+    ensures { Runs (doing (disabling.links_removed_but scope kept.now named)) txn.old txn.new result }
 {
-    let names = named.names.as_slice();
-    let wanted = links_unwanted_but(alloc, edit.tree(), scope, names, kept, keys)?;
-    placed(alloc, edit, &wanted, named.notices, keys)
+    let wanted = links_unwanted(alloc, scope, named.names.as_slice(), kept, txn)?;
+    txn.all_at_once(alloc, &wanted)?;
+    Ok(named.notices)
 }
 
-/// Removes all links of the scope that belong to one of the names, unless there was a refusal.
-pub(crate) fn links_removed<'a>(
+/// Removes all links of the scope that belong to one of the names.
+pub(crate) fn links_removed(
     alloc: Global,
-    edit: Edit<'a>,
     scope: Scope,
-    named: Result<Named, Refusal>,
-    keys: &mut Keys,
-) -> Result<(Notices, Result<Edit<'a>, Refusal>), AllocError>
-    ensures { IfOk result (λ done. CarriesOn (unless_refused (disabling.links_removed scope) named) edit.entry keys.old keys.new done.0 done.1) }
+    named: Named,
+    txn: &mut Transaction<'_>,
+) -> Result<Notices, Stop>
+    ensures { Runs (doing (disabling.links_removed scope named)) txn.old txn.new result }
 {
-    match named {
-        Ok(named) => links_removed_but(alloc, edit, scope, &[], named, keys),
-        Err(refusal) => Ok((Notices::none(alloc), Err(refusal))),
-    }
+    links_removed_but(alloc, scope, &[], named, txn)
 }
 
 impl Disable {
-    fn carried_out<'a>(
-        &self,
-        alloc: Global,
-        tree: &'a Tree,
-        keys: &mut Keys,
-    ) -> Result<(Notices, Result<Edit<'a>, Refusal>), AllocError>
-        ensures { IfOk result (λ done. Carries (disable_command self.now) tree.now keys.old keys.new done.0 done.1) }
+    fn carried_out(&self, alloc: Global, txn: &mut Transaction<'_>) -> Result<Notices, Stop>
+        ensures { Runs (doing (disable_command self.now)) txn.old txn.new result }
     {
-        let edit = Edit::new(alloc, tree)?;
-        let named = units_named(alloc, tree, self.units.as_slice(), keys)?;
-        links_removed(alloc, edit, self.scope, named, keys)
+        let named = units_named(alloc, self.units.as_slice(), txn)?;
+        links_removed(alloc, self.scope, named, txn)
     }
 }
 
@@ -301,9 +249,9 @@ impl Operation for Disable {
     ghost asks = { λ c. false };
 
     fn run(&self, alloc: Global, tree: &Tree) -> Result<Outcome, AllocError> {
-        let mut keys = Keys::none(alloc);
-        let (notices, done) = self.carried_out(alloc, tree, &mut keys)?;
-        Outcome::of(alloc, tree, keys, notices, done)
+        let mut txn = Transaction::new(alloc, tree);
+        let done = self.carried_out(alloc, &mut txn);
+        txn.outcome(alloc, done)
     }
 
     fn asks_only(&self) -> bool {

@@ -1,22 +1,20 @@
 //! enable.
 ghost use Rattle.std.specs.Prelude.{◌≡◌, IfOk};
 ghost use Rattle.install_section.specs.Closure as closures;
-ghost use Rattle.install_section.specs.Wanted.{wanted};
-ghost use Rattle.footprint.specs.Edits.{Carries, CarriesOn, GoesOn};
-ghost use Rattle.footprint.specs.Inquiry.{Asks, by_cells, giving};
-ghost use Rattle.footprint.specs.Steps.{all_at_once};
+ghost use Rattle.footprint.specs.Inquiry.{by_cells, giving};
 ghost use Rattle.install_commands.specs.Enable as enabling;
-ghost use Rattle.install_commands.specs.Enable.{unless_too_many, unless_at_odds, to_stand, links_made, enable_command};
-ghost use Rattle.footprint.specs.Commands.{unless_refused};
+ghost use Rattle.install_commands.specs.Enable.{unless_too_many, to_stand, links_made};
+ghost use Rattle.transaction.specs.Runs.{Runs, asking_for, doing};
 
 use crate::check::checked;
-use footprint::{Edit, Keys, Notices, Operation, Outcome, Refusal, Units, WantedLinks};
+use footprint::{Notices, Operation, Outcome, Refusal, Units, WantedLinks};
 use install_section::{
     Closed, ClosureFault, Links, Wanted, WantedFault, closure_into, wanted_into,
 };
 use link_tree::{Scope, Tree};
 use load_path::Cells;
 use std::alloc::{AllocError, Global};
+use transaction::{Stop, Transaction};
 use unit_name::UnitName;
 
 /// systemctl(1), `enable`: makes the links in the scope that are asked for by the [Install]
@@ -34,111 +32,76 @@ pub struct Enable {
     pub units: Units,
 }
 
-/// The units that are enabled and disabled together, or `TooMany`. The outer error means only that
-/// memory ran out.
+/// The units that are enabled and disabled together. Refused by `TooMany`.
 pub(crate) fn closed(
     alloc: Global,
-    tree: &Tree,
     units: &[UnitName],
-    keys: &mut Keys,
-) -> Result<Result<Closed, Refusal>, AllocError>
-    ensures { IfOk result (Asks tree.now (giving (by_cells (closures.closure units.now)) unless_too_many) keys.old keys.new) }
+    txn: &mut Transaction<'_>,
+) -> Result<Closed, Stop>
+    ensures { Runs (asking_for (giving (by_cells (closures.closure units.now)) unless_too_many)) txn.old txn.new result }
 {
     let mut cells = Cells::new(alloc);
-    let closed = closure_into(alloc, tree, units, &mut cells)?;
-    keys.push_cells(cells)?;
+    let closed = closure_into(alloc, txn.tree(), units, &mut cells)?;
+    txn.note(cells)?;
     match closed {
-        Ok(closed) => Ok(Ok(closed)),
-        Err(ClosureFault::TooMany) => Ok(Err(Refusal::TooMany)),
+        Ok(closed) => Ok(closed),
+        Err(ClosureFault::TooMany) => Err(Stop::Refused(Refusal::TooMany)),
     }
 }
 
-/// The links that units want, or what is wrong with them. The paths that are looked at are added to
-/// the keys.
-fn wanted_asked(
+/// The links that the units of a closure want; with `skip` a word that would need an instance asks
+/// for nothing. Refused by `NeedsInstance` or `Clash`.
+fn closed_want(
     alloc: Global,
-    tree: &Tree,
     scope: Scope,
     skip: bool,
-    units: &[UnitName],
-    keys: &mut Keys,
-) -> Result<Result<Wanted, WantedFault>, AllocError>
-    ensures { IfOk result (Asks tree.now (by_cells (wanted units.now scope skip)) keys.old keys.new) }
+    closed: Closed,
+    txn: &mut Transaction<'_>,
+) -> Result<Wanted, Stop>
+    ensures { Runs (asking_for (enabling.closed_want scope skip closed)) txn.old txn.new result }
 {
+    let Closed { units, mut notices } = closed;
     let mut cells = Cells::new(alloc);
-    let wanted = wanted_into(alloc, tree, units, scope, skip, &mut cells)?;
-    keys.push_cells(cells)?;
-    Ok(wanted)
-}
-
-/// The wanted links, with these notices put first, or the refusal.
-fn unless_at_odds(
-    mut notices: Notices,
-    wanted: Result<Wanted, WantedFault>,
-) -> Result<Result<Wanted, Refusal>, AllocError>
-    ensures { IfOk result (λ told. told ≡ unless_at_odds notices wanted) }
-{
+    let wanted = wanted_into(alloc, txn.tree(), units.as_slice(), scope, skip, &mut cells)?;
+    txn.note(cells)?;
     match wanted {
         Ok(wanted) => {
             notices.add_all(&wanted.notices)?;
             let links = wanted.links;
-            Ok(Ok(Wanted { links, notices }))
+            Ok(Wanted { links, notices })
         }
-        Err(WantedFault::NeedsInstance(unit)) => Ok(Err(Refusal::NeedsInstance(unit))),
-        Err(WantedFault::Clash(path)) => Ok(Err(Refusal::Clash(path))),
+        Err(WantedFault::NeedsInstance(unit)) => Err(Stop::Refused(Refusal::NeedsInstance(unit))),
+        Err(WantedFault::Clash(path)) => Err(Stop::Refused(Refusal::Clash(path))),
     }
-}
-
-/// The links that the units of a closure want, or why there are none; with `skip` a word that would
-/// need an instance asks for nothing.
-fn closed_want(
-    alloc: Global,
-    tree: &Tree,
-    scope: Scope,
-    skip: bool,
-    closed: Closed,
-    keys: &mut Keys,
-) -> Result<Result<Wanted, Refusal>, AllocError>
-    ensures { IfOk result (Asks tree.now (enabling.closed_want scope skip closed) keys.old keys.new) }
-{
-    let wanted = wanted_asked(alloc, tree, scope, skip, closed.units.as_slice(), keys)?;
-    unless_at_odds(closed.notices, wanted)
 }
 
 /// The links wanted by units and by the units that they name; with `skip` a word that would need an
-/// instance asks for nothing. The outer error means only that memory ran out.
+/// instance asks for nothing.
 fn units_want(
     alloc: Global,
-    tree: &Tree,
     scope: Scope,
     skip: bool,
     units: &[UnitName],
-    keys: &mut Keys,
-) -> Result<Result<Wanted, Refusal>, AllocError>
-    ensures { IfOk result (Asks tree.now (enabling.units_want scope skip units.now) keys.old keys.new) }
+    txn: &mut Transaction<'_>,
+) -> Result<Wanted, Stop>
+    ensures { Runs (asking_for (enabling.units_want scope skip units.now)) txn.old txn.new result }
 {
-    match closed(alloc, tree, units, keys)? {
-        Ok(closed) => closed_want(alloc, tree, scope, skip, closed, keys),
-        Err(refusal) => Ok(Err(refusal)),
-    }
+    let closed = closed(alloc, units, txn)?;
+    closed_want(alloc, scope, skip, closed, txn)
 }
 
-/// The links that units want. First checks that each unit is found and is no alias. The outer error
-/// means only that memory ran out.
+/// The links that units want. First checks that each unit is found and is no alias.
 fn checked_want(
     alloc: Global,
-    tree: &Tree,
     scope: Scope,
     skip: bool,
     units: &[UnitName],
-    keys: &mut Keys,
-) -> Result<Result<Wanted, Refusal>, AllocError>
-    ensures { IfOk result (Asks tree.now (enabling.checked_want scope skip units.now) keys.old keys.new) }
+    txn: &mut Transaction<'_>,
+) -> Result<Wanted, Stop>
+    ensures { Runs (asking_for (enabling.checked_want scope skip units.now)) txn.old txn.new result }
 {
-    match checked(alloc, tree, units, keys)? {
-        Ok(()) => units_want(alloc, tree, scope, skip, units, keys),
-        Err(refusal) => Ok(Err(refusal)),
-    }
+    checked(alloc, units, txn)?;
+    units_want(alloc, scope, skip, units, txn)
 }
 
 /// Wants a link at each of the paths.
@@ -152,66 +115,28 @@ fn to_stand(alloc: Global, links: &Links) -> Result<WantedLinks, AllocError>
     Ok(wanted)
 }
 
-/// Places all wanted links at once, and returns these notices.
-pub(crate) fn placed<'a>(
-    alloc: Global,
-    edit: Edit<'a>,
-    wanted: &WantedLinks,
-    notices: Notices,
-    keys: &mut Keys,
-) -> Result<(Notices, Result<Edit<'a>, Refusal>), AllocError>
-    ensures { IfOk result (λ done. (done.0 ≡ notices) × GoesOn (all_at_once wanted.now) edit.entry keys.old keys.new done.1) }
+/// Makes the wanted links, all at once.
+fn made(alloc: Global, wanted: Wanted, txn: &mut Transaction<'_>) -> Result<Notices, Stop>
+    ensures { Runs (doing (links_made wanted)) txn.old txn.new result }
 {
-    let done = edit.all_at_once(alloc, wanted, keys)?;
-    Ok((notices, done))
-}
-
-/// Makes the wanted links, all at once, unless there was a refusal.
-fn made<'a>(
-    alloc: Global,
-    edit: Edit<'a>,
-    wanted: Result<Wanted, Refusal>,
-    keys: &mut Keys,
-) -> Result<(Notices, Result<Edit<'a>, Refusal>), AllocError>
-    ensures { IfOk result (λ done. CarriesOn (unless_refused links_made wanted) edit.entry keys.old keys.new done.0 done.1) }
-{
-    match wanted {
-        Ok(wanted) => {
-            let links = to_stand(alloc, &wanted.links)?;
-            placed(alloc, edit, &links, wanted.notices, keys)
-        }
-        Err(refusal) => Ok((Notices::none(alloc), Err(refusal))),
-    }
+    let links = to_stand(alloc, &wanted.links)?;
+    txn.all_at_once(alloc, &links)?;
+    Ok(wanted.notices)
 }
 
 /// Checks units, and enables them and those that they name; with `skip` a word that would need an
-/// instance asks for nothing. The only error is that memory ran out.
-pub(crate) fn units_enabled<'a>(
+/// instance asks for nothing. Returns the notices about skipped words.
+pub(crate) fn units_enabled(
     alloc: Global,
-    edit: Edit<'a>,
     scope: Scope,
     skip: bool,
     units: &[UnitName],
-    keys: &mut Keys,
-) -> Result<(Notices, Result<Edit<'a>, Refusal>), AllocError>
-    ensures { IfOk result (λ done. CarriesOn (enabling.units_enabled scope skip units.now) edit.entry keys.old keys.new done.0 done.1) }
+    txn: &mut Transaction<'_>,
+) -> Result<Notices, Stop>
+    ensures { Runs (doing (enabling.units_enabled scope skip units.now)) txn.old txn.new result }
 {
-    let wanted = checked_want(alloc, edit.tree(), scope, skip, units, keys)?;
-    made(alloc, edit, wanted, keys)
-}
-
-impl Enable {
-    fn carried_out<'a>(
-        &self,
-        alloc: Global,
-        tree: &'a Tree,
-        keys: &mut Keys,
-    ) -> Result<(Notices, Result<Edit<'a>, Refusal>), AllocError>
-        ensures { IfOk result (λ done. Carries (enable_command self.now) tree.now keys.old keys.new done.0 done.1) }
-    {
-        let edit = Edit::new(alloc, tree)?;
-        units_enabled(alloc, edit, self.scope, false, self.units.as_slice(), keys)
-    }
+    let wanted = checked_want(alloc, scope, skip, units, txn)?;
+    made(alloc, wanted, txn)
 }
 
 impl Operation for Enable {
@@ -224,9 +149,10 @@ impl Operation for Enable {
     ghost asks = { λ c. false };
 
     fn run(&self, alloc: Global, tree: &Tree) -> Result<Outcome, AllocError> {
-        let mut keys = Keys::none(alloc);
-        let (notices, done) = self.carried_out(alloc, tree, &mut keys)?;
-        Outcome::of(alloc, tree, keys, notices, done)
+        let mut txn = Transaction::new(alloc, tree);
+        let units = self.units.as_slice();
+        let done = units_enabled(alloc, self.scope, false, units, &mut txn);
+        txn.outcome(alloc, done)
     }
 
     fn asks_only(&self) -> bool {

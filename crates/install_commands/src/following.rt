@@ -1,34 +1,27 @@
-//! Enabling units after another command, as part of one command.
-ghost use Rattle.std.specs.Prelude.{IfOk};
+//! Enabling units after another part of the same command.
 ghost use Rattle.install_commands.specs.Enable as enabling;
-ghost use Rattle.install_commands.specs.Following.{CarriesAfter};
+ghost use Rattle.transaction.specs.Runs.{Runs, doing, reporting_too};
 
 use crate::enable::units_enabled;
-use footprint::{Edit, Keys, Notices, Refusal};
+use footprint::Notices;
 use link_tree::Scope;
-use std::alloc::{AllocError, Global};
+use std::alloc::Global;
+use transaction::{Stop, Transaction};
 use unit_name::UnitName;
 
-/// Enables units in the tree that an earlier command left, and also returns that command's notices;
-/// if that command was refused, nothing is enabled. With `skip` a word that would need an instance
-/// asks for nothing. The only error is that memory ran out.
-pub(crate) fn then_enabled<'a>(
+/// Enables units in the tree that an earlier part of the command left, and adds the notices to those
+/// of that part. With `skip` a word that would need an instance asks for nothing.
+pub(crate) fn then_enabled(
     alloc: Global,
-    earlier: (Notices, Result<Edit<'a>, Refusal>),
+    mut notices: Notices,
     scope: Scope,
     skip: bool,
     units: &[UnitName],
-    keys: &mut Keys,
-) -> Result<(Notices, Result<Edit<'a>, Refusal>), AllocError>
-    ensures { IfOk result (λ done. CarriesAfter (enabling.units_enabled scope skip units.now) earlier.entry.0 earlier.entry.1 keys.old keys.new done.0 done.1) }
+    txn: &mut Transaction<'_>,
+) -> Result<Notices, Stop>
+    ensures { Runs (reporting_too notices (doing (enabling.units_enabled scope skip units.now))) txn.old txn.new result }
 {
-    let (mut notices, done) = earlier;
-    match done {
-        Ok(edit) => {
-            let (more, done) = units_enabled(alloc, edit, scope, skip, units, keys)?;
-            notices.add_all(&more)?;
-            Ok((notices, done))
-        }
-        Err(refusal) => Ok((notices, Err(refusal))),
-    }
+    let more = units_enabled(alloc, scope, skip, units, txn)?;
+    notices.add_all(&more)?;
+    Ok(notices)
 }

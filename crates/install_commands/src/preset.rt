@@ -1,21 +1,20 @@
 //! preset.
-ghost use Rattle.std.specs.Prelude.{◌≡◌, ◌∷◌, ◌++◌, [], if◌then◌else◌, IfOk, OnOk};
+ghost use Rattle.std.specs.Prelude.{◌≡◌, ◌∷◌, ◌++◌, [], Ok, if◌then◌else◌, IfOk, OnErr, OnOk};
 ghost use Rattle.std.specs.Option.{option_copied};
-ghost use Rattle.footprint.specs.Edits.{Carries};
-ghost use Rattle.footprint.specs.Inquiry.{Asks};
-ghost use Rattle.install_commands.specs.Following.{CarriesThrough};
 ghost use Rattle.install_commands.specs.Preset as presets;
 ghost use Rattle.install_commands.specs.Preset.{asks, counting_behind, judged_disabled, judged_enabled, preset_judges, telling_too};
+ghost use Rattle.transaction.specs.Runs.{Runs, and_then, asking, asking_for, doing, doing_both};
 
 use crate::disable::{Named, links_removed, units_named};
 use crate::following::then_enabled;
 use crate::judging::Judged;
-use footprint::{Edit, Key, Keys, Notices, Operation, Outcome, Refusal, Units};
+use footprint::{Notices, Operation, Outcome, Units};
 use install_section::{Section, section_into};
 use link_tree::{Scope, Tree};
 use load_path::Cells;
 use preset_rules::Rules;
 use std::alloc::{AllocError, Global};
+use transaction::{Stop, Transaction};
 use unit_name::UnitName;
 
 /// systemctl(1), `preset`: enables or disables units as the preset files say (systemd.preset(5)),
@@ -45,35 +44,28 @@ fn asks(section: Option<&Section>) -> bool
 /// Whether a unit that was found is no alias, and its section names a unit or asks for a link.
 fn found_counts(
     alloc: Global,
-    tree: &Tree,
     name: &UnitName,
     real: &UnitName,
-    keys: &mut Keys,
+    txn: &mut Transaction<'_>,
 ) -> Result<bool, AllocError>
-    ensures { IfOk result (Asks tree.now (presets.found_counts name.now real.now) keys.old keys.new) }
+    ensures ok { IfOk result (λ here. Runs (asking (presets.found_counts name.now real.now)) txn.old txn.new (Ok here)) }
+    ensures err { OnErr result (txn.new.first ≡ txn.old.first) }
 {
     if real.text() == name.text() {
         let mut cells = Cells::new(alloc);
-        let section = section_into(alloc, tree, name, &mut cells)?;
-        keys.push_cells(cells)?;
+        let section = section_into(alloc, txn.tree(), name, &mut cells)?;
+        txn.note(cells)?;
         return Ok(asks(section.as_ref()));
     }
     Ok(false)
 }
 
-/// Whether presets apply to a unit. The outer error means only that memory ran out.
-fn counts(
-    alloc: Global,
-    tree: &Tree,
-    name: &UnitName,
-    keys: &mut Keys,
-) -> Result<Result<bool, Refusal>, AllocError>
-    ensures { IfOk result (Asks tree.now (presets.counts name.now) keys.old keys.new) }
+/// Whether presets apply to a unit. Refused if it isn't found.
+fn counts(alloc: Global, name: &UnitName, txn: &mut Transaction<'_>) -> Result<bool, Stop>
+    ensures { Runs (asking_for (presets.counts name.now)) txn.old txn.new result }
 {
-    match keys.find_unit(alloc, tree, name)? {
-        Ok((real, _file)) => Ok(Ok(found_counts(alloc, tree, name, &real, keys)?)),
-        Err(refusal) => Ok(Err(refusal)),
-    }
+    let (real, _file) = txn.unit(alloc, name)?;
+    Ok(found_counts(alloc, name, &real, txn)?)
 }
 
 /// Adds a unit, if it counts.
@@ -86,39 +78,31 @@ fn push_counting(units: &mut Units, unit: &UnitName, counts: bool) -> Result<(),
     Ok(())
 }
 
-/// Those of the units to which presets apply, in order, up to one that isn't found. The outer error
-/// means only that memory ran out.
-fn counting(
-    alloc: Global,
-    tree: &Tree,
-    units: &[UnitName],
-    keys: &mut Keys,
-) -> Result<Result<Units, Refusal>, AllocError>
-    ensures { IfOk result (Asks tree.now (counting_behind [] units.now) keys.old keys.new) }
+/// Those of the units to which presets apply, in order, up to one that isn't found.
+fn counting(alloc: Global, units: &[UnitName], txn: &mut Transaction<'_>) -> Result<Units, Stop>
+    ensures { Runs (asking_for (counting_behind [] units.now)) txn.old txn.new result }
 {
     let mut names = Units::none(alloc);
     for unit in units {
-        match counts(alloc, tree, unit, keys)? {
-            Ok(counts) => push_counting(&mut names, unit, counts)?,
-            Err(refusal) => return Ok(Err(refusal)),
-        }
+        let counts = counts(alloc, unit, txn)?;
+        push_counting(&mut names, unit, counts)?;
     }
-    Ok(Ok(names))
+    Ok(names)
 }
 
 /// Which of the units the preset files of the tree say to disable, and which to enable.
 fn judged(
     alloc: Global,
-    tree: &Tree,
     units: &[UnitName],
-    keys: &mut Keys,
+    txn: &mut Transaction<'_>,
 ) -> Result<Judged, AllocError>
-    ensures { IfOk result (Asks tree.now (presets.units_judged units.now) keys.old keys.new) }
+    ensures ok { IfOk result (λ judged. Runs (asking (presets.units_judged units.now)) txn.old txn.new (Ok judged)) }
+    ensures err { OnErr result (txn.new.first ≡ txn.old.first) }
 {
-    let presets = keys.entries(alloc, tree, Key::Presets)?;
+    let presets = txn.presets(alloc)?;
     let mut cells = Cells::new(alloc);
-    let rules = Rules::of_into(alloc, &presets, tree, &mut cells)?;
-    keys.push_cells(cells)?;
+    let rules = Rules::of_into(alloc, &presets, txn.tree(), &mut cells)?;
+    txn.note(cells)?;
     Judged::by(alloc, &rules, units)
 }
 
@@ -134,74 +118,66 @@ fn telling_too(notices: Notices, named: Named) -> Result<Named, AllocError>
     })
 }
 
-/// The names of the units to disable, with the notices of the verdicts too. The outer error means
-/// only that memory ran out.
+/// The names of the units to disable, with the notices of the verdicts too.
 fn judged_named(
     alloc: Global,
-    tree: &Tree,
     disabled: &[UnitName],
     notices: Notices,
-    keys: &mut Keys,
-) -> Result<Result<Named, Refusal>, AllocError>
-    ensures { IfOk result (Asks tree.now (presets.judged_named disabled.now notices) keys.old keys.new) }
+    txn: &mut Transaction<'_>,
+) -> Result<Named, Stop>
+    ensures { Runs (asking_for (presets.judged_named disabled.now notices)) txn.old txn.new result }
 {
-    match units_named(alloc, tree, disabled, keys)? {
-        Ok(named) => Ok(Ok(telling_too(notices, named)?)),
-        Err(refusal) => Ok(Err(refusal)),
-    }
-}
-
-impl Preset {
-    /// Which units to disable and which to enable, in the tree in which the preset begins. The
-    /// outer error means only that memory ran out.
-    fn judges(
-        &self,
-        alloc: Global,
-        tree: &Tree,
-        keys: &mut Keys,
-    ) -> Result<Result<Judged, Refusal>, AllocError>
-        ensures { IfOk result (Asks tree.now (preset_judges self.now) keys.old keys.new) }
-    {
-        match counting(alloc, tree, self.units.as_slice(), keys)? {
-            Ok(units) => Ok(Ok(judged(alloc, tree, units.as_slice(), keys)?)),
-            Err(refusal) => Ok(Err(refusal)),
-        }
-    }
+    let named = units_named(alloc, disabled, txn)?;
+    Ok(telling_too(notices, named)?)
 }
 
 /// Disables units, and returns the notices about instances too.
-fn disabled_telling<'a>(
+fn disabled_telling(
     alloc: Global,
-    tree: &'a Tree,
     scope: Scope,
     disabled: &[UnitName],
     notices: Notices,
-    keys: &mut Keys,
-) -> Result<(Notices, Result<Edit<'a>, Refusal>), AllocError>
-    ensures { IfOk result (λ done. Carries (presets.disabled_telling scope disabled.now notices) tree.now keys.old keys.new done.0 done.1) }
+    txn: &mut Transaction<'_>,
+) -> Result<Notices, Stop>
+    ensures { Runs (doing (presets.disabled_telling scope disabled.now notices)) txn.old txn.new result }
 {
-    let edit = Edit::new(alloc, tree)?;
-    let named = judged_named(alloc, tree, disabled, notices, keys)?;
-    links_removed(alloc, edit, scope, named, keys)
+    let named = judged_named(alloc, disabled, notices, txn)?;
+    links_removed(alloc, scope, named, txn)
 }
 
 /// Disables units, and then enables others, as the preset files say.
-fn carried_through<'a>(
+fn carried_through(
     alloc: Global,
-    tree: &'a Tree,
     scope: Scope,
     judged: Judged,
-    keys: &mut Keys,
-) -> Result<(Notices, Result<Edit<'a>, Refusal>), AllocError>
-    ensures { IfOk result (λ done. CarriesThrough (judged_disabled scope judged) (judged_enabled scope judged) tree.now keys.old keys.new done.0 done.1) }
+    txn: &mut Transaction<'_>,
+) -> Result<Notices, Stop>
+    ensures { Runs (doing_both (judged_disabled scope judged) (judged_enabled scope judged)) txn.old txn.new result }
 {
     let Judged {
         disabled,
         enabled,
         notices,
     } = judged;
-    let first = disabled_telling(alloc, tree, scope, disabled.as_slice(), notices, keys)?;
-    then_enabled(alloc, first, scope, true, enabled.as_slice(), keys)
+    let notices = disabled_telling(alloc, scope, disabled.as_slice(), notices, txn)?;
+    then_enabled(alloc, notices, scope, true, enabled.as_slice(), txn)
+}
+
+impl Preset {
+    /// Which units to disable and which to enable, in the tree in which the preset begins.
+    fn judges(&self, alloc: Global, txn: &mut Transaction<'_>) -> Result<Judged, Stop>
+        ensures { Runs (asking_for (preset_judges self.now)) txn.old txn.new result }
+    {
+        let units = counting(alloc, self.units.as_slice(), txn)?;
+        Ok(judged(alloc, units.as_slice(), txn)?)
+    }
+
+    fn carried_out(&self, alloc: Global, txn: &mut Transaction<'_>) -> Result<Notices, Stop>
+        ensures { Runs (and_then (asking_for (preset_judges self.now)) (λ judged. doing_both (judged_disabled self.now.scope judged) (judged_enabled self.now.scope judged))) txn.old txn.new result }
+    {
+        let judged = self.judges(alloc, txn)?;
+        carried_through(alloc, self.scope, judged, txn)
+    }
 }
 
 impl Operation for Preset {
@@ -214,14 +190,9 @@ impl Operation for Preset {
     ghost asks = { λ c. false };
 
     fn run(&self, alloc: Global, tree: &Tree) -> Result<Outcome, AllocError> {
-        let mut keys = Keys::none(alloc);
-        match self.judges(alloc, tree, &mut keys)? {
-            Ok(judged) => {
-                let (notices, done) = carried_through(alloc, tree, self.scope, judged, &mut keys)?;
-                Outcome::of(alloc, tree, keys, notices, done)
-            }
-            Err(refusal) => { Outcome::of(alloc, tree, keys, Notices::none(alloc), Err(refusal)) }
-        }
+        let mut txn = Transaction::new(alloc, tree);
+        let done = self.carried_out(alloc, &mut txn);
+        txn.outcome(alloc, done)
     }
 
     fn asks_only(&self) -> bool {

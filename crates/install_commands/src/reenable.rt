@@ -1,20 +1,19 @@
 //! reenable.
-ghost use Rattle.std.specs.Prelude.{◌≡◌, ◌++◌, [], IfOk, OnOk};
+ghost use Rattle.std.specs.Prelude.{◌≡◌, ◌++◌, [], Ok, IfOk, OnErr, OnOk};
 ghost use Rattle.load_path.specs.Find.{find};
-ghost use Rattle.footprint.specs.Commands.{unless_refused};
-ghost use Rattle.footprint.specs.Edits.{Carries, CarriesOn};
-ghost use Rattle.footprint.specs.Inquiry.{Asks, giving};
-ghost use Rattle.install_commands.specs.Following.{CarriesThrough};
+ghost use Rattle.footprint.specs.Inquiry.{giving};
 ghost use Rattle.install_commands.specs.Reenable as reenabling;
 ghost use Rattle.install_commands.specs.Reenable.{with_cells, with_kept, kept_behind, reenable_disables, reenable_enables};
+ghost use Rattle.transaction.specs.Runs.{Runs, asking, asking_for, doing, doing_both};
 
 use crate::check::checked;
 use crate::disable::{Named, links_removed_but, units_named};
 use crate::following::then_enabled;
-use footprint::{Edit, Keys, Notices, Operation, Outcome, Refusal, Units};
+use footprint::{Notices, Operation, Outcome, Units};
 use link_tree::{Scope, Slot, Tree, TreePath};
 use load_path::{Cells, Found, find_into};
 use std::alloc::{AllocError, Global};
+use transaction::{Stop, Transaction};
 use unit_name::UnitName;
 
 /// systemctl(1), `reenable`: `disable` and then `enable`, all or nothing, so that the links of the
@@ -58,101 +57,82 @@ fn keep(kept: &mut Cells, found: &Found, cells: &[TreePath]) -> Result<(), Alloc
 /// Looks a name up, and keeps the cells that must be kept for it.
 fn keep_for(
     alloc: Global,
-    tree: &Tree,
     name: &UnitName,
     kept: &mut Cells,
-    keys: &mut Keys,
+    txn: &mut Transaction<'_>,
 ) -> Result<(), AllocError>
-    ensures { OnOk result (Asks tree.now (giving (with_cells (find name.now)) (with_kept kept.old)) keys.old keys.new kept.new) }
+    ensures ok { OnOk result (Runs (asking (giving (with_cells (find name.now)) (with_kept kept.old))) txn.old txn.new (Ok kept.new)) }
+    ensures err { OnErr result (txn.new.first ≡ txn.old.first) }
 {
     let mut cells = Cells::new(alloc);
-    let found = find_into(alloc, tree, name, &mut cells)?;
+    let found = find_into(alloc, txn.tree(), name, &mut cells)?;
     keep(kept, &found, cells.as_slice())?;
-    keys.push_cells(cells)
+    txn.note(cells)
 }
 
 /// The cells that are kept for the names, in order.
 fn kept_for(
     alloc: Global,
-    tree: &Tree,
     names: &[UnitName],
-    keys: &mut Keys,
+    txn: &mut Transaction<'_>,
 ) -> Result<Cells, AllocError>
-    ensures { IfOk result (Asks tree.now (kept_behind [] names.now) keys.old keys.new) }
+    ensures ok { IfOk result (λ kept. Runs (asking (kept_behind [] names.now)) txn.old txn.new (Ok kept)) }
+    ensures err { OnErr result (txn.new.first ≡ txn.old.first) }
 {
     let mut kept = Cells::new(alloc);
     for name in names {
-        keep_for(alloc, tree, name, &mut kept, keys)?;
+        keep_for(alloc, name, &mut kept, txn)?;
     }
     Ok(kept)
 }
 
-/// The names of the units, which are checked first. The outer error means only that memory ran out.
+/// The names of the units, which are checked first.
 fn checked_named(
     alloc: Global,
-    tree: &Tree,
     units: &[UnitName],
-    keys: &mut Keys,
-) -> Result<Result<Named, Refusal>, AllocError>
-    ensures { IfOk result (Asks tree.now (reenabling.checked_named units.now) keys.old keys.new) }
+    txn: &mut Transaction<'_>,
+) -> Result<Named, Stop>
+    ensures { Runs (asking_for (reenabling.checked_named units.now)) txn.old txn.new result }
 {
-    match checked(alloc, tree, units, keys)? {
-        Ok(()) => units_named(alloc, tree, units, keys),
-        Err(refusal) => Ok(Err(refusal)),
-    }
+    checked(alloc, units, txn)?;
+    units_named(alloc, units, txn)
 }
 
 /// Removes the links that belong to one of the names, except those by which a file outside the unit
 /// directories is found.
-fn links_cleared<'a>(
+fn links_cleared(
     alloc: Global,
-    edit: Edit<'a>,
     scope: Scope,
-    named: Result<Named, Refusal>,
-    keys: &mut Keys,
-) -> Result<(Notices, Result<Edit<'a>, Refusal>), AllocError>
-    ensures { IfOk result (λ done. CarriesOn (unless_refused (reenabling.links_cleared scope) named) edit.entry keys.old keys.new done.0 done.1) }
+    named: Named,
+    txn: &mut Transaction<'_>,
+) -> Result<Notices, Stop>
+    ensures { Runs (doing (reenabling.links_cleared scope named)) txn.old txn.new result }
 {
-    match named {
-        Ok(named) => {
-            let kept = kept_for(alloc, edit.tree(), named.names.as_slice(), keys)?;
-            links_removed_but(alloc, edit, scope, kept.as_slice(), named, keys)
-        }
-        Err(refusal) => Ok((Notices::none(alloc), Err(refusal))),
-    }
+    let kept = kept_for(alloc, named.names.as_slice(), txn)?;
+    links_removed_but(alloc, scope, kept.as_slice(), named, txn)
 }
 
 impl Reenable {
     /// The first part: checks the units and removes their links.
-    fn disabled<'a>(
-        &self,
-        alloc: Global,
-        tree: &'a Tree,
-        keys: &mut Keys,
-    ) -> Result<(Notices, Result<Edit<'a>, Refusal>), AllocError>
-        ensures { IfOk result (λ done. Carries (reenable_disables self.now) tree.now keys.old keys.new done.0 done.1) }
+    fn disabled(&self, alloc: Global, txn: &mut Transaction<'_>) -> Result<Notices, Stop>
+        ensures { Runs (doing (reenable_disables self.now)) txn.old txn.new result }
     {
-        let edit = Edit::new(alloc, tree)?;
-        let named = checked_named(alloc, tree, self.units.as_slice(), keys)?;
-        links_cleared(alloc, edit, self.scope, named, keys)
+        let named = checked_named(alloc, self.units.as_slice(), txn)?;
+        links_cleared(alloc, self.scope, named, txn)
     }
 
-    fn carried_out<'a>(
-        &self,
-        alloc: Global,
-        tree: &'a Tree,
-        keys: &mut Keys,
-    ) -> Result<(Notices, Result<Edit<'a>, Refusal>), AllocError>
-        ensures { IfOk result (λ done. CarriesThrough (reenable_disables self.now) (reenable_enables self.now) tree.now keys.old keys.new done.0 done.1) }
+    /// Both parts.
+    fn carried_out(&self, alloc: Global, txn: &mut Transaction<'_>) -> Result<Notices, Stop>
+        ensures { Runs (doing_both (reenable_disables self.now) (reenable_enables self.now)) txn.old txn.new result }
     {
-        let disabled = self.disabled(alloc, tree, keys)?;
+        let notices = self.disabled(alloc, txn)?;
         then_enabled(
             alloc,
-            disabled,
+            notices,
             self.scope,
             false,
             self.units.as_slice(),
-            keys,
+            txn,
         )
     }
 }
@@ -167,9 +147,9 @@ impl Operation for Reenable {
     ghost asks = { λ c. false };
 
     fn run(&self, alloc: Global, tree: &Tree) -> Result<Outcome, AllocError> {
-        let mut keys = Keys::none(alloc);
-        let (notices, done) = self.carried_out(alloc, tree, &mut keys)?;
-        Outcome::of(alloc, tree, keys, notices, done)
+        let mut txn = Transaction::new(alloc, tree);
+        let done = self.carried_out(alloc, &mut txn);
+        txn.outcome(alloc, done)
     }
 
     fn asks_only(&self) -> bool {

@@ -14,6 +14,7 @@ ghost use Rattle.install_section.specs.Wanted.{least_with, with_link, with_namel
 ghost use Rattle.install_section.specs.WantedErrors.{Gives};
 ghost use Rattle.install_section.specs.WishSlots.{IsAtSlot};
 
+use crate::closed::Closure;
 use crate::links::Links;
 use crate::section::{Section, section_looked_up};
 use crate::wants::{Wanted, WantedError, WantedFault, Wants};
@@ -25,8 +26,8 @@ use std::alloc::{AllocError, Global};
 use unit_file::{Notices, Reason, Word};
 use unit_name::UnitName;
 
-/// The links that units want in a scope when they are enabled, each to the unit's file:
-/// systemd.unit(5), "[Install] Section Options", `WantedBy=`, `RequiredBy=`, `UpheldBy=` and
+/// The links that the units of a closure want in a scope when they are enabled, each to the unit's
+/// file: systemd.unit(5), "[Install] Section Options", `WantedBy=`, `RequiredBy=`, `UpheldBy=` and
 /// `Alias=`. The words are expanded with the unit's identity.
 ///
 /// - A unit X in `WantedBy=`, `RequiredBy=` or `UpheldBy=` gets a link in `X.wants/`, `X.requires/` or
@@ -48,13 +49,14 @@ use unit_name::UnitName;
 pub fn wanted(
     alloc: Global,
     tree: &Tree,
-    units: &[UnitName],
+    closure: &Closure,
     scope: Scope,
     skip: bool,
 ) -> Result<Wanted, WantedError>
-    ensures { Gives ((wanted units.now scope skip).conclusion tree.now) result }
+    ensures { Gives ((wanted closure.now.units scope skip).conclusion tree.now) result }
 {
     let mut cells = Cells::new(alloc);
+    let units = closure.units.as_slice();
     match wanted_by_all(alloc, tree, units, scope, skip, &mut cells)? {
         Ok(wanted) => Ok(wanted),
         Err(WantedFault::NeedsInstance(unit)) => Err(WantedError::NeedsInstance(unit)),
@@ -62,7 +64,7 @@ pub fn wanted(
     }
 }
 
-/// The same as `wanted`, with the paths that are looked at added to `cells`, as often as they are
+/// The same as `wanted` for a list of units, with the paths that are looked at added to `cells`, as often as they are
 /// looked at. The outer error means only that memory ran out, and then `cells` is unchanged.
 pub fn wanted_into(
     alloc: Global,

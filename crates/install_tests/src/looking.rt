@@ -1,7 +1,7 @@
 //! Calls that look up units, paths and presets. Each is made once. If memory runs out for it, all
 //! that it was given is as it was: the tree, the units, and the list to which some calls add the
 //! paths that they look at. Then it is made again.
-use crate::of_install_section::names;
+use crate::of_install_section::{closed, names};
 use crate::trees::tree;
 use install_section::{
     ClosureError, ClosureFault, Section, Wanted, WantedError, WantedFault, closure, closure_into,
@@ -263,7 +263,8 @@ fn push_wanted_into(alloc: Global, given: &mut Given, out: &mut Vec<u8>) -> Resu
 }
 
 fn push_wanted_alone(alloc: Global, given: &Given, out: &mut Vec<u8>) -> Result<(), AllocError> {
-    match wanted(alloc, &given.tree, &given.units, Scope::Etc, false) {
+    let closure = closed(alloc, &given.tree, &given.units)?;
+    match wanted(alloc, &given.tree, &closure, Scope::Etc, false) {
         Ok(wanted) => push_wanted(out, &wanted),
         Err(WantedError::NeedsInstance(unit)) => push_words(out, b"needs", unit.text()),
         Err(WantedError::Clash(path)) => push_words(out, b"clash", path.text()),

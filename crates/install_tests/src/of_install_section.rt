@@ -4,4 +4,4 @@ mod large;
 mod links;
 mod units;
 
-pub(crate) use units::names;
+pub(crate) use units::{closed, names};

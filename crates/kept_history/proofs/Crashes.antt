@@ -6,7 +6,8 @@ use Rattle.std.proofs.lemmas.Bool.{false≢true}
 use Rattle.link_tree.specs.declared.change.Change.{Change}
 use Rattle.link_tree.specs.Trees.{Entries, after_changes}
 use Rattle.tree_steps.specs.Steps.{IsOnTheWay}
-use Rattle.kept_history.specs.Roots.{KeptRoot, Event, SyncHistory, SyncSteps, Make, after, syncs_history, syncs_path, is_synced, MayLeave}
+use Rattle.disk.specs.Events.{Event, SyncHistory, SyncSteps, Make}
+use Rattle.kept_history.specs.Roots.{KeptRoot, after, syncs_history, syncs_path, is_synced, MayLeave}
 use Rattle.kept_history.specs.Runs.{ending}
 use Rattle.kept_history.proofs.Staying.{StayOnTheWay, AreCovered, way_made}
 

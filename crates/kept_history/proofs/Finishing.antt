@@ -16,7 +16,7 @@ use Rattle.tree_steps.specs.Steps.{steps_between}
 use Rattle.disk.specs.declared.disk.Oddity.{Oddity}
 use Rattle.disk.specs.declared.error.DiskError.{DiskError}
 use Rattle.disk.specs.Disks.{Held, Stands, StandsOddly}
-use Rattle.kept_history.specs.Roots.{Event}
+use Rattle.disk.specs.Events.{Event}
 use Rattle.kept_history.specs.Recovery.{is_due, is_foreign, due_steps, finishing}
 use Rattle.kept_history.specs.Finishing.{IsPlain, HasNothingOdd, Finishes}
 use Rattle.kept_history.specs.declared.recovery.FinishError.{FinishError}

@@ -1,26 +1,18 @@
 -- What was done up to an error: a front of what was to be done.
-use Rattle.std.proofs.Common.{◌≡◌, ◌+◌, ℕ, zero, suc, List, [], ◌∷◌, ◌++◌, length, map as list_map, take, drop, Option, Some, None, Result, Ok, Err, refl, sym, ap, ◌∙◌, subst, append_assoc}
+use Rattle.std.proofs.Common.{◌≡◌, ◌+◌, ℕ, zero, suc, List, [], ◌∷◌, ◌++◌, length, map as list_map, take, drop, Option, Result, Ok, Err, refl, sym, ap, ◌∙◌, subst, append_assoc}
 use Rattle.std.specs.Prelude.{IsErr, IsErrAnd}
 use Rattle.std.proofs.Math.Seq.{take-append_seam, take-append-add}
 use Rattle.std.proofs.lemmas.List.{append-nil}
 use Rattle.link_tree.specs.declared.change.Change.{Change}
 use Rattle.link_tree.specs.Trees.{taken_back}
-use Rattle.kept_history.specs.Roots.{Event, Make}
-use Rattle.kept_history.specs.Runs.{way_back}
-use Rattle.kept_history.specs.Doing.{DoesOne, Does, with_events}
+use Rattle.disk.specs.Events.{Event, Make, way_back, DoesOne, with_events}
+use Rattle.disk.proofs.Doing.{with_none, with_with, makes-append}
+use Rattle.kept_history.specs.Doing.{Does}
 
 -- what `?` returns
 pub returned : {A E : Type 0} (r : Result A E) (f : E) → IsErr r × IsErrAnd r (λ e. e ≡ f) → r ≡ Err f
 returned (Ok x) f both = absurd both.1
 returned (Err e) f both = ap (λ x. Err x) both.1
-
-pub with_none : (o : Option (List Event)) → with_events o [] ≡ o
-with_none None = refl
-with_none (Some done) = ap (λ es. Some es) (append-nil done)
-
-pub with_with : (o : Option (List Event)) (xs ys : List Event) → with_events (with_events o xs) ys ≡ with_events o (xs ++ ys)
-with_with None xs ys = refl
-with_with (Some done) xs ys = ap (λ es. Some es) (append_assoc done xs ys)
 
 take_front : (n : ℕ) (xs ys : List Event) → (m : ℕ) × (take n xs ≡ take m (xs ++ ys))
 take_front zero xs ys = (zero, refl)
@@ -66,10 +58,6 @@ stopped old new r e events is h = subst (λ x. Does old new x events) (sym (retu
 pub does_more : {T E : Type 0} (old mid new : Option (List Event)) (r : Result T E) (xs ys : List Event) → mid ≡ with_events old xs → Does mid new r ys → Does old new r (xs ++ ys)
 does_more old mid new (Ok x) xs ys first h = h ∙ ap (λ o. with_events o ys) first ∙ with_with old xs ys
 does_more old mid new (Err e) xs ys first h = stops_later old mid new xs ys first h
-
-pub makes-append : (xs ys : List Change) → list_map Make (xs ++ ys) ≡ list_map Make xs ++ list_map Make ys
-makes-append [] ys = refl
-makes-append (x ∷ xs) ys = ap (λ es. Make x ∷ es) (makes-append xs ys)
 
 pub makes-take : (n : ℕ) (steps : List Change) → list_map Make (take n steps) ≡ take n (list_map Make steps)
 makes-take zero steps = refl

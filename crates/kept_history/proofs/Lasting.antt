@@ -7,8 +7,9 @@ use Rattle.link_tree.specs.declared.change.Change.{Change}
 use Rattle.link_tree.specs.Trees.{Entries, after_changes}
 use Rattle.tree_steps.specs.Steps.{steps_between}
 use Rattle.tree_steps.proofs.Turns.{steps_from, steps_to, steps_lead}
-use Rattle.kept_history.specs.Roots.{KeptRoot, Event, Promise, Commit, Withdraw, SyncHistory, Make, Clear, at_rest, after, after_all, syncs_history, has_path, syncs_path, MayLeave}
-use Rattle.kept_history.specs.Runs.{run_events, withdrawn_events, way_back, ending}
+use Rattle.disk.specs.Events.{Event, Promise, Commit, Withdraw, SyncHistory, Make, Clear, way_back}
+use Rattle.kept_history.specs.Roots.{KeptRoot, at_rest, after, after_all, syncs_history, has_path, syncs_path, MayLeave}
+use Rattle.kept_history.specs.Runs.{run_events, withdrawn_events, ending}
 use Rattle.kept_history.specs.Recovery.{due_steps, finishing, recovery, recovered, MayReach, Killed, KilledAgain, PowerFailed}
 use Rattle.kept_history.specs.Laws.{Mends, NeverHalf, RunsAreWhole, WritesAreWhole, WithdrawalsAreWhole, Acknowledged, WithdrawnLasts, Promised, RecoveryMends, AlwaysAtRest, Begun, Ran}
 use Rattle.kept_history.proofs.Mending.{mends}

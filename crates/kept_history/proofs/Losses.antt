@@ -5,7 +5,8 @@ use Rattle.std.specs.Str.{bytes_eq}
 use Rattle.std.specs.FinMap as map
 use Rattle.std.proofs.lemmas.Bool.{cases_Bool, false≢true, true≢false, or_parts}
 use Rattle.link_tree.proofs.Changed.{same_bytes, get-set, get-set_other}
-use Rattle.kept_history.specs.Roots.{KeptRoot, Event, Promise, Commit, Withdraw, SyncHistory, Make, SyncSteps, Clear, committed, after, after_all, syncs_history, syncs_path, is_synced, MayLeave}
+use Rattle.disk.specs.Events.{Event, Promise, Commit, Withdraw, SyncHistory, Make, SyncSteps, Clear}
+use Rattle.kept_history.specs.Roots.{KeptRoot, committed, after, after_all, syncs_history, syncs_path, is_synced, MayLeave}
 
 committed_entries : (u : KeptRoot) (next : Option (List ℕ)) → (committed u next).entries ≡ u.entries
 committed_entries u None = refl

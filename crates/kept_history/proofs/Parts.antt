@@ -1,28 +1,18 @@
 -- What a run has done, step by step and part by part.
-use Rattle.std.proofs.Common.{◌≡◌, ◌+◌, ◌<◌, ◌≤◌, ℕ, zero, suc, List, [], ◌∷◌, ◌++◌, length, map as list_map, take, drop, get_or, Option, Some, None, Err, refl, sym, ap, ◌∙◌, append_assoc, arith}
+use Rattle.std.proofs.Common.{◌≡◌, ◌+◌, ◌≤◌, ℕ, zero, List, [], ◌∷◌, ◌++◌, length, map as list_map, take, Option, Some, None, Err, refl, sym, ap, ◌∙◌, append_assoc, arith}
 use Rattle.std.specs.Option.{option_map}
-use Rattle.std.proofs.Math.Seq.{take-suc, take-length, drop-cons}
+use Rattle.std.proofs.Math.Seq.{take-length}
 use Rattle.link_tree.specs.declared.change.Change.{Change}
-use Rattle.link_tree.specs.Trees.{taken_back}
 use Rattle.disk.specs.declared.error.DiskError.{DiskError}
 use Rattle.disk.specs.declared.error.DiskError.TheVariants.{Failed, OutOfMemory}
 use Rattle.disk.specs.Disks.{Held, of_disk, failures_after}
 use Rattle.disk.specs.Steps.{failures_with}
 use Rattle.disk.specs.Applied.{after_steps, WereMade}
-use Rattle.kept_history.specs.Roots.{Event, Promise, Commit, Withdraw, SyncHistory, Make, Clear}
-use Rattle.kept_history.specs.Runs.{run_events, withdrawn_events, way_back, ending}
+use Rattle.disk.specs.Events.{Event, Promise, Commit, Withdraw, SyncHistory, Make, Clear, way_back, with_events}
+use Rattle.disk.proofs.Doing.{with_with, makes-append}
+use Rattle.kept_history.specs.Runs.{run_events, withdrawn_events, ending}
 use Rattle.kept_history.specs.Recovery.{finishing}
-use Rattle.kept_history.specs.Doing.{with_events}
-use Rattle.kept_history.proofs.Fronts.{DoesFront, with_with, later_front, stops_first, stops_later, makes-append, makes-take}
-
--- no step is made
-pub none_made : (old now : Option Held) (steps : List Change) → WereMade old now [] → now ≡ old
-none_made None now steps made = made.1
-none_made (Some h) now steps made = made.1
-
--- where nothing was changed, as many are made
-pub still_made : (old now new : Option Held) (steps : List Change) → new ≡ now → WereMade old now steps → WereMade old new steps
-still_made old now new steps same made = (made.0, same ∙ made.1)
+use Rattle.kept_history.proofs.Fronts.{DoesFront, later_front, stops_first, stops_later, makes-take}
 
 -- all steps are made
 pub all_made : (old now new : Option Held) (steps : List Change) → new ≡ now → WereMade old now steps → (n : ℕ) × (new ≡ option_map (after_steps (take n steps)) old)
@@ -31,33 +21,6 @@ all_made old now new steps same made = (length steps, same ∙ made.1 ∙ ap (λ
 pub not_begun : (old new : Option Held) (steps : List Change) → new ≡ old → (n : ℕ) × (new ≡ option_map (after_steps (take n steps)) old)
 not_begun None new steps same = (zero, same)
 not_begun (Some h) new steps same = (zero, same)
-
-module _ (steps : List Change) (i : ℕ) (step : Change) (is : step ≡ get_or steps i step) (within : i < length steps) (o mid new : Option (List Event)) where
-  one_longer : take (i + 1) steps ≡ take i steps ++ step ∷ []
-  one_longer =
-      let next : i + 1 ≡ suc i = omega arith in
-      ap (λ n. take n steps) next ∙ take-suc steps i step within ∙ ap (λ x. take i steps ++ x ∷ []) (sym is)
-
-  -- one more is made
-  pub one_done : mid ≡ with_events o (list_map Make (take i steps)) → new ≡ with_events mid (Make step ∷ []) → new ≡ with_events o (list_map Make (take (i + 1) steps))
-  one_done first h =
-      h ∙ ap (λ p. with_events p (Make step ∷ [])) first
-      ∙ with_with o (list_map Make (take i steps)) (Make step ∷ [])
-      ∙ ap (with_events o) (sym (makes-append (take i steps) (step ∷ [])))
-      ∙ ap (λ cs. with_events o (list_map Make cs)) (sym one_longer)
-
-  one_less : drop i steps ≡ step ∷ drop (i + 1) steps
-  one_less =
-      let next : suc i ≡ i + 1 = omega arith in
-      drop-cons steps i step within ∙ ap (λ x. x ∷ drop (suc i) steps) (sym is) ∙ ap (λ n. step ∷ drop n steps) next
-
-  -- one more is taken back
-  pub one_done_back : mid ≡ with_events o (list_map Make (way_back (drop (i + 1) steps))) → new ≡ with_events mid (Make (taken_back step) ∷ []) → new ≡ with_events o (list_map Make (way_back (drop i steps)))
-  one_done_back first h =
-      h ∙ ap (λ p. with_events p (Make (taken_back step) ∷ [])) first
-      ∙ with_with o (list_map Make (way_back (drop (i + 1) steps))) (Make (taken_back step) ∷ [])
-      ∙ ap (with_events o) (sym (makes-append (way_back (drop (i + 1) steps)) (taken_back step ∷ [])))
-      ∙ ap (λ cs. with_events o (list_map Make (way_back cs))) (sym one_less)
 
 -- Some front of these events was done, and the first of them was.
 abbrev pub DoesBegin : (old new : Option (List Event)) → List Event → Type 0

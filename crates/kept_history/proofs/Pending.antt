@@ -7,7 +7,8 @@ use Rattle.link_tree.specs.declared.change.Change.{Change}
 use Rattle.link_tree.specs.Trees.{Entries, after_changes}
 use Rattle.tree_steps.specs.Steps.{steps_between, IsOnTheWay}
 use Rattle.tree_steps.proofs.Turns.{steps_lead}
-use Rattle.kept_history.specs.Roots.{KeptRoot, Event, Promise, Commit, Withdraw, SyncHistory, Make, Clear, at_rest, committed, after, after_all, syncs_history, has_path, syncs_path, is_synced, MayLeave}
+use Rattle.disk.specs.Events.{Event, Promise, Commit, Withdraw, SyncHistory, Make, Clear}
+use Rattle.kept_history.specs.Roots.{KeptRoot, at_rest, committed, after, after_all, syncs_history, has_path, syncs_path, is_synced, MayLeave}
 use Rattle.kept_history.specs.Runs.{run_events, ending}
 use Rattle.kept_history.specs.Recovery.{is_due, due_steps, finishing, recovery_of, recovery, recovered}
 use Rattle.kept_history.specs.Laws.{IsEither}

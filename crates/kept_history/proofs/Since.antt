@@ -2,13 +2,13 @@
 use Rattle.std.proofs.Common.{◌≡◌, ℕ, List, [], take, Option, Result, Ok, Err, sym, subst, ◌∙◌}
 use Rattle.link_tree.specs.Trees.{Entries}
 use Rattle.tree_steps.specs.Steps.{steps_between}
-use Rattle.kept_history.specs.Roots.{Event}
+use Rattle.disk.specs.Events.{Event, with_events}
+use Rattle.disk.proofs.Doing.{with_none}
 use Rattle.kept_history.specs.Runs.{run_events, withdrawn_events}
 use Rattle.kept_history.specs.Laws.{NeverHalf}
-use Rattle.kept_history.specs.Doing.{Runs, NeverHalfSince, with_events}
+use Rattle.kept_history.specs.Doing.{Runs, NeverHalfSince}
 use Rattle.kept_history.specs.declared.running.RunError.{RunError}
 use Rattle.kept_history.specs.declared.running.RunError.TheVariants.{Refused, NotPromised, Withdrawn, Unfinished, HalfWithdrawn}
-use Rattle.kept_history.proofs.Fronts.{with_none}
 use Rattle.kept_history.proofs.Lasting.{runs_are_whole, run_front, withdrawal, withdrawal_front, nothing_whole}
 
 module _ (replay : List ℕ → Entries) (history text : List ℕ) (old new : Option (List Event)) where

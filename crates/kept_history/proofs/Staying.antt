@@ -10,8 +10,8 @@ use Rattle.link_tree.specs.declared.change.Change.{Change}
 use Rattle.link_tree.specs.Trees.{Entries, AreFrom, after_change, after_changes, taken_back}
 use Rattle.link_tree.proofs.Changed.{same_bytes, get-set, get-set_other, inverse_undoes}
 use Rattle.tree_steps.specs.Steps.{IsOnTheWay, LeadsOn}
+use Rattle.disk.specs.Events.{way_back}
 use Rattle.kept_history.specs.Roots.{has_path}
-use Rattle.kept_history.specs.Runs.{way_back}
 
 after-append : (xs : List Change) (c : Change) (t : Entries) → after_changes (xs ++ c ∷ []) t ≡ after_change c (after_changes xs t)
 after-append [] c t = refl

@@ -1,26 +1,17 @@
 -- What a call does to a disk with a kept history, also if it ends with an error. If it is not known
 -- what was done to a disk, that is None, and then nothing is said of it.
-use Rattle.std.specs.Prelude.{◌≡◌, ◌≤◌, ℕ, List, [], ◌∷◌, ◌++◌, take, Option, Result, Ok, Err, IfSome}
+use Rattle.std.specs.Prelude.{◌≡◌, ◌≤◌, ℕ, List, take, Option, Result, Ok, Err, IfSome}
 use Rattle.std.specs.Option.{option_map}
 use Rattle.link_tree.specs.declared.change.Change.{Change}
 use Rattle.link_tree.specs.Trees.{Entries}
 use Rattle.disk.specs.Disks.{Held, of_disk}
 use Rattle.disk.specs.Steps.{failures_with}
 use Rattle.disk.specs.Applied.{AreDue, after_steps, Stops}
-use Rattle.kept_history.specs.Roots.{Event}
+use Rattle.disk.specs.Events.{Event, with_events}
 use Rattle.kept_history.specs.Runs.{run_events, withdrawn_events}
 use Rattle.kept_history.specs.Laws.{NeverHalf}
 use Rattle.kept_history.specs.declared.running.RunError.{RunError}
 use Rattle.kept_history.specs.declared.running.RunError.TheVariants.{Refused, NotPromised, Withdrawn, Unfinished, HalfWithdrawn}
-
--- these events were done after all that was done before
-abbrev pub with_events : Option (List Event) → List Event → Option (List Event)
-with_events old events = option_map (λ done. done ++ events) old
-
--- This event was done, and an error did nothing.
-abbrev pub DoesOne : {T E : Type 0} → (old new : Option (List Event)) → Result T E → Event → Type 0
-DoesOne old new (Ok x) event = new ≡ with_events old (event ∷ [])
-DoesOne old new (Err e) event = new ≡ old
 
 -- These events were done, or with an error the first n of them.
 abbrev pub Does : {T E : Type 0} → (old new : Option (List Event)) → Result T E → List Event → Type 0

@@ -7,7 +7,7 @@ use Rattle.disk.specs.declared.disk.Oddity.{Oddity}
 use Rattle.disk.specs.Disks.{Held, StandsOddly, of_disk}
 use Rattle.disk.specs.Steps.{failures_with}
 use Rattle.disk.specs.Applied.{Stops}
-use Rattle.kept_history.specs.Roots.{Event}
+use Rattle.disk.specs.Events.{Event}
 use Rattle.kept_history.specs.Recovery.{due_steps, finishing}
 use Rattle.kept_history.specs.Doing.{Does}
 use Rattle.kept_history.specs.declared.recovery.FinishError.{FinishError}

@@ -3,7 +3,8 @@ use Rattle.std.specs.Prelude.{◌≡◌, ◌≢◌, ◌⊎◌, ◌≤◌, ℕ, L
 use Rattle.std.specs.FinMap as map
 use Rattle.link_tree.specs.Trees.{Entries}
 use Rattle.tree_steps.specs.Steps.{steps_between}
-use Rattle.kept_history.specs.Roots.{KeptRoot, Event, at_rest, after_all, MayLeave}
+use Rattle.disk.specs.Events.{Event}
+use Rattle.kept_history.specs.Roots.{KeptRoot, at_rest, after_all, MayLeave}
 use Rattle.kept_history.specs.Runs.{run_events, withdrawn_events}
 use Rattle.kept_history.specs.Recovery.{recovery, recovered, MayReach}
 

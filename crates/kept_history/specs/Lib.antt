@@ -4,5 +4,4 @@ pub mod Recovery
 pub mod Laws
 pub mod Doing
 pub mod Finishing
-pub mod Stopping
 pub mod Sorting

@@ -6,7 +6,8 @@ use Rattle.link_tree.specs.declared.change.Change.{Change}
 use Rattle.link_tree.specs.Trees.{Entries}
 use Rattle.link_tree.specs.Differences.{same}
 use Rattle.tree_steps.specs.Steps.{steps_between}
-use Rattle.kept_history.specs.Roots.{KeptRoot, Event, Commit, SyncHistory, Make, Clear, after_all, MayLeave}
+use Rattle.disk.specs.Events.{Event, Commit, SyncHistory, Make, Clear}
+use Rattle.kept_history.specs.Roots.{KeptRoot, after_all, MayLeave}
 use Rattle.kept_history.specs.Runs.{ending}
 
 -- whether the entry that the step replaces or removes is still there, or none if it puts one

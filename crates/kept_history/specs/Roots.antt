@@ -1,10 +1,10 @@
--- A root with a kept history, the events that change it, and what a power failure may leave of
--- them.
+-- A root with a kept history, what events change in it, and what a power failure may leave of them.
 use Rattle.std.specs.Prelude.{◌≡◌, ◌⊎◌, ℕ, Bool, true, false, List, [], ◌∷◌, Option, Some, None}
 use Rattle.std.specs.List.{list_any}
 use Rattle.std.specs.Str.{bytes_eq}
 use Rattle.link_tree.specs.declared.change.Change.{Change}
 use Rattle.link_tree.specs.Trees.{Entries, after_change}
+use Rattle.disk.specs.Events.{Event, Promise, Commit, Withdraw, SyncHistory, Make, SyncSteps, Clear}
 
 -- The text of the file `history`, that of `history.next` if that file exists, and the entries of
 -- the root.
@@ -16,26 +16,6 @@ pub record KeptRoot : Type 0 where
 -- At rest: there is no `history.next`.
 abbrev pub at_rest : List ℕ → Entries → KeptRoot
 at_rest text entries = record { history = text; next = None; entries = entries }
-
--- What a program does to the disk. A power failure may leave each event as done or as not done, and
--- never in part.
-pub data Event : Type 0 where
-  -- rename(2) of another file, which is written and synced, to `history.next`
-  Promise : (text : List ℕ) → Event
-  -- rename(2) of `history.next` to `history`
-  Commit : Event
-  -- unlink(2) of `history.next`
-  Withdraw : Event
-  -- fsync(2) of the directory of `history`
-  SyncHistory : Event
-  -- an entry replaces another at its path, or is put there, or is removed: rename(2), symlink(2),
-  -- link(2) or unlink(2)
-  Make : (step : Change) → Event
-  -- fsync(2) of the directories in which these paths are
-  SyncSteps : (steps : List Change) → Event
-  -- unlink(2) of what was written in these directories under a name that is no entry's, and then
-  -- was not renamed or not removed
-  Clear : (steps : List Change) → Event
 
 -- after a rename of `history.next`, if that file exists
 abbrev pub committed : KeptRoot → Option (List ℕ) → KeptRoot

@@ -1,8 +1,7 @@
 -- A run on a root with a kept history, as the events that it does.
 use Rattle.std.specs.Prelude.{ℕ, List, [], ◌∷◌, ◌++◌, map as list_map}
 use Rattle.link_tree.specs.declared.change.Change.{Change}
-use Rattle.link_tree.specs.Trees.{taken_back}
-use Rattle.kept_history.specs.Roots.{Event, Promise, Commit, Withdraw, SyncHistory, Make, SyncSteps}
+use Rattle.disk.specs.Events.{Event, Promise, Commit, Withdraw, SyncHistory, Make, SyncSteps, way_back}
 
 -- The end of a run: its steps are synced, then the history changes by this event, and is synced.
 abbrev pub ending : Event → List Change → List Event
@@ -12,11 +11,6 @@ ending event steps = SyncSteps steps ∷ event ∷ SyncHistory ∷ []
 -- one. Each of these is synced before the next begins.
 abbrev pub run_events : List ℕ → List Change → List Event
 run_events text steps = Promise text ∷ SyncHistory ∷ (list_map Make steps ++ ending Commit steps)
-
--- the steps that take these back, the last first
-abbrev pub way_back : List Change → List Change
-way_back [] = []
-way_back (step ∷ steps) = way_back steps ++ taken_back step ∷ []
 
 -- A run that ends after these steps, since the next one could not be made: they are taken back, and
 -- the new history is removed.

@@ -6,15 +6,15 @@ ghost use Rattle.disk.specs.Disks.{failures_after};
 ghost use Rattle.disk.specs.Applied.{after_steps};
 ghost use Rattle.link_tree.specs.Differences.{same};
 ghost use Rattle.tree_steps.specs.Steps.{steps_between};
-ghost use Rattle.kept_history.specs.Roots.{SyncHistory, Clear};
+ghost use Rattle.disk.specs.Events.{SyncHistory, Clear};
 ghost use Rattle.kept_history.specs.Recovery.{due_steps, foreign_steps, finishing};
 ghost use Rattle.kept_history.specs.Doing.{Does};
 ghost use Rattle.kept_history.specs.Finishing.{IsPlain, HasNothingOdd, HasCause, Finishes, failures_after_finish};
 ghost use Rattle.kept_history.specs.Sorting.{SortsOne, Sorts};
 
 use crate::kept_disk::KeptDisk;
-use crate::running::{Stop, end_run, make_all};
-use disk::{DiskError, StepError};
+use crate::running::end_run;
+use disk::{DiskError, StepError, make_all};
 use link_tree::{Change, Entry, Tree, TreePath};
 use std::alloc::{AllocError, Global};
 use thiserror::Error;

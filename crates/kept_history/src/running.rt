@@ -1,16 +1,15 @@
 //! A run on a root with a kept history.
-ghost use Rattle.std.specs.Prelude.{◌≡◌, ◌≤◌, [], ◌∷◌, ◌++◌, ℕ, List, Option, take, drop, length, map as list_map, IfErr, OnOk, OnErr};
+ghost use Rattle.std.specs.Prelude.{◌≡◌, [], ◌∷◌, ◌++◌, ℕ, List, Option, map as list_map, OnOk};
 ghost use Rattle.disk.specs.Disks.{Held, failures_after};
-ghost use Rattle.disk.specs.Steps.{failures_with, failures_after_step};
-ghost use Rattle.disk.specs.Applied.{Stops, WereMade};
+ghost use Rattle.disk.specs.Steps.{failures_after_step};
+ghost use Rattle.disk.specs.Applied.{WereMade};
 ghost use Rattle.tree_steps.specs.Steps.{steps_between};
-ghost use Rattle.kept_history.specs.Roots.{Event, Promise, Commit, Withdraw, Make, SyncHistory};
-ghost use Rattle.kept_history.specs.Runs.{way_back, ending};
-ghost use Rattle.kept_history.specs.Doing.{Does, Runs, Leaves, NeverHalfSince, with_events, failures_after_run};
-ghost use Rattle.kept_history.specs.Stopping.{failures_after_stop};
+ghost use Rattle.disk.specs.Events.{Event, Promise, Commit, Withdraw, Make, SyncHistory, way_back, with_events};
+ghost use Rattle.kept_history.specs.Runs.{ending};
+ghost use Rattle.kept_history.specs.Doing.{Does, Runs, Leaves, NeverHalfSince, failures_after_run};
 
 use crate::kept_disk::KeptDisk;
-use disk::{DiskError, StepError};
+use disk::{DiskError, StepError, Stop, look_at_all, make_all, take_all_back};
 use link_tree::{Change, Tree};
 use std::alloc::{AllocError, Global};
 use thiserror::Error;
@@ -61,73 +60,13 @@ impl From<AllocError> for RunError {
     }
 }
 
-/// The step that was not made, and why.
-#[derive(Clone, Copy, Debug)]
-pub(crate) struct Stop {
-    pub(crate) step: usize,
-    pub(crate) why: StepError,
-}
-
-/// Looks at the path of each step, before anything is written.
-fn check_all<D: KeptDisk>(alloc: Global, disk: &mut D, steps: &[Change]) -> Result<(), Stop>
-    ensures stops { IfErr result (λ stop. Stops (D.holds disk.old) steps.now stop.step stop.why) }
-    ensures kept { D.holds disk.new ≡ D.holds disk.old }
-    ensures done { D.done disk.new ≡ D.done disk.old }
-    ensures counted { D.failures disk.new ≡ failures_after_stop (D.failures disk.old) result }
-{
-    for (step, change) in steps.iter().enumerate() {
-        if let Err(why) = disk.check(alloc, &change.path, &change.before) {
-            return Err(Stop { step, why });
-        }
-    }
-    Ok(())
-}
-
-/// Makes steps, up to one that can't be made.
-pub(crate) fn make_all<D: KeptDisk>(
-    alloc: Global,
-    disk: &mut D,
-    steps: &[Change],
-) -> Result<(), Stop>
-    ensures made { OnOk result (WereMade (D.holds disk.old) (D.holds disk.new) steps.now) }
-    ensures done { OnOk result (D.done disk.new ≡ with_events (D.done disk.old) (list_map Make steps.now)) }
-    ensures some { IfErr result (λ stop. (stop.step ≤ length steps.now) × WereMade (D.holds disk.old) (D.holds disk.new) (take stop.step steps.now)) }
-    ensures stops { IfErr result (λ stop. Stops (D.holds disk.old) steps.now stop.step stop.why) }
-    ensures some_done { IfErr result (λ stop. D.done disk.new ≡ with_events (D.done disk.old) (list_map Make (take stop.step steps.now))) }
-    ensures counted { D.failures disk.new ≡ failures_after_stop (D.failures disk.old) result }
-{
-    for (step, change) in steps.iter().enumerate() {
-        if let Err(why) = disk.make(alloc, change) {
-            return Err(Stop { step, why });
-        }
-    }
-    Ok(())
-}
-
-/// Takes steps back, the last first. An error says how many are still made.
-fn take_all_back<D: KeptDisk>(alloc: Global, disk: &mut D, steps: &[Change]) -> Result<(), Stop>
-    ensures back { OnOk result ((old : Option Held) → WereMade old (D.holds disk.old) steps.now → D.holds disk.new ≡ old) }
-    ensures done { OnOk result (D.done disk.new ≡ with_events (D.done disk.old) (list_map Make (way_back steps.now))) }
-    ensures some_done { IfErr result (λ left. D.done disk.new ≡ with_events (D.done disk.old) (list_map Make (way_back (drop left.step steps.now)))) }
-    ensures counted { D.failures disk.new ≡ failures_after_stop (D.failures disk.old) result }
-{
-    let mut made = steps.len();
-    while made > 0 {
-        if let Err(why) = disk.take_back(alloc, &steps[made - 1]) {
-            return Err(Stop { step: made, why });
-        }
-        made -= 1;
-    }
-    Ok(())
-}
-
 /// Syncs steps that were taken back, and removes the new history.
 fn end_withdrawal<D: KeptDisk>(disk: &mut D, steps: &[Change]) -> Result<(), DiskError>
     ensures kept { D.holds disk.new ≡ D.holds disk.old }
     ensures done { Does (D.done disk.old) (D.done disk.new) result (ending Withdraw steps.now) }
     ensures counted { D.failures disk.new ≡ failures_after (D.failures disk.old) result }
 {
-    disk.sync_steps(steps)?;
+    disk.sync_back(steps)?;
     disk.withdraw()?;
     disk.sync_history()
 }
@@ -217,7 +156,7 @@ pub fn run<D: KeptDisk>(
     ensures leaves { Leaves (D.holds disk.old) (D.holds disk.new) result steps.now }
     ensures counted { D.failures disk.new ≡ failures_after_run (D.failures disk.old) result }
 {
-    match check_all(alloc, disk, steps) {
+    match look_at_all(alloc, disk, steps) {
         Ok(()) => promise_and_make(alloc, disk, text, steps),
         Err(Stop { step, why }) => Err(RunError::Refused { step, why }),
     }

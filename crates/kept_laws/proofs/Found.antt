@@ -14,7 +14,8 @@ use Rattle.link_tree.proofs.Changed.{same_tree, get-set, get-after_changes, afte
 use Rattle.link_tree.proofs.Differences.{same_is, same-itself}
 use Rattle.tree_steps.specs.Steps.{steps_between, IsOnTheWay}
 use Rattle.tree_steps.proofs.Turns.{steps_from, steps_to}
-use Rattle.kept_history.specs.Roots.{KeptRoot, Event, Commit, SyncHistory, Clear, at_rest, committed, after_all, has_path, syncs_path, MayLeave}
+use Rattle.disk.specs.Events.{Event, Commit, SyncHistory, Clear}
+use Rattle.kept_history.specs.Roots.{KeptRoot, at_rest, committed, after_all, has_path, syncs_path, MayLeave}
 use Rattle.kept_history.specs.Runs.{ending}
 use Rattle.kept_history.specs.Recovery.{is_due, due_steps, finishing, recovery_of, recovery, recovered, MayReach, Killed, KilledAgain, PowerFailed}
 use Rattle.kept_history.specs.Laws.{Mends}

@@ -4,7 +4,8 @@ use Rattle.std.specs.Prelude.{◌⊎◌}
 use Rattle.std.proofs.lemmas.Bool.{true≢false}
 use Rattle.link_tree.specs.declared.change.Change.{Change}
 use Rattle.link_tree.specs.Trees.{Entries}
-use Rattle.kept_history.specs.Roots.{KeptRoot, Event, Promise, at_rest, after, after_all, MayLeave}
+use Rattle.disk.specs.Events.{Event, Promise}
+use Rattle.kept_history.specs.Roots.{KeptRoot, at_rest, after, after_all, MayLeave}
 use Rattle.kept_history.specs.Runs.{run_events}
 use Rattle.kept_history.specs.Recovery.{recovery, recovered, MayReach, Killed, KilledAgain, PowerFailed}
 use Rattle.kept_history.specs.Laws.{IsEither}

@@ -12,7 +12,8 @@ use Rattle.link_tree.specs.Differences.{same}
 use Rattle.link_tree.proofs.Changed.{same_tree, same_bytes, get-set, get-set_other, after_at, get-after_changes}
 use Rattle.link_tree.proofs.Differences.{same_is}
 use Rattle.tree_steps.specs.Steps.{IsOnTheWay}
-use Rattle.kept_history.specs.Roots.{KeptRoot, Event, Promise, Commit, Withdraw, SyncHistory, Make, SyncSteps, Clear, at_rest, committed, after, after_all, has_path, syncs_path, MayLeave}
+use Rattle.disk.specs.Events.{Event, Promise, Commit, Withdraw, SyncHistory, Make, SyncSteps, Clear}
+use Rattle.kept_history.specs.Roots.{KeptRoot, at_rest, committed, after, after_all, has_path, syncs_path, MayLeave}
 use Rattle.kept_history.specs.Runs.{ending}
 use Rattle.kept_history.specs.Recovery.{finishing, recovery, recovered, MayReach, Killed, KilledAgain, PowerFailed}
 use Rattle.kept_history.proofs.Mending.{mends}

@@ -8,7 +8,8 @@ use Rattle.history.specs.declared.row.Row.{Row}
 use Rattle.unit_script.specs.declared.action.Action.{Action}
 use Rattle.unit_script.specs.declared.call.Call.{Call}
 use Rattle.unit_script.specs.Machine.{replay}
-use Rattle.kept_history.specs.Roots.{KeptRoot, Event, at_rest, after_all, MayLeave}
+use Rattle.disk.specs.Events.{Event}
+use Rattle.kept_history.specs.Roots.{KeptRoot, at_rest, after_all, MayLeave}
 use Rattle.kept_history.specs.Recovery.{recovery, recovered, MayReach}
 use Rattle.kept_rows.specs.Others.{rows_with, rows_with_others}
 use Rattle.kept_rows.specs.Texts.{replay_of}

@@ -4,7 +4,8 @@ use Rattle.link_tree.specs.Trees.{Entries}
 use Rattle.history.specs.declared.row.Row.{Row}
 use Rattle.unit_script.specs.declared.action.Action.{Action}
 use Rattle.unit_script.specs.declared.call.Call.{Call}
-use Rattle.kept_history.specs.Roots.{KeptRoot, Event}
+use Rattle.disk.specs.Events.{Event}
+use Rattle.kept_history.specs.Roots.{KeptRoot}
 use Rattle.kept_history.specs.Recovery.{recovered}
 use Rattle.kept_rows.specs.Others.{rows_with, rows_with_others, IsOfOthers}
 use Rattle.kept_rows.specs.Texts.{replay_of}

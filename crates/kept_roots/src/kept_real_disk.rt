@@ -1,7 +1,6 @@
 //! The files beneath a root as a disk that keeps the history of the root.
 ghost use Rattle.std.specs.Prelude.{◌≡◌, None};
 ghost use Rattle.disk.specs.Disks.{failures_after};
-ghost use Rattle.disk.specs.Steps.{failures_after_step};
 
 use crate::emptied::{dependencies_of, remove_if_empty};
 use crate::history_directory::HistoryDirectory;
@@ -20,8 +19,6 @@ pub struct KeptRealDisk<'a> {
     disk: RealDisk<'a>,
     directory: HistoryDirectory<'a>,
     failures: u64,
-    /// A step could not be made, so those before it are taken back.
-    is_going_back: bool,
     /// `history.next` was renamed or removed, and this isn't synced yet.
     is_ending: bool,
 }
@@ -51,7 +48,6 @@ impl<'a> KeptRealDisk<'a> {
             disk,
             directory,
             failures: 0,
-            is_going_back: false,
             is_ending: false,
         }
     }
@@ -97,36 +93,6 @@ impl<'a> KeptRealDisk<'a> {
         self.noted(kept)
     }
 
-    /// Replaces one entry by another, if the first is there.
-    fn make_entry(
-        &mut self,
-        alloc: Global,
-        path: &TreePath,
-        from: &Option<Entry>,
-        to: &Option<Entry>,
-    ) -> Result<(), StepError>
-        ensures { self.new.failures ≡ failures_after_step self.old.failures result }
-    {
-        self.check(alloc, path, from)?;
-        match to {
-            Some(entry) => Ok(self.put(path, from, entry)?),
-            None => Ok(self.take(path)?),
-        }
-    }
-
-    /// Syncs what this run has changed, and removes the directories for dependencies that it has
-    /// emptied; or if it takes its steps back, the directories that it has made.
-    fn settle(&mut self) -> Result<(), DiskError>
-        ensures { self.new.failures ≡ failures_after self.old.failures result }
-    {
-        let settled = if self.is_going_back {
-            self.disk.settle_back()
-        } else {
-            self.disk.settle()
-        };
-        self.counted(settled)
-    }
-
     /// Removes a directory for dependencies, unless something is in it.
     fn remove_if_empty(&mut self, directory: &TreePath) -> Result<(), DiskError>
         ensures { self.new.failures ≡ failures_after self.old.failures result }
@@ -170,6 +136,8 @@ impl<'a> Disk for KeptRealDisk<'a> {
 
     ghost failures = { λ disk. disk.failures };
 
+    ghost done = { λ disk. None };
+
     fn list(&mut self, alloc: Global, directory: &TreePath) -> Result<Listing, DiskError> {
         let listed = self.disk.list(alloc, directory);
         self.noted(listed)
@@ -190,22 +158,18 @@ impl<'a> Disk for KeptRealDisk<'a> {
         self.noted(put)
     }
 
-    fn take(&mut self, path: &TreePath) -> Result<(), DiskError> {
-        let taken = self.disk.take(path);
+    fn take(&mut self, path: &TreePath, before: &Option<Entry>) -> Result<(), DiskError> {
+        let taken = self.disk.take(path, before);
         self.noted(taken)
     }
-}
 
-impl<'a> KeptDisk for KeptRealDisk<'a> {
-    ghost done = { λ disk. None };
-
+    /// What is there is only compared, so it isn't counted as read.
     fn check(
         &mut self,
         alloc: Global,
         path: &TreePath,
         entry: &Option<Entry>,
     ) -> Result<(), StepError> {
-        // (it is only compared, so it isn't counted as read)
         self.disk.count(false);
         let found = self.look(alloc, path);
         self.disk.count(true);
@@ -220,24 +184,22 @@ impl<'a> KeptDisk for KeptRealDisk<'a> {
             Err(StepError::Changed)
         }
     }
+}
 
-    fn make(&mut self, alloc: Global, step: &Change) -> Result<(), StepError> {
-        let made = self.make_entry(alloc, &step.path, &step.before, &step.after);
-        if made.is_err() {
-            self.is_going_back = true;
-        }
-        made
-    }
-
-    fn take_back(&mut self, alloc: Global, step: &Change) -> Result<(), StepError> {
-        self.make_entry(alloc, &step.path, &step.after, &step.before)
-    }
-
+impl<'a> KeptDisk for KeptRealDisk<'a> {
+    /// It also syncs what this run has changed, and removes the directories for dependencies that it
+    /// has emptied.
     fn sync_steps(&mut self, steps: &[Change]) -> Result<(), DiskError> {
-        self.settle()?;
-        if !self.is_going_back {
-            self.remove_emptied(steps)?;
-        }
+        let settled = self.disk.settle();
+        self.counted(settled)?;
+        self.remove_emptied(steps)?;
+        self.sync_directories(steps)
+    }
+
+    /// It also removes the directories that it has made.
+    fn sync_back(&mut self, steps: &[Change]) -> Result<(), DiskError> {
+        let settled = self.disk.settle_back();
+        self.counted(settled)?;
         self.sync_directories(steps)
     }
 

@@ -4,14 +4,16 @@ use Rattle.link_tree.specs.Trees.{Entries}
 use Rattle.disk.specs.Disks.{Held}
 use Rattle.disk.specs.Applied.{Stops}
 use Rattle.disk.specs.declared.error.StepError.{StepError}
-use Rattle.kept_history.specs.Roots.{KeptRoot, Event}
+use Rattle.disk.specs.Events.{Event, with_events}
+use Rattle.disk.proofs.Doing.{with_none}
+use Rattle.kept_history.specs.Roots.{KeptRoot}
 use Rattle.kept_history.specs.Runs.{run_events}
 use Rattle.kept_history.specs.Laws.{NeverHalf}
-use Rattle.kept_history.specs.Doing.{Runs, Leaves, with_events}
+use Rattle.kept_history.specs.Doing.{Runs, Leaves}
 use Rattle.kept_history.specs.Recovery.{MayReach, Killed, KilledAgain, PowerFailed}
 use Rattle.kept_history.specs.declared.running.RunError.{RunError}
 use Rattle.kept_history.specs.declared.running.RunError.TheVariants.{Refused, NotPromised, Withdrawn, Unfinished, HalfWithdrawn}
-use Rattle.kept_history.proofs.Fronts.{with_none, take_take}
+use Rattle.kept_history.proofs.Fronts.{take_take}
 use Rattle.kept_history.proofs.Lasting.{writes_are_whole}
 
 -- what a front of these events may lead to, all of them may

@@ -3,9 +3,8 @@ use Rattle.std.specs.Prelude.{◌≡◌, ℕ, List, Option, Some, IfSome}
 use Rattle.link_tree.specs.Trees.{Entries}
 use Rattle.tree_steps.specs.Steps.{steps_between}
 use Rattle.disk.specs.Disks.{Held}
-use Rattle.kept_history.specs.Roots.{Event}
+use Rattle.disk.specs.Events.{Event, with_events}
 use Rattle.kept_history.specs.Laws.{NeverHalf}
-use Rattle.kept_history.specs.Doing.{with_events}
 use Rattle.kept_history.specs.Recovery.{recovery}
 use Rattle.kept_history.specs.Finishing.{HasNothingOdd}
 use Rattle.kept_rows.specs.Texts.{replay_of}

@@ -1,11 +1,10 @@
 //! A root in memory with its history, of which nothing is claimed.
 ghost use Rattle.std.specs.Prelude.{◌≡◌, None};
 ghost use Rattle.disk.specs.Disks.{failures_after};
-ghost use Rattle.disk.specs.Steps.{failures_after_step};
 
-use disk::{Disk, DiskError, Found, Listing, StepError};
+use disk::{Disk, DiskError, Found, Listing};
 use kept_history::KeptDisk;
-use link_tree::{Change, Entry, Tree, TreePath, copy_of};
+use link_tree::{Change, Entry, Tree, TreePath};
 use std::alloc::{AllocError, Global};
 use unit_paths::Slot;
 
@@ -20,20 +19,12 @@ pub(crate) struct MemoryRoot {
     pub(crate) failures: u64,
 }
 
-fn is_same(one: Option<&Entry>, other: &Option<Entry>) -> bool {
-    match (one, other) {
-        (None, None) => true,
-        (Some(one), Some(other)) => one.same(other),
-        _ => false,
-    }
-}
-
 /// Sets what is at a path, if it is a slot.
-fn put(tree: &mut Tree, path: &TreePath, entry: &Option<Entry>) -> Result<(), AllocError> {
+fn put(tree: &mut Tree, path: &TreePath, entry: Option<Entry>) -> Result<(), AllocError> {
     if Slot::of(path).is_none() {
         return Ok(());
     }
-    tree.set(path, copy_of(entry)?)
+    tree.set(path, entry)
 }
 
 impl MemoryRoot {
@@ -64,28 +55,11 @@ impl MemoryRoot {
         Ok(())
     }
 
-    fn set(&mut self, path: &TreePath, entry: &Option<Entry>) -> Result<(), StepError>
-        ensures { self.new.failures ≡ failures_after_step self.old.failures result }
+    fn set(&mut self, path: &TreePath, entry: Option<Entry>) -> Result<(), DiskError>
+        ensures { self.new.failures ≡ failures_after self.old.failures result }
     {
         self.event()?;
-        match put(&mut self.tree, path, entry) {
-            Ok(()) => Ok(()),
-            Err(AllocError) => Err(StepError::OutOfMemory),
-        }
-    }
-
-    fn step(
-        &mut self,
-        path: &TreePath,
-        from: &Option<Entry>,
-        to: &Option<Entry>,
-    ) -> Result<(), StepError>
-        ensures { self.new.failures ≡ failures_after_step self.old.failures result }
-    {
-        if !is_same(self.tree.get(path), from) {
-            return Err(StepError::Changed);
-        }
-        self.set(path, to)
+        Ok(put(&mut self.tree, path, entry)?)
     }
 }
 
@@ -94,53 +68,39 @@ impl Disk for MemoryRoot {
 
     ghost failures = { λ disk. disk.failures };
 
+    ghost done = { λ disk. None };
+
     fn list(&mut self, _alloc: Global, _directory: &TreePath) -> Result<Listing, DiskError> {
         Err(DiskError::OutOfMemory)
     }
 
-    fn look(&mut self, _alloc: Global, _path: &TreePath) -> Result<Found, DiskError> {
-        Err(DiskError::OutOfMemory)
+    fn look(&mut self, _alloc: Global, path: &TreePath) -> Result<Found, DiskError> {
+        match self.tree.get(path) {
+            Some(entry) => Ok(Found::Entry(entry.copy()?)),
+            None => Ok(Found::Nothing),
+        }
     }
 
     fn put(
         &mut self,
-        _path: &TreePath,
+        path: &TreePath,
         _before: &Option<Entry>,
-        _entry: &Entry,
+        entry: &Entry,
     ) -> Result<(), DiskError> {
-        Err(DiskError::OutOfMemory)
+        self.set(path, Some(entry.copy()?))
     }
 
-    fn take(&mut self, _path: &TreePath) -> Result<(), DiskError> {
-        Err(DiskError::OutOfMemory)
+    fn take(&mut self, path: &TreePath, _before: &Option<Entry>) -> Result<(), DiskError> {
+        self.set(path, None)
     }
 }
 
 impl KeptDisk for MemoryRoot {
-    ghost done = { λ disk. None };
-
-    fn check(
-        &mut self,
-        _alloc: Global,
-        path: &TreePath,
-        entry: &Option<Entry>,
-    ) -> Result<(), StepError> {
-        if is_same(self.tree.get(path), entry) {
-            Ok(())
-        } else {
-            Err(StepError::Changed)
-        }
-    }
-
-    fn make(&mut self, _alloc: Global, step: &Change) -> Result<(), StepError> {
-        self.step(&step.path, &step.before, &step.after)
-    }
-
-    fn take_back(&mut self, _alloc: Global, step: &Change) -> Result<(), StepError> {
-        self.step(&step.path, &step.after, &step.before)
-    }
-
     fn sync_steps(&mut self, _steps: &[Change]) -> Result<(), DiskError> {
+        self.event()
+    }
+
+    fn sync_back(&mut self, _steps: &[Change]) -> Result<(), DiskError> {
         self.event()
     }
 

@@ -237,7 +237,7 @@ none-alike (d ∷ ds) e es distinct =
     ]
 
 -- the next is neither above nor beneath any of those done
-not-crowded : (done : List (List ℕ × Entry)) (e : List ℕ × Entry) (es : List (List ℕ × Entry)) → find path_cmp e.0 done ≡ None → IsTree (from_entries (done ++ e ∷ es)) → is_crowded (from_entries done) e.0 ≡ false
+pub not-crowded : (done : List (List ℕ × Entry)) (e : List ℕ × Entry) (es : List (List ℕ × Entry)) → find path_cmp e.0 done ≡ None → IsTree (from_entries (done ++ e ∷ es)) → is_crowded (from_entries done) e.0 ≡ false
 unfolding is_crowded
 not-crowded done e es none tree = any-keys (is_close e.0) (map.keys (from_entries {R = path_cmp} done)) (λ q some.
     let stood = contains_key-keys (from_entries {R = path_cmp} done) q ∙ some in
@@ -252,11 +252,11 @@ entry-fits p e h =
     let y = and_parts (is_path p) (is_entry e) x.0 in
     (y.0, y.1, not-true (is_bad_shape p) x.1)
 
-placed-next : (m : Entries) (p : List ℕ) (e : Entry) → map.get m p ≡ None → is_crowded m p ≡ false → is_bad_shape p ≡ false → placed m (p, e) ≡ Ok (map.insert m p e)
+pub placed-next : (m : Entries) (p : List ℕ) (e : Entry) → map.get m p ≡ None → is_crowded m p ≡ false → is_bad_shape p ≡ false → placed m (p, e) ≡ Ok (map.insert m p e)
 unfolding placed
 placed-next m p e none apart shape = rw (none, apart, shape) refl
 
-next-read : (more : ℕ) (p : List ℕ) (e : Entry) (rest : List ℕ) → 0 < more → is_path p ≡ true → is_entry e ≡ true → next_of more (entry_line (p, e) ++ rest) ≡ Ok (Some (p, e), rest)
+pub next-read : (more : ℕ) (p : List ℕ) (e : Entry) (rest : List ℕ) → 0 < more → is_path p ≡ true → is_entry e ≡ true → next_of more (entry_line (p, e) ++ rest) ≡ Ok (Some (p, e), rest)
 next-read zero p e rest some path entry = absurd (omega arith)
 next-read (suc more) p e rest some path entry = entry-again p e rest path entry
 

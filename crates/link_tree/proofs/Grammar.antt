@@ -37,7 +37,7 @@ use Rattle.link_tree.proofs.Undecided.{front_is}
 use Rattle.link_tree.proofs.GrammarLines.{line_is, line_text, IsSaid}
 
 -- what is at the front of the bytes: an entry, if there is room for one, or the line `end`
-abbrev IsNext : Bool → List ℕ → Option Next → List ℕ → Type 0
+abbrev pub IsNext : Bool → List ℕ → Option Next → List ℕ → Type 0
 IsNext room bytes None rest = bytes ≡ codes "end\n" ++ rest
 IsNext room bytes (Some entry) rest = (room ≡ true) × (bytes ≡ entry_line entry ++ rest) × (is_path entry.0 ≡ true) × (is_entry entry.1 ≡ true)
 
@@ -55,7 +55,7 @@ said_is false (lines.Link path target) bytes after o rest is good h = no_ok h
 said_is false (lines.File path size) bytes after o rest is good h = no_ok h
 
 -- what was read from the front of the bytes is there
-next_is : (room : Bool) (bytes : List ℕ) (o : Option Next) (rest : List ℕ) → entry_at room (front_line 16384 bytes) ≡ Ok (o, rest) → IsNext room bytes o rest
+pub next_is : (room : Bool) (bytes : List ℕ) (o : Option Next) (rest : List ℕ) → entry_at room (front_line 16384 bytes) ≡ Ok (o, rest) → IsNext room bytes o rest
 next_is room bytes o rest h =
     let at = both_ok (line_of_front (front_line 16384 bytes)) (λ found. if room then entry_of found.0 found.1 else end_of found.0 found.1) (o, rest) h in
     let front = front_is (front_line 16384 bytes) at.0.0 at.0.1 at.1 in
@@ -68,13 +68,13 @@ not_some None h = refl
 not_some (Some e) h = absurd (false≢true (sym h))
 
 -- An entry was added to the tree: nothing was at its path, and nothing above or beneath it.
-record IsPlaced (m : Entries) (path : List ℕ) (entry : Entry) (m' : Entries) : Type 0 where
-  free : map.get m path ≡ None
-  apart : is_crowded m path ≡ false
-  shape : is_bad_shape path ≡ false
-  grown : map.insert m path entry ≡ m'
+pub record IsPlaced (m : Entries) (path : List ℕ) (entry : Entry) (m' : Entries) : Type 0 where
+  pub free : map.get m path ≡ None
+  pub apart : is_crowded m path ≡ false
+  pub shape : is_bad_shape path ≡ false
+  pub grown : map.insert m path entry ≡ m'
 
-placed_is : (m : Entries) (path : List ℕ) (entry : Entry) (m' : Entries) → placed m (path, entry) ≡ Ok m' → IsPlaced m path entry m'
+pub placed_is : (m : Entries) (path : List ℕ) (entry : Entry) (m' : Entries) → placed m (path, entry) ≡ Ok m' → IsPlaced m path entry m'
 unfolding placed
 placed_is m path entry m' h =
     let at = else_ok (is_some (map.get m path)) Duplicate (if is_crowded m path then Err UnderEntry else if is_bad_shape path then Err BadShape else Ok (map.insert m path entry)) m' h in
@@ -83,7 +83,7 @@ placed_is m path entry m' h =
     record { free = not_some (map.get m path) at.0; apart = near.0; shape = shaped.0; grown = ok_is shaped.1 }
 
 -- a path that isn't found is none of those done
-not_among : (path : List ℕ) (done : List Next) → find path_cmp path done ≡ None → All (λ one. one.0 ≢ path) done
+pub not_among : (path : List ℕ) (done : List Next) → find path_cmp path done ≡ None → All (λ one. one.0 ≢ path) done
 not_among path [] none = All-nil (λ one. one.0 ≢ path)
 not_among path (d ∷ ds) none = elim (cases_Bool (eq_by_cmp path_cmp path d.0)) [
   | inl here ↦ absurd (cc (rw here at none))
@@ -106,7 +106,7 @@ record AreRead (more : ℕ) (done : List Next) (bytes : List ℕ) (m : Entries) 
 abbrev Reads : ℕ → Type 0
 Reads more = (number : ℕ) (done : List Next) (bytes : List ℕ) (m : Entries) (rest : List ℕ) → AreDistinct done → IsTree (from_entries done) → entries_at more number (from_entries done) bytes ≡ Ok (m, rest) → AreRead more done bytes m rest
 
-some_room : (more : ℕ) → has_room more ≡ true → 0 < more
+pub some_room : (more : ℕ) → has_room more ≡ true → 0 < more
 some_room zero h = absurd (false≢true h)
 some_room (suc more) h = omega arith
 

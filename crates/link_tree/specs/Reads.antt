@@ -61,11 +61,12 @@ StopsInEntry IsOpen (Err (inventories.Fault fault number)) old new = fault ≢ f
 StopsInEntry IsOpen (Err (inventories.ReadFault number)) old new = Takes old new (λ taken rest. IsOpen number taken)
 StopsInEntry IsOpen (Err inventories.OutOfMemory) old new = Unit {0}
 
--- A read fault has a cause, and if a tree was read, there was no failure.
+-- A read fault has a cause. If a tree was read, or the inventory has a fault, the source didn't
+-- fail; but a duplicate may be reported after the source failed in a later entry.
 abbrev pub AccountsTree : Result Entries InventoryError → Counters → Counters → Type 0
 AccountsTree (Ok tree) old new = IsCalm old new
 AccountsTree (Err (inventories.ReadFault number)) old new = HasCause old new
-AccountsTree (Err (inventories.Fault fault number)) old new = Unit {0}
+AccountsTree (Err (inventories.Fault fault number)) old new = fault ≢ faults.Duplicate → IsCalm old new
 AccountsTree (Err inventories.OutOfMemory) old new = Unit {0}
 
 -- Only a prefix of the text was sent.

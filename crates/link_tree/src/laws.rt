@@ -1,5 +1,6 @@
 //! Laws of all trees: each function does nothing, and its contract is the law.
 ghost use Rattle.link_tree.specs.Laws.{ReadsBack, LengthsAreDecimals, TakenBack, ChangesLead};
+ghost use Rattle.link_tree.specs.FirstFaults.{FirstFaultIsReported};
 ghost use Rattle.link_tree.specs.Grammar.{InventoriesAreEntries};
 
 /// Reading the text written for a tree gives that tree back, whatever bytes follow it, if the tree
@@ -13,6 +14,13 @@ pub fn inventories_are_read_back()
 /// the map of these entries, each of which is allowed at its path, and none is beneath another.
 pub fn inventories_are_their_entries()
     ensures { InventoriesAreEntries }
+{}
+
+/// A fault is reported, with the number of its entry, exactly if it is the first: the header is
+/// missing, or the header and the lines of some entries that form a tree come before an entry, and
+/// of what is wrong with this one it is the first in the table `table`.
+pub fn the_first_fault_is_reported()
+    ensures { FirstFaultIsReported }
 {}
 
 /// A length in an inventory has one spelling, the decimal digits of the number.

@@ -33,11 +33,12 @@ pub use inventory_fault::{InventoryError, InventoryFault};
 pub use iter::Iter;
 pub use laws::{
     changes_are_taken_back, changes_lead_from_tree_to_tree, inventories_are_read_back,
-    inventories_are_their_entries, lengths_have_one_spelling,
+    inventories_are_their_entries, lengths_have_one_spelling, the_first_fault_is_reported,
 };
 pub use placed_entry::PlacedEntry;
 pub use tree::{Tree, push_decimal};
 pub use tree_part::TreePart;
+pub use unit_file::Notice;
 pub use unit_paths::{
     Dependency, MAX_PATH, PathError, Place, Scope, Slot, Target, TargetError, TreePath, canonical,
     links_lead_to_paths, paths_lie_beneath,

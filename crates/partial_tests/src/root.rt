@@ -97,6 +97,8 @@ impl Disk for Root {
 
     ghost failures = { λ root. root.failures };
 
+    ghost done = { λ _. None };
+
     fn list(&mut self, alloc: Global, directory: &TreePath) -> Result<Listing, DiskError> {
         self.call()?;
         match self.listed(alloc, directory) {
@@ -122,7 +124,7 @@ impl Disk for Root {
         Err(DiskError::OutOfMemory)
     }
 
-    fn take(&mut self, _path: &TreePath) -> Result<(), DiskError> {
+    fn take(&mut self, _path: &TreePath, _before: &Option<Entry>) -> Result<(), DiskError> {
         Err(DiskError::OutOfMemory)
     }
 }

@@ -138,6 +138,8 @@ impl<'a> Disk for PassingOver<'a> {
 
     ghost failures = { λ disk. disk.failures };
 
+    ghost done = { λ disk. None };
+
     fn list(&mut self, alloc: Global, directory: &TreePath) -> Result<Listing, DiskError> {
         let listed = self.root.list(alloc, directory);
         self.counted(listed)
@@ -158,8 +160,8 @@ impl<'a> Disk for PassingOver<'a> {
         self.counted(made)
     }
 
-    fn take(&mut self, path: &TreePath) -> Result<(), DiskError> {
-        let taken = self.root.disk.take(path);
+    fn take(&mut self, path: &TreePath, before: &Option<Entry>) -> Result<(), DiskError> {
+        let taken = self.root.disk.take(path, before);
         self.counted(taken)
     }
 }

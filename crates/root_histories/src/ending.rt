@@ -1,15 +1,11 @@
 //! How a run on a root with a history ends.
 
-use crate::context::Context;
 use crate::kept_root::KeptRoot;
 use disk::{CaptureError, StepError};
 use kept_history::{FinishError, RunError};
-use kept_runs::{Kept, commit, commit_others};
-use link_tree::Tree;
 use real_roots::RealDisk;
-use root_access::{Failure, Reason, capture_failure, read_trouble, shown_path};
+use root_access::{Context, Failure, Reason, capture_failure, read_trouble};
 use std::alloc::{AllocError, AllocFailed, Global};
-use tree_steps::steps_between;
 
 /// Why a run on a root with a history stopped. What the system reported is known to the disk, which
 /// is asked for it in the end.
@@ -46,57 +42,6 @@ impl<T: Drop> From<AllocFailed<T>> for Stop {
 impl From<CaptureError> for Stop {
     fn from(e: CaptureError) -> Stop {
         Stop::Uncaptured(e)
-    }
-}
-
-/// The step that failed, if one did.
-fn failed_step(error: RunError) -> Option<usize> {
-    match error {
-        RunError::Refused { step, .. } | RunError::Withdrawn { step, .. } => Some(step),
-        RunError::HalfWithdrawn { step, .. } => Some(step),
-        RunError::NotPromised(_) | RunError::Unfinished(_) => None,
-    }
-}
-
-/// The path of the step that failed.
-fn failed_path(
-    alloc: Global,
-    old: &Tree,
-    kept: &Kept,
-    error: RunError,
-) -> Result<Option<String>, AllocError> {
-    let Some(step) = failed_step(error) else {
-        return Ok(None);
-    };
-    let steps = steps_between(alloc, old, kept.history().tree())?;
-    match steps.get(step) {
-        Some(change) => Ok(Some(shown_path(alloc, &change.path)?)),
-        None => Ok(None),
-    }
-}
-
-/// Writes a history to the disk, before calls are made. The root already is as it says.
-pub fn write_to(alloc: Global, root: &mut KeptRoot<'_>, kept: &Kept) -> Result<(), Stop> {
-    match commit_others(alloc, &mut root.disk, kept) {
-        Ok(()) => Ok(()),
-        Err(_) if root.disk.is_ending() => Err(Stop::NotBegun),
-        Err(error) => Err(Stop::Unmade(error, None)),
-    }
-}
-
-/// Writes a history to the disk, and makes the steps from a tree to its own, all or none.
-pub fn commit_to(
-    alloc: Global,
-    root: &mut KeptRoot<'_>,
-    old: &Tree,
-    kept: &Kept,
-) -> Result<(), Stop> {
-    match commit(alloc, &mut root.disk, old, kept) {
-        Ok(()) => Ok(()),
-        Err(error) => Err(Stop::Unmade(
-            error,
-            failed_path(alloc, old, kept, error).unwrap_or(None),
-        )),
     }
 }
 
@@ -164,13 +109,14 @@ fn unmade_failure(
     }
 }
 
-/// Whether a run that failed so has changed nothing.
+/// Whether a run that failed so has changed nothing, by the status of its failure.
 pub fn is_of_nothing(failure: &Failure) -> bool {
     let status = failure.status();
     status == 1 || status == 4
 }
 
-/// Removes the directories that were made for nothing.
+/// Removes the directories that were made for nothing. Returns the failure of the run, or why they
+/// can't be removed.
 pub fn after_nothing(disk: &mut RealDisk<'_>, failure: Failure) -> Failure {
     if !is_of_nothing(&failure) {
         return failure;

@@ -1,10 +1,11 @@
 //! Whether a root has a history, and where.
 
-use crate::context::Context;
 use crate::kept_root::KeptRoot;
 use kept_roots::{HistoryDirectory, HistoryFile, HistoryPlace, open_directory};
 use real_roots::{RealDisk, Trouble};
-use root_access::{Failure, hold_of, patience_of, print_messages, push_message, take_root};
+use root_access::{
+    Context, Failure, hold_of, patience_of, print_messages, push_message, take_root,
+};
 use std::alloc::AllocError;
 use std::fs;
 
@@ -50,6 +51,8 @@ pub fn directory_of<'a>(
 }
 
 /// Locks a root, and its history if it has one at this place.
+///
+/// Errors: the root or its history can't be locked, or can't be looked at.
 pub fn take_any<'a>(cx: Context<'a>, place: &HistoryPlace) -> Result<Taken<'a>, Failure> {
     let mut disk = take_root(cx.rt, cx.asked, cx.root)?;
     match directory_of(cx, &mut disk, place) {

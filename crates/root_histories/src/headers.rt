@@ -1,11 +1,10 @@
 //! The header of a history, which says for which root it was begun.
 
-use crate::context::Context;
 use crate::marks::{label_of, new_id};
 use kept_runs::{KeepIf, Kept, LinesError};
 use kept_texts::{Header, Run};
 use link_tree::Tree;
-use root_access::Failure;
+use root_access::{Context, Failure};
 use std::alloc::Global;
 
 /// A header for the history of this root.
@@ -15,6 +14,8 @@ fn header_of(cx: Context<'_>, id: [u8; 16]) -> Result<Header, Failure> {
 }
 
 /// A history of this root without calls, which begins with this tree.
+///
+/// Errors: no random number can be read; no text can hold the tree; out of memory.
 pub fn new_history(cx: Context<'_>, first: &Tree) -> Result<Kept, Failure> {
     let header = header_of(cx, new_id(cx.rt)?)?;
     begun(cx.rt.alloc(), first, header)
@@ -71,7 +72,9 @@ fn push_runs(alloc: Global, kept: &mut Kept, other: &Kept) -> Result<(), Failure
     Ok(())
 }
 
-/// The same history as that of this root.
+/// A history of another root as that of this one, with the same number and the same runs.
+///
+/// Errors: a run can't be made again; out of memory.
 pub fn adopted(cx: Context<'_>, other: &Kept) -> Result<Kept, Failure> {
     let alloc = cx.rt.alloc();
     let header = header_of(cx, other.text().header().id)?;

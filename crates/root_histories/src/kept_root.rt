@@ -1,9 +1,9 @@
 //! A root with a history.
 
-use crate::context::Context;
 use crate::notes::Notes;
 use kept_roots::{HistoryDirectory, KeptRealDisk};
 use real_roots::RealDisk;
+use root_access::Context;
 
 /// A root with a history, both locked by this run.
 #[derive(Drop)]

@@ -1,33 +1,30 @@
-//! Roots with a history that is kept: runs on them are remembered, and finished if they are cut
-//! short.
+//! Roots with a history that is kept: it is found, locked and read, and a run that was cut short is
+//! finished.
 #![tactic(auto)]
 
-mod context;
 mod ending;
 mod finding;
-mod fitting;
-mod forgetting;
 mod headers;
-mod keeping;
 mod kept_root;
-mod lines;
 mod marks;
 mod notes;
-mod paths;
 mod reading;
 mod recovery;
-mod rounds;
-mod running;
 mod setting_aside;
-mod with_later;
 
-pub use context::{Context, canonical_root};
-pub use ending::{Stop, end};
-pub use finding::{Taken, directory_of, note_promise, note_promise_of, place_of, take};
-pub use forgetting::forget;
-pub use keeping::keep;
+pub use ending::{Stop, after_nothing, end, is_of_nothing};
+pub use finding::{Taken, directory_of, note_promise, note_promise_of, place_of, take, take_any};
+pub use headers::{adopted, new_history};
 pub use kept_root::KeptRoot;
-pub use lines::{Wanted, check_operator, check_script, line_of_file, lines_of_calls, wanted_lines};
-pub use marks::variable;
-pub use reading::{read_kept, shown};
-pub use running::{disk_after_recovery, recover_root, run_on_kept};
+pub use kept_runs::{KeepIf, Kept, OthersError, commit, commit_others};
+pub use marks::{variable, words_of_run};
+pub use notes::Notes;
+pub use reading::{is_of_other_root, read_kept, shown, unless_of_text};
+pub use recovery::{begin_run, disk_after_recovery, finish_before, recover_root, rows_text};
+pub use root_access::{
+    Context, Done, Failure, bad_call, bad_lines_of, canonical_root, capture_failure, capture_for,
+    capture_to_list, captured_in, forbidden, make_tree, name_of, paths_of, patience_of, print,
+    print_failure, print_messages, push_everything, push_message, read_text, read_tree,
+    refused_word, shown_lines, shown_path, take_root,
+};
+pub use setting_aside::set_aside;

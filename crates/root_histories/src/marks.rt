@@ -70,7 +70,10 @@ fn login_of(rt: &HostRuntime) -> Result<Label, Failure> {
     label_of(rt, login.as_bytes())
 }
 
-/// What is said of this run, or of what others did before it.
+/// What is said of this run, or of what others did before it: its time, who is logged in, the
+/// program.
+///
+/// Errors: no calendar has the time; out of memory.
 pub fn words_of_run(rt: &HostRuntime, outside: bool) -> Result<RunWords, Failure> {
     Ok(RunWords {
         time: time_of_run(rt)?,

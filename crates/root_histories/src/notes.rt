@@ -12,6 +12,8 @@ pub struct Notes {
 }
 
 impl Notes {
+    /// No lines. If the run must be quiet, only warnings are added; with `--json` each is an
+    /// object.
     pub fn new(alloc: Global, quiet: bool, json: bool) -> Notes {
         Notes {
             text: Vec::new(alloc),

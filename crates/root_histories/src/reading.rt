@@ -1,10 +1,9 @@
 //! Reading a history.
 
-use crate::context::Context;
 use crate::kept_root::KeptRoot;
 use kept_roots::{HistoryError, HistoryFile, MOST_BYTES};
 use kept_runs::{Kept, KeptError};
-use root_access::{Failure, RULES};
+use root_access::{Context, Failure, RULES};
 use root_runs::push_shown;
 use std::alloc::{AllocError, Global};
 use unit_script::{InputFault, ScriptFault};
@@ -111,6 +110,9 @@ fn current_text(cx: Context<'_>, root: &mut KeptRoot<'_>) -> Result<Vec<u8>, Fai
 }
 
 /// Reads the history of a root.
+///
+/// Errors: it can't be read, is only promised, is that of another root (unless `--adopt` is given),
+/// or has too many rows; out of memory.
 pub fn read_kept(cx: Context<'_>, root: &mut KeptRoot<'_>) -> Result<Kept, Failure> {
     let kept = kept_of(cx.rt.alloc(), current_text(cx, root)?)?;
     match check(cx, &kept) {

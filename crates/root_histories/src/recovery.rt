@@ -1,14 +1,14 @@
 //! Finishing a run that was cut short.
 
-use crate::context::Context;
-use crate::ending::Stop;
-use crate::finding::note_promise_of;
+use crate::ending::{Stop, disk_after, end};
+use crate::finding::{Taken, note_promise_of, take};
 use crate::kept_root::KeptRoot;
 use crate::reading::{kept_of, most_bytes, read_kept, shown};
 use kept_roots::HistoryFile;
 use kept_runs::{Kept, recover};
 use link_tree::Change;
-use root_access::Failure;
+use real_roots::RealDisk;
+use root_access::{Context, Failure};
 use std::alloc::{AllocError, Global};
 
 /// The history on the disk, and the one that a run was about to write.
@@ -108,6 +108,9 @@ pub fn finish_promised(cx: Context<'_>, root: &mut KeptRoot<'_>) -> Result<(), S
 
 /// Finishes a run that was cut short, before something else is done: if only the last sync fails,
 /// that isn't done.
+///
+/// Errors: a history can't be read; a step can't be made; `NotBegun` if all was done, and may not
+/// last.
 pub fn finish_before(cx: Context<'_>, root: &mut KeptRoot<'_>) -> Result<(), Stop> {
     match finish_promised(cx, root) {
         Err(Stop::Unfinished(_)) if root.disk.is_ending() => Err(Stop::NotBegun),
@@ -117,9 +120,47 @@ pub fn finish_before(cx: Context<'_>, root: &mut KeptRoot<'_>) -> Result<(), Sto
 
 /// What a run with calls does first: it finishes one that was cut short. A dry run only says that
 /// there is one.
+///
+/// Errors: those of `finish_before`.
 pub fn begin_run(cx: Context<'_>, root: &mut KeptRoot<'_>) -> Result<(), Stop> {
     if cx.asked.how.dry_run {
         return Ok(note_promise_of(root)?);
     }
     finish_before(cx, root)
+}
+
+/// Finishes a run that was cut short, and returns the root's disk.
+///
+/// Errors: those of `begin_run`, as the failure of this run.
+pub fn disk_after_recovery<'a>(
+    cx: Context<'_>,
+    root: KeptRoot<'a>,
+) -> Result<RealDisk<'a>, Failure> {
+    let mut root = root;
+    let begun = begin_run(cx, &mut root);
+    disk_after(cx, root, begun)
+}
+
+fn recovered(cx: Context<'_>, root: &mut KeptRoot<'_>) -> Result<u8, Stop> {
+    if cx.asked.how.dry_run {
+        note_promise_of(root)?;
+    } else {
+        finish_promised(cx, root)?;
+    }
+    Ok(0)
+}
+
+/// Finishes a run that was cut short, and does nothing else.
+///
+/// Errors: `NoHistory` if the root has none; a history can't be read; the run can't be finished, or
+/// may not last.
+pub fn recover_root(cx: Context<'_>) -> Result<u8, Failure> {
+    match take(cx)? {
+        Taken::Plain(_) => Err(Failure::NoHistory),
+        Taken::Kept(root) => {
+            let mut root = root;
+            let ended = recovered(cx, &mut root);
+            end(cx, root, ended)
+        }
+    }
 }

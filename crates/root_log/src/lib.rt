@@ -1,12 +1,10 @@
-//! Questions about the history of a root: its log, one row, and which rows made what is there.
+//! Questions about the history of a root: its log, and one row.
 #![tactic(auto)]
 
 mod log;
-mod makers;
 mod show;
 mod shown_row;
 mod zone;
 
 pub use log::show_log;
-pub use makers::{MadeBy, look_at_root, makers_of};
 pub use show::show_row;

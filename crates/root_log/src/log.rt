@@ -4,11 +4,10 @@ use crate::shown_row::{ShownRow, lines_of_rows, words_of_call};
 use crate::zone::LocalZone;
 use history::{Operator, Row};
 use kept_log::{Filter, LogLine, RunPlace, changes_of, next_run, push_log, rows_of_log};
-use kept_runs::Kept;
 use kept_texts::Time;
-use root_access::{Done, Failure, name_of, print};
 use root_histories::{
-    Context, KeptRoot, Stop, Taken, end, note_promise_of, read_kept, take, variable,
+    Context, Done, Failure, Kept, KeptRoot, Stop, Taken, end, name_of, note_promise_of, print,
+    read_kept, take, variable,
 };
 use root_json::push_log_row;
 use root_words::LogAsked;

@@ -5,11 +5,10 @@ use crate::zone::LocalZone;
 use footprint::{Key, Observation};
 use history::UndoRefusal;
 use kept_log::run_of_row;
-use kept_runs::Kept;
 use link_tree::Scope;
-use root_access::{Done, Failure, print, shown_lines};
 use root_histories::{
-    Context, KeptRoot, Stop, Taken, end, note_promise_of, read_kept, shown, take,
+    Context, Done, Failure, Kept, KeptRoot, Stop, Taken, end, note_promise_of, print, read_kept,
+    shown, shown_lines, take,
 };
 use root_json::push_shown_row;
 use root_runs::push_shown;

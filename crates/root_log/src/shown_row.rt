@@ -3,8 +3,8 @@
 use crate::zone::LocalZone;
 use history::Row;
 use kept_log::call_lines;
-use kept_runs::Kept;
 use kept_texts::Run;
+use root_histories::Kept;
 use root_json::KeptCall;
 use root_runs::push_shown;
 use std::alloc::{AllocError, Global};

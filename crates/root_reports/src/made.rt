@@ -1,15 +1,12 @@
 //! Calls that are made on a root, or on a tree.
 
 use history::{History, MAX_ROWS, Operator, Request, Row};
-use link_tree::{Change, Tree, TreePath};
+use link_tree::{Change, Tree};
 use partial_runs::run_on_part;
 use real_roots::RealDisk;
-use root_access::{
-    Failure, capture_failure, captured_but_odd, captured_in, forbidden, make_tree, paths_of,
-    print_passed_over,
-};
+use root_access::{Failure, capture_failure, forbidden, make_tree};
 use root_runs::{Plan, first_of_vendor, has_refused, plan_of};
-use root_words::{Asked, How};
+use root_words::How;
 use std::alloc::{AllocError, Global};
 use tree_steps::changes_between;
 use unit_script::{Action, Call, history_of};
@@ -76,27 +73,6 @@ impl<'h> Made<'h> {
     pub fn make(&self, alloc: Global, disk: RealDisk<'_>) -> Result<(), Failure> {
         make_tree(alloc, disk, self.history.first(), self.history.tree())
     }
-}
-
-/// Captures all slots of a root, and the paths of `--with`.
-pub fn capture_for(alloc: Global, asked: &Asked, disk: &mut RealDisk<'_>) -> Result<Tree, Failure> {
-    let paths = paths_of(alloc, &asked.with)?;
-    captured_in(alloc, disk, &paths)
-}
-
-/// Captures all slots of a root, and these paths, but for what is odd there: of each such entry a
-/// warning is printed.
-pub fn capture_to_list(
-    rt: &HostRuntime,
-    asked: &Asked,
-    disk: RealDisk<'_>,
-    paths: &[TreePath],
-) -> Result<Tree, Failure> {
-    let (tree, warnings) = captured_but_odd(rt.alloc(), disk, paths)?;
-    if !asked.output.quiet {
-        print_passed_over(rt, &warnings, asked.output.json)?;
-    }
-    Ok(tree)
 }
 
 /// Makes calls on a tree, one after another.

@@ -205,7 +205,7 @@ pub(crate) const COMMANDS: [CommandRow; 29] = [
         Many(UNIT),
         ASK,
         "Prints the state of each unit file. The status is 0 if one of them is enabled,\n\
-         1 if none is, and 4 if none was found.",
+         1 if some exist and none is enabled, and 4 if none exists.",
         "Example:\n  unitroot --root=./image is-enabled ssh.service",
     ),
     CommandRow(

@@ -90,17 +90,18 @@ Accepted for compatibility, without effect:
 
 Exit status:
   0  done
-  1  failed, or the one call was refused: the root is unchanged; or diff found a
-     difference
+  1  failed, or the command was refused: the root is unchanged. Of diff: there
+     are differences. Of list-unit-files: no unit file is listed
   2  bad arguments
-  3  run, apply: a call was refused, and the root is unchanged, or with
-     --keep-going the other calls were made
+  3  run: a call was refused, and the root is unchanged, or with --keep-going
+     the other calls were made
   4  something else changed the root meanwhile: what was made was taken back
-  5  half of the changes are made: they could not be taken back. If there is a
-     history, the next run finishes them
+  5  half of the changes are made, and could not be taken back; or all are made,
+     or taken back, and that may not last. If there is a history, the next run
+     finishes them
   6  the changes are made, but standard output could not be written
-is-enabled: 0 if one of the units is enabled, 1 if all were found and none is,
-4 if none was found
+is-enabled: 0 if one of the units is enabled, 1 if some of them exist and none
+is enabled, 4 if none exists
 
 Examples:
   unitroot --root=./image enable ssh.service

@@ -1,7 +1,8 @@
 -- What errors mean, step by step.
 use Rattle.std.proofs.Common.{◌≡◌, ℕ, List, Option, Result, Ok, Err, subst, arith}
 use Rattle.std.specs.Prelude.{IfOk, IfErr}
-use Rattle.byte_streams.specs.Streams.{StopsIn}
+use Rattle.byte_streams.specs.Streams.{IsCalm, StopsIn}
+use Rattle.byte_streams.specs.declared.counters.Counters.{Counters}
 use Rattle.link_tree.specs.Reads.{SentBefore}
 use Rattle.link_tree.specs.declared.writing.WriteError.{WriteError}
 use Rattle.link_tree.specs.declared.writing.WriteError.TheVariants as writes
@@ -27,7 +28,7 @@ use Rattle.unit_script.specs.declared.run_fault.InputFault.TheVariants as inputs
 use Rattle.unit_script.specs.declared.run_fault.RunFault.TheVariants as runs
 use Rattle.session_script.specs.declared.fault.SessionsFault.{SessionsFault}
 use Rattle.session_script.specs.declared.fault.SessionsFault.TheVariants as faults
-use Rattle.session_script.specs.Served.{AreOfTooMany, InputFaultOf, ServeFault, SessionsFaultOf, fault_of}
+use Rattle.session_script.specs.Served.{AreOfTooMany, InputFaultOf, ServeFault, SessionsCause, SessionsFaultOf, fault_of}
 
 abbrev read_both : Entries → List Call → Result (Entries × List Call) InputFault
 read_both tree calls = Ok (tree, calls)
@@ -95,6 +96,20 @@ both_ok (Err e) p q f = tt
 pub if_err : {A E : Type 0} {P Q : E → Type 0} (r : Result A E) → IfErr r P → ((e : E) → P e → Q e) → IfErr r Q
 if_err (Ok x) p f = tt
 if_err (Err e) p f = f e p
+
+-- while calls are served, the source isn't read
+pub served_cause : (calls : List Call) (e : SessionsFault) (old new sink_old sink_new : Counters) → ServeFault calls e → IsCalm old new → SessionsCause e old new sink_old sink_new
+served_cause calls faults.TooManySessions old new sink_old sink_new why calm = calm
+served_cause calls faults.NoWorker old new sink_old sink_new why calm = calm
+served_cause calls (faults.Close fault) old new sink_old sink_new why calm = calm
+served_cause calls (faults.Run runs.Full) old new sink_old sink_new why calm = calm
+served_cause calls (faults.Run runs.OutOfMemory) old new sink_old sink_new why calm = tt
+served_cause calls (faults.Run (runs.Inventory fault n)) old new sink_old sink_new why calm = absurd why
+served_cause calls (faults.Run runs.NoCalls) old new sink_old sink_new why calm = absurd why
+served_cause calls (faults.Run (runs.BadCall line reason)) old new sink_old sink_new why calm = absurd why
+served_cause calls (faults.Run (runs.WriteFault n)) old new sink_old sink_new why calm = absurd why
+served_cause calls (faults.Run (runs.InventoryRead n)) old new sink_old sink_new why calm = absurd why
+served_cause calls (faults.Run runs.ReadFault) old new sink_old sink_new why calm = absurd why
 
 -- what a write fault means for the text
 pub sent_before : (r : Result (Unit {0}) WriteError) (n : ℕ) (old new : Option (List ℕ)) (text : List ℕ) → r ≡ Err (writes.Fault n) → IfErr r (λ e. SentBefore e old new text) → StopsIn old new text n

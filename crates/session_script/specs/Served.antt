@@ -3,7 +3,7 @@ use Rattle.std.specs.Prelude.{◌≡◌, ℕ, ◌<◌, List, [], ◌∷◌, leng
 use Rattle.std.specs.List.{IsDistinct}
 use Rattle.std.specs.Str.{bytes_eq}
 use Rattle.std.specs.Io.KnownBytes.{Appends, Keeps}
-use Rattle.byte_streams.specs.Streams.{StopsIn}
+use Rattle.byte_streams.specs.Streams.{IsCalm, StopsIn}
 use Rattle.byte_streams.specs.declared.counters.Counters.{Counters}
 use Rattle.link_tree.specs.Trees.{Entries}
 use Rattle.history.specs.Logs.{Log}
@@ -93,10 +93,11 @@ abbrev pub SessionsStops : SessionsFault → (old new : Option (List ℕ)) → T
 SessionsStops (faults.Run fault) old new = RunStops fault old new
 SessionsStops other old new = Unit {0}
 
--- A read or write fault occurs only if the source or sink failed, or was interrupted too often.
+-- A read or write fault occurs only if the source or sink failed, or was interrupted too often. With
+-- a fault that is reported after the whole input was read, the source didn't fail.
 abbrev pub SessionsCause : SessionsFault → (source_old source_new sink_old sink_new : Counters) → Type 0
 SessionsCause (faults.Run fault) source_old source_new sink_old sink_new = FaultCause fault source_old source_new sink_old sink_new
-SessionsCause other source_old source_new sink_old sink_new = Unit {0}
+SessionsCause other source_old source_new sink_old sink_new = IsCalm source_old source_new
 
 -- for the proofs: what an error means for the calls, after they were read
 abbrev pub ServeFault : List Call → SessionsFault → Type 0

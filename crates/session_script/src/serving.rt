@@ -1,6 +1,7 @@
 //! A run with sessions: from an inventory and a script to the replies and the resulting inventory.
 ghost use Rattle.std.specs.Prelude.{◌≡◌, ℕ, List, Option, Some, true, OnOk, IfOk, IfErr};
 ghost use Rattle.std.specs.Io.KnownBytes.{Appends, Keeps};
+ghost use Rattle.byte_streams.specs.Streams.{IsCalm};
 ghost use Rattle.byte_streams.specs.declared.counters.Counters.{Counters};
 ghost use Rattle.unit_script.specs.Runs.{input_of};
 ghost use Rattle.session_script.specs.Served.{AreServed, HasServed, InputFaultOf, IsServedHistory, IsSilent, ServeFault, SessionsCause, SessionsFaultOf, SessionsStops, asks_of, fault_of};
@@ -87,6 +88,7 @@ fn serve_input<R: Threads + Wait + Sync, S: Source>(
     ensures served { IfOk result (λ history. (input : List ℕ) → S.left source.old ≡ Some input → IsServedHistory (input_of input) history) }
     ensures fault { IfErr result (λ e. (input : List ℕ) → S.left source.old ≡ Some input → InputFaultOf e (input_of input)) }
     ensures stops { IfErr result (λ e. SessionsStops e (S.left source.old) (S.left source.new)) }
+    ensures calm { OnOk result (IsCalm (S.counters source.old) (S.counters source.new)) }
     ensures cause { IfErr result (λ e. (old new : Counters) → SessionsCause e (S.counters source.old) (S.counters source.new) old new) }
 {
     match read_input(alloc, source) {
@@ -131,6 +133,7 @@ where
     ensures fault { IfErr result (λ e. (input : List ℕ) → S.left source.old ≡ Some input → SessionsFaultOf e (K.written sink.old) (K.written sink.new) (input_of input)) }
     ensures silent { IfErr result (λ e. IsSilent e (K.written sink.old) (K.written sink.new)) }
     ensures stops { IfErr result (λ e. SessionsStops e (S.left source.old) (S.left source.new)) }
+    ensures calm { OnOk result (IsCalm (S.counters source.old) (S.counters source.new)) }
     ensures cause { IfErr result (λ e. SessionsCause e (S.counters source.old) (S.counters source.new) (K.counters sink.old) (K.counters sink.new)) }
 {
     let history = serve_input(rt, alloc, source)?;

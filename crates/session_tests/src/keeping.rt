@@ -215,7 +215,10 @@ fn push_call(
     out: &mut Vec<u8>,
 ) -> Result<(), AllocError> {
     let seen = AtomicU64::new(0);
-    let gate = Watcher { seen: &seen };
+    let gate = Watcher {
+        name: b"alice",
+        seen: &seen,
+    };
     let before = seen_before(rt, alloc, session, admin)?;
     if let Err(left) = session.call(rt, alloc, admin, &gate, request(alloc, word)?) {
         push_unserved(alloc, &left, word, out)?;

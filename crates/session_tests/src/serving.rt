@@ -6,7 +6,7 @@ use crate::scripts::{Open, operators};
 use history::{CallError, MAX_ROWS, Operator, Request};
 use link_tree::{Tree, push_decimal};
 use sample_rows::{Row, unlike};
-use sample_steps::{Step, is, number, operator, push_numbered, push_reply, request, step};
+use sample_steps::{Step, is, number, operator, parts, push_numbered, push_reply, request, step};
 use sessions::{Gate, Session, Unserved};
 use shared_admin::{LogEntry, SessionLogs, SharedAdmin};
 use std::alloc::{AllocError, Global};
@@ -22,7 +22,7 @@ use unit_name::ample;
 /// bob meddles with each plan of hers; after the requests of a script, with two digits for each
 /// call of the gate, which are the request and the attempt; after requests of which some find the
 /// history full; or if she had seen this many rows before she put a file at the slot of a and undid
-/// that.
+/// that. And the digits for her calls and for bob's, if their sessions are called in turn.
 const ROWS: &[u8] = b"\
     # answers to no job, to one of another operator's, and for the second time aren't taken\n\
     desk\tissue:bob issue:alice open answer:0:bob answer:3:bob answer:1:alice answer:1:bob open \
@@ -60,6 +60,9 @@ const ROWS: &[u8] = b"\
     # the gate is called once for an undo and for a redo, also for one that is refused\n\
     gated\tput:a undo:1 redo:1\t\trow:3:seen:2:redid:1 gate:112131\n\
     gated\tput:a undo:1 look:a redo:1\t\trow:4:seen:3:hindered:3 gate:11213141\n\
+    # each session counts its own calls from 1 on, also if calls of the other come between them\n\
+    in turn\talice:put:a bob:put:b bob:undo:2 alice:undo:1 bob:redo:2 alice:look:a alice:undo:9\t\t\
+        alice:11213141 bob:112131\n\
     # limited: the history may have only this many rows; a request that finds it full comes back,\n\
     # and the session stays as it was\n\
     limited\tput:a undo:1 redo:1 put:b\t2\t\
@@ -103,15 +106,16 @@ struct Meddler<'a, R: Wait> {
 }
 
 /// Notes each call of the gate, in two digits: the session's call and the attempt; or 99 if it
-/// isn't alice's.
+/// isn't the call of the operator of this name.
 #[derive(Drop)]
 pub(crate) struct Watcher<'a> {
+    pub(crate) name: &'a [u8],
     pub(crate) seen: &'a AtomicU64,
 }
 
 impl<'a> Gate for Watcher<'a> {
     fn between(&self, operator: Operator, call: u64, attempt: u8) {
-        let digits = if is(operator.text(), b"alice") {
+        let digits = if is(operator.text(), self.name) {
             call.wrapping_mul(10).wrapping_add(u64::from(attempt))
         } else {
             99
@@ -235,21 +239,25 @@ fn call_watched(
     alloc: Global,
     session: &mut Session<Step>,
     admin: &SharedAdmin<Step>,
-    seen: &AtomicU64,
+    gate: &Watcher<'_>,
     word: &[u8],
     out: &mut Vec<u8>,
 ) -> Result<(), AllocError> {
-    let gate = Watcher { seen };
-    let noted = seen.load(Ordering::SeqCst);
+    let noted = gate.seen.load(Ordering::SeqCst);
     let before = counts(rt, admin, session)?;
-    if call(rt, alloc, session, admin, &gate, word).is_ok() {
+    if call(rt, alloc, session, admin, gate, word).is_ok() {
         return Ok(());
     }
     if counts(rt, admin, session)? != before {
         return out.extend_from_slice(b"changed ");
     }
-    seen.store(noted, Ordering::SeqCst);
-    call(rt, alloc, session, admin, &gate, word)
+    gate.seen.store(noted, Ordering::SeqCst);
+    call(rt, alloc, session, admin, gate, word)
+}
+
+/// Adds what a gate has noted.
+fn push_noted(out: &mut Vec<u8>, seen: &AtomicU64) -> Result<(), AllocError> {
+    push_decimal(out, seen.load(Ordering::SeqCst) as usize)
 }
 
 /// Adds what the last entry of alice's says after the requests of a script, and the calls of the
@@ -262,13 +270,63 @@ fn push_gated(
 ) -> Result<(), AllocError> {
     let admin = shared(alloc, b"alice")?;
     let seen = AtomicU64::new(0);
+    let gate = Watcher {
+        name: b"alice",
+        seen: &seen,
+    };
     let mut session = opened(alloc, b"alice")?;
     for word in script.split(|b| *b == b' ') {
-        call_watched(rt, alloc, &mut session, &admin, &seen, word, out)?;
+        call_watched(rt, alloc, &mut session, &admin, &gate, word, out)?;
     }
     push_last(out, &session)?;
     out.extend_from_slice(b" gate:")?;
-    push_decimal(out, seen.load(Ordering::SeqCst) as usize)
+    push_noted(out, &seen)
+}
+
+/// Makes the calls of a script in alice's session and in bob's, each with a gate of its own.
+fn call_in_turn(
+    rt: &impl Wait,
+    alloc: Global,
+    script: &[u8],
+    (of_alice, of_bob): (&Watcher<'_>, &Watcher<'_>),
+    out: &mut Vec<u8>,
+) -> Result<(), AllocError> {
+    let admin = shared(alloc, b"alice bob")?;
+    let mut alice = opened(alloc, of_alice.name)?;
+    let mut bob = opened(alloc, of_bob.name)?;
+    for word in script.split(|b| *b == b' ') {
+        let (name, rest) = parts(word);
+        if is(name, of_alice.name) {
+            call_watched(rt, alloc, &mut alice, &admin, of_alice, rest, out)?;
+        } else {
+            call_watched(rt, alloc, &mut bob, &admin, of_bob, rest, out)?;
+        }
+    }
+    Ok(())
+}
+
+/// Adds the calls of the gates of alice's session and of bob's, which are called in turn.
+fn push_in_turn(
+    rt: &impl Wait,
+    alloc: Global,
+    script: &[u8],
+    out: &mut Vec<u8>,
+) -> Result<(), AllocError> {
+    let by_alice = AtomicU64::new(0);
+    let by_bob = AtomicU64::new(0);
+    let of_alice = Watcher {
+        name: b"alice",
+        seen: &by_alice,
+    };
+    let of_bob = Watcher {
+        name: b"bob",
+        seen: &by_bob,
+    };
+    call_in_turn(rt, alloc, script, (&of_alice, &of_bob), out)?;
+    out.extend_from_slice(b"alice:")?;
+    push_noted(out, &by_alice)?;
+    out.extend_from_slice(b" bob:")?;
+    push_noted(out, &by_bob)
 }
 
 /// Adds `full`, if a request found the history so and came back. Fails if memory ran out.
@@ -381,6 +439,9 @@ fn push_answer(
     }
     if is(&row.kind, b"gated") {
         return push_gated(rt, alloc, &row.one, out);
+    }
+    if is(&row.kind, b"in turn") {
+        return push_in_turn(rt, alloc, &row.one, out);
     }
     if is(&row.kind, b"limited") {
         return push_limited(rt, alloc, &row.one, number(&row.two) as usize, out);

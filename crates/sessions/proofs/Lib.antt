@@ -5,3 +5,4 @@ mod Firsts
 mod Feeds
 mod Reasons
 mod Countable
+mod LogOrders

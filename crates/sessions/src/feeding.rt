@@ -1,9 +1,10 @@
 //! Requests that are passed to sessions one by one, each session in a thread of its own.
-ghost use Rattle.std.specs.Prelude.{◌≡◌, ◌+◌, ◌<◌, ◌≤◌, ◌++◌, ◌∷◌, [], true, false, IsTrue, Some, IfOk, IfErr, length, slice_get, vec_len};
+ghost use Rattle.std.specs.Prelude.{◌≡◌, ◌+◌, ◌-◌, ◌<◌, ◌≤◌, ◌++◌, ◌∷◌, [], true, false, IsTrue, Some, IfOk, IfErr, length, slice_get, take, vec_len};
 ghost use Rattle.history.specs.Rows.{run, calls_of};
 ghost use Rattle.shared_admin.specs.Sharing.{MayShare};
 ghost use Rattle.sessions.specs.Fed.{AreOf, HasFed, IsAnswerOf, jobs_of};
 ghost use Rattle.sessions.specs.Faults.{IsRunError, IfUnclosed, IsUnfedBySome};
+ghost use Rattle.sessions.specs.Runs.{AreInOrder};
 
 use crate::asks::Asks;
 use crate::checking::{Fed, close_fed};
@@ -20,15 +21,15 @@ use shared_admin::{MAX_SESSIONS, Operators, SessionLog, SessionLogs, SharedAdmin
 use std::alloc::{AllocError, Global};
 use std::sync::Wait;
 use std::thread;
-use std::thread::{Scope, Threads};
+use std::thread::{Promise, Scope, Threads};
 
 /// How many jobs may be queued for a worker.
 const WAITING: usize = 16;
 
 /// Passes requests to sessions on a tree, and closes the run. Each session has a thread of its own,
 /// which serves the requests of one operator as they arrive. Afterwards the rows of each operator
-/// are exactly its requests, in order, and each log matches them. Each request is of one of the
-/// operators.
+/// are exactly its requests, in order, and each log matches them; the logs are in the order of the
+/// operators. Each request is of one of the operators.
 ///
 /// The gate is called by all threads. [`RunError`] lists the errors in the order in which they are
 /// reported; of the workers' errors, the first in that order is reported. If the logs match the
@@ -54,6 +55,7 @@ where
     G: Gate + Sync,
     requires { AreOf operators asks }
     ensures fed { IfOk result (λ r. HasFed tree operators asks r.0 r.1) }
+    ensures order { IfOk result (λ r. AreInOrder operators r.1) }
     ensures legal { IfOk result (λ r. r.0.rows ≡ run O.asks O.meaning r.0.first [] (calls_of r.0.rows)) }
     ensures why { IfErr result (λ why. IsRunError operators why) }
     ensures unclosed { IfErr result (λ why. IfUnclosed why (IsUnfedBySome O.asks O.meaning tree operators asks)) }
@@ -82,6 +84,7 @@ where
     requires asks { AreOf operators.now asks }
     requires share { MayShare admin.operators }
     ensures fed { IfOk result (λ r. HasFed admin.first admin.operators asks r.0 r.1) }
+    ensures order { IfOk result (λ r. AreInOrder operators.now r.1) }
     ensures legal { IfOk result (λ r. r.0.rows ≡ run O.asks O.meaning r.0.first [] (calls_of r.0.rows)) }
     ensures why { IfErr result (λ why. IsRunError admin.operators why) }
     ensures unclosed { IfErr result (λ why. IfUnclosed why (IsUnfedBySome O.asks O.meaning admin.first admin.operators asks)) }
@@ -94,6 +97,7 @@ where
     }
 }
 
+#[tactic(auto, using(crate::proofs::LogOrders::in_order_from_none))]
 fn feed_in_threads<O, R, G>(
     rt: &R,
     alloc: Global,
@@ -107,6 +111,7 @@ where
     R: Threads + Wait + Sync,
     G: Gate + Sync,
     requires { AreOf operators.now asks }
+    ensures { IfOk result (λ fed. AreInOrder operators.now fed.logs) }
 {
     let feed = Feed {
         asks,
@@ -116,7 +121,8 @@ where
         thread::scope_env(),
         rt,
         |scope| -> Result<Fed<O>, WorkFault>
-            requires { AreOf operators.now feed.asks × (vec_len feed.to ≤ length operators.now) }
+            requires { AreOf operators.now feed.asks × (vec_len feed.to ≡ 0) }
+            ensures { IfOk result (λ fed. AreInOrder operators.entry.now fed.logs) }
         { feed_workers(scope, rt, alloc, admin, gate, operators, feed) },
     )
 }
@@ -129,9 +135,22 @@ struct Feed<O> {
     to: Vec<Sender<Job<O>>>,
 }
 
+/// What a worker promises to return: the log of a session of this operator.
+#[derive(Drop)]
+struct ServesOperator {
+    operator: Operator,
+}
+
+impl<O> Promise<Result<Served<O>, CallError>> for ServesOperator {
+    ghost use Rattle.std.specs.Prelude.{◌≡◌, IfOk};
+
+    ghost kept_by = { λ promise r. IfOk r (λ served. served.log.operator ≡ promise.operator) };
+}
+
 /// Starts a worker for each operator that has none yet, the last first; passes them all their
 /// requests; and joins those that it started, even if others fail. A worker ends when the sending
-/// end of its channel is dropped.
+/// end of its channel is dropped. The logs of these operators are in the operators' order.
+#[tactic(auto, using(crate::proofs::LogOrders::in_order_at_last))]
 fn feed_workers<'s, E, O, R, G>(
     scope: &'s Scope<'s, E>,
     rt: &'s R,
@@ -147,6 +166,7 @@ where
     G: Gate + Sync,
     requires asks { AreOf operators.now feed.asks }
     requires workers { vec_len feed.to ≤ length operators.now }
+    ensures { IfOk result (λ fed. AreInOrder (take (length operators.now - vec_len feed.to) operators.now) fed.logs) }
 {
     let left = operators.len() - feed.to.len();
     if left == 0 {
@@ -154,14 +174,15 @@ where
     }
     let operator = operators[left - 1];
     let (to, from) = bounded(alloc, WAITING)?;
-    let worker = scope.spawn(move || serve_jobs(rt, alloc, admin, gate, operator, from));
+    let feed = with_end(feed, to)?;
+    let worker = scope.spawn_with(
+        ServesOperator { operator },
+        move || serve_jobs(rt, alloc, admin, gate, operator, from),
+    );
     let Ok(worker) = worker else {
         return Err(WorkFault::NoWorker);
     };
-    let fed = match with_end(feed, to) {
-        Ok(feed) => feed_workers(scope, rt, alloc, admin, gate, operators, feed),
-        Err(AllocError) => Err(WorkFault::OutOfMemory),
-    };
+    let fed = feed_workers(scope, rt, alloc, admin, gate, operators, feed);
     let served = worker.join(rt);
     let (fed, served) = both(fed, served)?;
     Ok(with_served(fed, served)?)
@@ -187,7 +208,8 @@ fn feed_all<O: Operation, R: Wait>(
 ) -> Result<Fed<O>, WorkFault>
     requires asks { AreOf operators.now feed.asks }
     requires workers { vec_len feed.to ≡ length operators.now }
-    ensures { IfOk result (λ fed. fed.desk.is_shut ≡ true → fed.desk.issued ≡ jobs_of feed.asks) }
+    ensures issued { IfOk result (λ fed. fed.desk.is_shut ≡ true → fed.desk.issued ≡ jobs_of feed.asks) }
+    ensures logs { IfOk result (λ fed. fed.logs ≡ []) }
 {
     let Feed { asks, to } = feed;
     let mut desk = Desk::new(alloc);
@@ -210,7 +232,8 @@ fn feed_all<O: Operation, R: Wait>(
 
 /// What remains before the workers are joined.
 fn unserved<O: Operation>(alloc: Global, desk: Desk) -> Fed<O>
-    ensures { result.desk ≡ desk }
+    ensures desk { result.desk ≡ desk }
+    ensures logs { result.logs ≡ [] }
 {
     Fed {
         desk,
@@ -258,7 +281,9 @@ fn serve_jobs<O: Operation, R: Wait, G: Gate>(
     gate: &G,
     operator: Operator,
     jobs: Receiver<Job<O>>,
-) -> Result<Served<O>, CallError> {
+) -> Result<Served<O>, CallError>
+    ensures { IfOk result (λ served. served.log.operator ≡ operator) }
+{
     let mut session = Session::open(alloc, operator);
     let mut answers = Vec::new(alloc);
     for job in jobs.iter(rt) {

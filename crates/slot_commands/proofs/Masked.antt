@@ -43,10 +43,10 @@ FillsEmptyPaths t paths (Some path) = followed mask_at paths t ≡ Err (Exists p
 FillsEmptyPaths t paths None = (u : Entries) × (followed mask_at paths t ≡ Ok u) × ((path : List ℕ) → map.get u path ≡ masked t paths path)
 
 -- what unmask leaves at a path
-abbrev left : List ℕ → Option Entry → Option Entry
+abbrev pub left : List ℕ → Option Entry → Option Entry
 left path there = cond (has_mask path there) None there
 
-unmask_left : (path : List ℕ) (there : Option Entry) → unmask_at path there ≡ Ok (left path there)
+pub unmask_left : (path : List ℕ) (there : Option Entry) → unmask_at path there ≡ Ok (left path there)
 unmask_left path None = refl
 unmask_left path (Some entry) = elim (is_mask path entry) as (λ b. cond {A = Result (Option Entry) Refusal} b (Ok None) (Ok (Some entry)) ≡ Ok (cond b None (Some entry))) [ true ↦ refl | false ↦ refl ]
 
@@ -84,21 +84,21 @@ unfolding is_null_target is_path merged walked with_part is_part start_of begins
 null_link path = refl
 
 -- what mask leaves at a path if nothing is in the way
-abbrev filled : Option Entry → Option Entry
+abbrev pub filled : Option Entry → Option Entry
 filled None = Some mask_link
 filled (Some entry) = Some entry
 
-abbrev obstructs : List ℕ → Option Entry → Bool
+abbrev pub obstructs : List ℕ → Option Entry → Bool
 obstructs path there = option_map_or (λ entry. not (is_null_link path entry)) there false
 
-mask_filled : (path : List ℕ) (there : Option Entry) → obstructs path there ≡ false → mask_at path there ≡ Ok (filled there)
+pub mask_filled : (path : List ℕ) (there : Option Entry) → obstructs path there ≡ false → mask_at path there ≡ Ok (filled there)
 mask_filled path None free = refl
 mask_filled path (Some entry) free = elim (cases_Bool (is_null_link path entry)) [
   | inl mask ↦ rw mask refl
   | inr other ↦ absurd (false≢true (sym free ∙ ap not other))
 ]
 
-mask_refused : (path : List ℕ) (there : Option Entry) → obstructs path there ≡ true → mask_at path there ≡ Err (Exists path)
+pub mask_refused : (path : List ℕ) (there : Option Entry) → obstructs path there ≡ true → mask_at path there ≡ Err (Exists path)
 mask_refused path None h = absurd (false≢true h)
 mask_refused path (Some entry) h = rw (not-true (is_null_link path entry) h) refl
 
@@ -109,36 +109,37 @@ filled_free path (Some entry) free = free
 followed-err : (rule : List ℕ → Option Entry → Result (Option Entry) Refusal) (p : List ℕ) (ps : List (List ℕ)) (t : Entries) (refusal : Refusal) → rule p (map.get t p) ≡ Err refusal → followed rule (p ∷ ps) t ≡ Err refusal
 followed-err rule p ps t refusal h = ap (λ ruled. goes_on (followed rule ps) (left_by (ruled_at p ruled) t)) h
 
-module _ (t : Entries) (p : List ℕ) (ps : List (List ℕ)) (free : obstructs p (map.get t p) ≡ false) where
-  abbrev next : Entries
+module _ (t : Entries) (p : List ℕ) (free : obstructs p (map.get t p) ≡ false) where
+  abbrev pub next : Entries
   next = set_entry t p (filled (map.get t p))
 
-  -- at the rest of the paths, the same entries are in the way as before
-  alike : (q : List ℕ) → is_in_the_way next q ≡ is_in_the_way t q
+  -- at all paths, the same entries are in the way as before
+  pub alike : (q : List ℕ) → is_in_the_way next q ≡ is_in_the_way t q
   alike q = ap (obstructs q) (get-set t p (filled (map.get t p)) q) ∙ elim (cases_Bool (bytes_eq q p)) [
     | inl here ↦ rw here (subst (λ k. obstructs k (filled (map.get t p)) ≡ obstructs k (map.get t k)) (sym (same_bytes q p here)) (filled_free p (map.get t p) free ∙ sym free))
     | inr away ↦ rw away refl
   ]
 
-  masked-next : (q : List ℕ) → masked next ps q ≡ masked t (p ∷ ps) q
-  masked-next q = ap (λ there. cond (list_any (bytes_eq q) ps && is_none there) (Some mask_link) there) (get-set t p (filled (map.get t p)) q) ∙ elim (cases_Bool (bytes_eq q p)) [
-    | inl here ↦ rw here (subst (λ k. cond (list_any (bytes_eq q) ps && is_none (filled (map.get t k))) (Some mask_link) (filled (map.get t k)) ≡ cond (is_none (map.get t q)) (Some mask_link) (map.get t q)) (same_bytes q p here) (settled (list_any (bytes_eq q) ps) (map.get t q)))
-    | inr away ↦ rw away refl
-  ]
-    where
-      settled : (b : Bool) (o : Option Entry) → cond (b && is_none (filled o)) (Some mask_link) (filled o) ≡ cond (is_none o) (Some mask_link) o
-      settled b None = and_off b (Some mask_link) (Some mask_link)
-      settled b (Some entry) = and_off b (Some mask_link) (Some entry)
+  module _ (ps : List (List ℕ)) where
+    masked-next : (q : List ℕ) → masked next ps q ≡ masked t (p ∷ ps) q
+    masked-next q = ap (λ there. cond (list_any (bytes_eq q) ps && is_none there) (Some mask_link) there) (get-set t p (filled (map.get t p)) q) ∙ elim (cases_Bool (bytes_eq q p)) [
+      | inl here ↦ rw here (subst (λ k. cond (list_any (bytes_eq q) ps && is_none (filled (map.get t k))) (Some mask_link) (filled (map.get t k)) ≡ cond (is_none (map.get t q)) (Some mask_link) (map.get t q)) (same_bytes q p here) (settled (list_any (bytes_eq q) ps) (map.get t q)))
+      | inr away ↦ rw away refl
+    ]
+      where
+        settled : (b : Bool) (o : Option Entry) → cond (b && is_none (filled o)) (Some mask_link) (filled o) ≡ cond (is_none o) (Some mask_link) o
+        settled b None = and_off b (Some mask_link) (Some mask_link)
+        settled b (Some entry) = and_off b (Some mask_link) (Some entry)
 
-  later : (found : Option (List ℕ)) → FillsEmptyPaths next ps found → FillsEmptyPaths t (p ∷ ps) found
-  later (Some path) rest = followed-ok mask_at p ps t (filled (map.get t p)) (mask_filled p (map.get t p) free) ∙ rest
-  later None rest = (rest.0, followed-ok mask_at p ps t (filled (map.get t p)) (mask_filled p (map.get t p) free) ∙ rest.1, λ q. rest.2 q ∙ masked-next q)
+    later : (found : Option (List ℕ)) → FillsEmptyPaths next ps found → FillsEmptyPaths t (p ∷ ps) found
+    later (Some path) rest = followed-ok mask_at p ps t (filled (map.get t p)) (mask_filled p (map.get t p) free) ∙ rest
+    later None rest = (rest.0, followed-ok mask_at p ps t (filled (map.get t p)) (mask_filled p (map.get t p) free) ∙ rest.1, λ q. rest.2 q ∙ masked-next q)
 
 fills : (t : Entries) (paths : List (List ℕ)) → FillsEmptyPaths t paths (find (is_in_the_way t) paths)
 fills t [] = (t, refl, λ q. refl)
 fills t (p ∷ ps) = elim (cases_Bool (is_in_the_way t p)) [
   | inl here ↦ rw here (followed-err mask_at p ps t (Exists p) (mask_refused p (map.get t p) here))
-  | inr free ↦ rw free (subst (λ (way : List ℕ → Bool). FillsEmptyPaths t (p ∷ ps) (find way ps)) (λ i q. alike t p ps free q i) (later t p ps free _ (fills (next t p ps free) ps)))
+  | inr free ↦ rw free (subst (λ (way : List ℕ → Bool). FillsEmptyPaths t (p ∷ ps) (find way ps)) (λ i q. alike t p free q i) (later t p free ps _ (fills (next t p free) ps)))
 ]
 
 pub unmask_empties : UnmaskEmpties

@@ -1,3 +1,4 @@
+mod faults;
 mod interruptions;
 mod lines;
 mod writes;

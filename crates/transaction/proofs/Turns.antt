@@ -59,9 +59,12 @@ turns_look step (a ∷ rest) t =
     ap (λ keys. (step a).keys t ++ keys)
     ((λ i. looked_on (λ u. turns_look step rest u i) (placed_by ((step a).conclusion t) t)) ∙ then_looked ((step a).conclusion t) (each_in_turn step rest).keys t)
 
--- The invariant of a loop: from the tree as it is now, the remaining arguments lead to what all of
--- them lead to from the first tree, and what they look at is added to what was looked at so far.
+-- How far a function has come that is given a transaction: from the state as it is now, the rest of
+-- a run leads to what the whole of it leads to from the first state, and what the rest looks at is
+-- added to what was looked at so far.
+abbrev pub Goes : {X : Type 0} → (rest whole : Run X) → (old now : Transacted) → Type 0
+Goes rest whole old now = (rest.conclusion now.tree ≡ whole.conclusion old.tree) × (now.keys ++ rest.keys now.tree ≡ old.keys ++ whole.keys old.tree) × (now.first ≡ old.first)
+
+-- The invariant of a loop over the arguments of steps in turn.
 abbrev pub GoesOn : {A : Type 0} → (A → Step) → (rest args : List A) → (old now : Transacted) → Type 0
-GoesOn step rest args old now =
-    ((turns step rest).conclusion now.tree ≡ (taking (each_in_turn step args)).conclusion old.tree)
-    × (now.keys ++ (turns step rest).keys now.tree ≡ old.keys ++ (taking (each_in_turn step args)).keys old.tree) × (now.first ≡ old.first)
+GoesOn step rest args old now = Goes (turns step rest) (taking (each_in_turn step args)) old now

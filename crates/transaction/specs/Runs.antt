@@ -1,12 +1,13 @@
 -- What the functions do that are given a transaction.
-use Rattle.std.specs.Prelude.{◌≡◌, ℕ, List, ◌++◌, Option, Result, Ok, Err}
+use Rattle.std.specs.Prelude.{◌≡◌, ℕ, List, [], ◌++◌, Option, Result, Ok, Err}
 use Rattle.std.specs.FinMap as map
-use Rattle.unit_file.specs.Notices.{NoticeMap}
+use Rattle.unit_file.specs.Notices.{NoticeMap, joined}
 use Rattle.link_tree.specs.Trees.{Entries, set_entry}
 use Rattle.link_tree.specs.declared.entry.Entry.{Entry}
 use Rattle.footprint.specs.declared.key.Key.{Key}
 use Rattle.footprint.specs.declared.outcome.Outcome.{Outcome}
 use Rattle.footprint.specs.declared.refusal.Refusal.{Refusal}
+use Rattle.footprint.specs.Commands.{Command}
 use Rattle.footprint.specs.Edits.{ended}
 use Rattle.footprint.specs.Inquiry.{Inquiry}
 use Rattle.footprint.specs.Placing.{Ruling, placed_in}
@@ -42,6 +43,48 @@ asking_for q = record { conclusion = λ t. with_tree t (q.conclusion t); keys = 
 -- a step leaves the tree with what it places
 abbrev pub taking : Step → Run (Unit {0})
 taking step = record { conclusion = λ t. placed_by (step.conclusion t) t; keys = step.keys }
+
+-- these notices with the tree that a ruling leaves, or the refusal
+abbrev pub reported_by : NoticeMap → Ruling → Entries → Result (NoticeMap × Entries) Refusal
+reported_by notices (Ok placed) t = Ok (notices, placed_in placed t)
+reported_by notices (Err refusal) t = Err refusal
+
+-- a command reports its notices, and leaves the tree with what its step places
+abbrev pub doing : Command → Run NoticeMap
+doing command = record {
+  conclusion = λ t. reported_by (command.conclusion t).0 ((command.conclusion t).1.conclusion t) t;
+  keys = λ t. command.keys t ++ (command.conclusion t).1.keys t;
+}
+
+-- What follows a run in the tree that it leaves, given its value; nothing follows a refusal.
+abbrev pub concluded_after : {X Y : Type 0} → (X → Run Y) → Result (X × Entries) Refusal → Result (Y × Entries) Refusal
+concluded_after next (Ok done) = (next done.0).conclusion done.1
+concluded_after next (Err refusal) = Err refusal
+
+abbrev pub keys_after : {X Y : Type 0} → (X → Run Y) → Result (X × Entries) Refusal → List Key
+keys_after next (Ok done) = (next done.0).keys done.1
+keys_after next (Err refusal) = []
+
+-- a run, and then another; if either is refused, both are
+abbrev pub and_then : {X Y : Type 0} → Run X → (X → Run Y) → Run Y
+and_then run next = record {
+  conclusion = λ t. concluded_after next (run.conclusion t);
+  keys = λ t. run.keys t ++ keys_after next (run.conclusion t);
+}
+
+-- notices of an earlier run with those of this one, or its refusal
+abbrev pub reported_too : NoticeMap → Result (NoticeMap × Entries) Refusal → Result (NoticeMap × Entries) Refusal
+reported_too notices (Ok done) = Ok (joined notices done.0, done.1)
+reported_too notices (Err refusal) = Err refusal
+
+-- a run that reports these notices, too
+abbrev pub reporting_too : NoticeMap → Run NoticeMap → Run NoticeMap
+reporting_too notices run = record { conclusion = λ t. reported_too notices (run.conclusion t); keys = run.keys }
+
+-- Two commands in one transaction: the second begins with the tree that the first leaves, and the
+-- notices of both are reported.
+abbrev pub doing_both : (first second : Command) → Run NoticeMap
+doing_both first second = and_then (doing first) (λ notices. reporting_too notices (doing second))
 
 -- The contract of functions that are given a transaction, from its state before to its state
 -- afterwards: with this result, they did what the run says. If memory ran out, only the first tree

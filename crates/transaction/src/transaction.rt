@@ -3,15 +3,19 @@ ghost use Rattle.std.specs.Prelude.{◌≡◌, ◌++◌, [], true, Ok, All, map 
 ghost use Rattle.unit_paths.specs.Slots.{is_slot};
 ghost use Rattle.load_path.specs.Find.{find};
 ghost use Rattle.load_path.specs.Follow.{follow};
-ghost use Rattle.footprint.specs.declared.key.Key.TheVariants.{Cell, Marked};
-ghost use Rattle.footprint.specs.Inquiry.{by_cells, entries_seen, giving, stands_at};
+ghost use Rattle.footprint.specs.declared.key.Key.TheVariants.{Cell, Marked, Presets};
+ghost use Rattle.footprint.specs.Inquiry.{by_cells, entries_of_all, entries_seen, giving, stands_at};
+ghost use Rattle.footprint.specs.Keys.{StandAtSlots};
 ghost use Rattle.footprint.specs.Readings.{reading_of};
+ghost use Rattle.footprint.specs.Steps.{all_at_once};
 ghost use Rattle.footprint.specs.Units.{found_unit};
 ghost use Rattle.transaction.specs.Seen.{tree_of, StartsAt};
-ghost use Rattle.transaction.specs.Runs.{asking, asking_for, put, silently, Runs, Closes};
+ghost use Rattle.transaction.specs.Runs.{asking, asking_for, put, silently, taking, Runs, Closes};
 
 use crate::stop::Stop;
-use footprint::{Answer, Changes, Edit, Key, Keys, Notices, Outcome, Reading, Refusal, Subject};
+use footprint::{
+    Answer, Changes, Edit, Key, Keys, Notices, Outcome, Reading, Refusal, Subject, WantedLinks,
+};
 use link_tree::{Entry, Scope, Tree, TreePart, TreePath};
 use load_path::{Cells, End, Found};
 use std::alloc::{AllocError, Global};
@@ -65,6 +69,17 @@ fn begun<'t>(alloc: Global, first: &'t Tree, edit: Option<Edit<'t>>) -> Result<E
         Some(edit) => Ok(edit),
         None => Edit::new(alloc, first),
     }
+}
+
+/// The keys of the links that belong to these names.
+fn marks(alloc: Global, scope: Scope, names: &[UnitName]) -> Result<Keys, AllocError>
+    ensures { IfOk result (λ marks. marks ≡ list_map (Marked scope) names.now) }
+{
+    let mut marks = Keys::none(alloc);
+    for name in names {
+        marks.push(Key::Marked(scope, name.copy()?))?;
+    }
+    Ok(marks)
 }
 
 impl<'t> Transaction<'t> {
@@ -143,6 +158,33 @@ impl<'t> Transaction<'t> {
             .entries(alloc, tree, Key::Marked(scope, name.copy()?))
     }
 
+    /// The links of a scope that belong to at least one of these names now, all of them at slots.
+    /// Notes that the links of each name were looked at. Fails only if memory runs out.
+    pub fn links_of_all(
+        &mut self,
+        alloc: Global,
+        scope: Scope,
+        names: &[UnitName],
+    ) -> Result<TreePart, AllocError>
+        ensures ok { IfOk result (λ links. Runs (asking (entries_of_all (list_map (Marked scope) names.now))) self.old self.new (Ok links)) }
+        ensures slots { IfOk result StandAtSlots }
+        ensures err { OnErr result (self.new.first ≡ self.old.first) }
+    {
+        let marks = marks(alloc, scope, names)?;
+        let tree = current(self.first, &self.edit);
+        self.keys.entries_of_all(alloc, tree, marks)
+    }
+
+    /// The entries at the slots of preset files now. Notes that these slots were looked at. Fails
+    /// only if memory runs out.
+    pub fn presets(&mut self, alloc: Global) -> Result<TreePart, AllocError>
+        ensures ok { IfOk result (λ presets. Runs (asking (entries_seen Presets)) self.old self.new (Ok presets)) }
+        ensures err { OnErr result (self.new.first ≡ self.old.first) }
+    {
+        let tree = current(self.first, &self.edit);
+        self.keys.entries(alloc, tree, Key::Presets)
+    }
+
     /// The whole tree as it is now. If you look things up in it by other calls than those of a
     /// transaction, `note` the paths that these looked at.
     pub fn tree(&self) -> &Tree
@@ -175,6 +217,22 @@ impl<'t> Transaction<'t> {
         let edit = begun(alloc, self.first, self.edit.take())?;
         self.edit = Some(edit.with(slot, entry)?);
         Ok(())
+    }
+
+    /// Makes all wanted links, and removes the entries that are wanted absent. Notes that each of
+    /// these slots was looked at, even if nothing is done there. `Exists` names the least path, in
+    /// byte order, at which something is in the way of a link.
+    pub fn all_at_once(&mut self, alloc: Global, wanted: &WantedLinks) -> Result<(), Stop>
+        ensures { Runs (taking (all_at_once wanted.now)) self.old self.new result }
+    {
+        let edit = begun(alloc, self.first, self.edit.take())?;
+        match edit.all_at_once(alloc, wanted, &mut self.keys)? {
+            Ok(edit) => {
+                self.edit = Some(edit);
+                Ok(())
+            }
+            Err(refusal) => Err(Stop::Refused(refusal)),
+        }
     }
 
     /// Ends the command: makes the outcome of what it did, with the notices that it reports. After

@@ -1,13 +1,14 @@
 -- What a run writes for an input, and what its errors mean. The contract of `run` cites
 -- `outcome_of`, `WritesAll`, `FaultOf`, `Silent` and `FaultCause`; that of `read_input` cites
 -- `input_of`, `GivesInput`, `InputCause` and `InputStops`.
-use Rattle.std.specs.Prelude.{◌≡◌, ℕ, nat_lt, if◌then◌else◌, List, length, Option, Some, Result, Ok, Err}
+use Rattle.std.specs.Prelude.{◌≡◌, ◌≢◌, ℕ, nat_lt, if◌then◌else◌, List, length, Option, Some, Result, Ok, Err}
 use Rattle.std.specs.Io.KnownBytes.{Appends, Keeps}
-use Rattle.byte_streams.specs.Streams.{HasCause, StopsIn, Takes}
+use Rattle.byte_streams.specs.Streams.{HasCause, IsCalm, StopsIn, Takes}
 use Rattle.byte_streams.specs.declared.counters.Counters.{Counters}
 use Rattle.link_tree.specs.Trees.{Entries}
 use Rattle.link_tree.specs.Inventory.{◌>>=◌, inventory_of}
 use Rattle.link_tree.specs.declared.inventory_fault.InventoryFault.{InventoryFault}
+use Rattle.link_tree.specs.declared.inventory_fault.InventoryFault.TheVariants.{Duplicate}
 use Rattle.unit_script.specs.declared.call.Call.{Call}
 use Rattle.unit_script.specs.declared.reason.ScriptFault.{ScriptFault}
 use Rattle.unit_script.specs.declared.reason.ScriptFault.TheVariants.{NoCalls, Bad}
@@ -69,12 +70,18 @@ abbrev pub Silent : RunFault → Option (List ℕ) → Option (List ℕ) → Typ
 Silent (runs.WriteFault n) old new = Unit {0}
 Silent e old new = Keeps old new
 
--- A read or write fault occurs only if the source or sink failed, or was interrupted too often.
+-- A read or write fault occurs only if the source or sink failed, or was interrupted too often. A
+-- fault of the input is reported only if the source didn't fail; but a duplicate may be reported
+-- after the source failed in a later entry.
 abbrev pub FaultCause : RunFault → (source_old source_new sink_old sink_new : Counters) → Type 0
 FaultCause (runs.WriteFault n) source_old source_new sink_old sink_new = HasCause sink_old sink_new
 FaultCause (runs.InventoryRead n) source_old source_new sink_old sink_new = HasCause source_old source_new
 FaultCause runs.ReadFault source_old source_new sink_old sink_new = HasCause source_old source_new
-FaultCause e source_old source_new sink_old sink_new = Unit {0}
+FaultCause (runs.Inventory fault n) source_old source_new sink_old sink_new = fault ≢ Duplicate → IsCalm source_old source_new
+FaultCause runs.NoCalls source_old source_new sink_old sink_new = IsCalm source_old source_new
+FaultCause (runs.BadCall line reason) source_old source_new sink_old sink_new = IsCalm source_old source_new
+FaultCause runs.Full source_old source_new sink_old sink_new = IsCalm source_old source_new
+FaultCause runs.OutOfMemory source_old source_new sink_old sink_new = Unit {0}
 
 -- The error is the fault that the input has, unless the source failed or memory ran out.
 abbrev pub FaultsAs : {A : Type 0} → InputError → Result A InputFault → Type 0
@@ -88,11 +95,14 @@ abbrev pub GivesInput : {X A : Type 0} → (X → A) → Result X InputError →
 GivesInput view (Ok x) read = read ≡ Ok (view x)
 GivesInput view (Err e) read = FaultsAs e read
 
--- A read fault has its cause in the source.
+-- A read fault has its cause in the source. With a fault of the input the source didn't fail; but a
+-- duplicate may be reported after the source failed in a later entry.
 abbrev pub InputCause : InputError → Counters → Counters → Type 0
 InputCause (inputs.InventoryRead n) old new = HasCause old new
 InputCause inputs.ReadFault old new = HasCause old new
-InputCause (inputs.Fault fault) old new = Unit {0}
+InputCause (inputs.Fault (Inventory fault n)) old new = fault ≢ Duplicate → IsCalm old new
+InputCause (inputs.Fault (Script fault)) old new = IsCalm old new
+InputCause (inputs.Fault Full) old new = IsCalm old new
 InputCause inputs.OutOfMemory old new = Unit {0}
 
 -- How far the input was read when a read fault occurred.

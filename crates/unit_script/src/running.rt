@@ -78,7 +78,7 @@ fn history_of_calls(
 ) -> Result<History<Action>, InputError>
     ensures text { GivesInput (λ history. text_of history.first history.rows) result (text_of_calls tree calls.items) }
     ensures stops { IfErr result (λ e. (old new : Option (List ℕ)) → InputStops e old new) }
-    ensures cause { IfErr result (λ e. (old new : Counters) → InputCause e old new) }
+    ensures cause { IfErr result (λ e. (old new : Counters) → IsCalm old new → InputCause e old new) }
 {
     if calls.len() > MAX_ROWS {
         return Err(InputError::Fault(InputFault::Full));
@@ -108,6 +108,7 @@ fn read_tree<S: Source>(alloc: Global, source: &mut S) -> Result<Tree, InputErro
 fn read_calls<S: Source>(alloc: Global, source: &mut S) -> Result<Vec<Call>, InputError>
     ensures calls { (bytes : List ℕ) → S.left source.old ≡ Some bytes → GivesInput (λ calls. calls.items) result (in_script (script_of bytes)) }
     ensures stops { IfErr result (λ e. ScriptStops e (S.left source.old) (S.left source.new)) }
+    ensures calm { OnOk result (IsCalm (S.counters source.old) (S.counters source.new)) }
     ensures cause { IfErr result (λ e. InputCause e (S.counters source.old) (S.counters source.new)) }
 {
     match read_script(alloc, source) {
@@ -137,6 +138,7 @@ pub struct Input {
 pub fn read_input<S: Source>(alloc: Global, source: &mut S) -> Result<Input, InputError>
     ensures input { (input : List ℕ) → S.left source.old ≡ Some input → GivesInput (λ given. (given.tree, given.calls.items)) result (input_of input) }
     ensures stops { IfErr result (λ e. InputStops e (S.left source.old) (S.left source.new)) }
+    ensures calm { OnOk result (IsCalm (S.counters source.old) (S.counters source.new)) }
     ensures cause { IfErr result (λ e. InputCause e (S.counters source.old) (S.counters source.new)) }
 {
     let tree = read_tree(alloc, source)?;
@@ -148,6 +150,7 @@ pub fn read_input<S: Source>(alloc: Global, source: &mut S) -> Result<Input, Inp
 fn history_of_input<S: Source>(alloc: Global, source: &mut S) -> Result<History<Action>, InputError>
     ensures text { (input : List ℕ) → S.left source.old ≡ Some input → GivesInput (λ history. text_of history.first history.rows) result (outcome_of input) }
     ensures stops { IfErr result (λ e. InputStops e (S.left source.old) (S.left source.new)) }
+    ensures calm { OnOk result (IsCalm (S.counters source.old) (S.counters source.new)) }
     ensures cause { IfErr result (λ e. InputCause e (S.counters source.old) (S.counters source.new)) }
 {
     let Input { tree, calls } = read_input(alloc, source)?;
@@ -217,6 +220,7 @@ pub fn run<S: Source, K: Sink>(alloc: Global, source: &mut S, sink: &mut K) -> R
     ensures fault { IfErr result (λ e. (input : List ℕ) → S.left source.old ≡ Some input → FaultOf e (K.written sink.old) (K.written sink.new) (outcome_of input)) }
     ensures stops { IfErr result (λ e. RunStops e (S.left source.old) (S.left source.new)) }
     ensures silent { IfErr result (λ e. Silent e (K.written sink.old) (K.written sink.new)) }
+    ensures calm { OnOk result (IsCalm (S.counters source.old) (S.counters source.new)) }
     ensures cause { IfErr result (λ e. FaultCause e (S.counters source.old) (S.counters source.new) (K.counters sink.old) (K.counters sink.new)) }
 {
     match history_of_input(alloc, source) {

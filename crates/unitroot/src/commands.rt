@@ -1,24 +1,18 @@
 //! Commands of systemctl: each makes a call or a few, and answers as systemctl does.
 
-use footprint::Units;
-use history::{History, Operator, Request};
-use install_commands::{Disable, Preset};
-use link_tree::{Scope, Tree};
+use history::Operator;
+use kept_calls::{Wanted, check_operator, line_of_file, lines_of_calls, run_on_kept};
+use link_tree::Scope;
 use real_roots::RealDisk;
-use root_access::{Done, Failure, bad_call, print_messages, read_text, take_root};
-use root_histories::{
-    Context, Taken, Wanted, check_operator, line_of_file, lines_of_calls, note_promise,
-    run_on_kept, take,
-};
+use root_histories::{Context, Failure, Taken, bad_call, note_promise, read_text, take, take_root};
 use root_reports::{
-    Made, Report, call_for_input, capture_for, choose_all, is_question, left_out_text, made_in,
-    made_on, mode_of, path_of, print_report, report_of, units_in_mode,
+    call_for_input, is_question, mode_of, path_of, run_all_in_mode, run_calls, run_in_mode,
 };
-use root_runs::{CallError, CallWords, Plan, calls_of, script_of};
+use root_runs::{CallError, CallWords, calls_of, script_of};
 use root_words::{Command, PresetMode};
-use std::alloc::{AllocError, Global};
-use unit_lists::{Chosen, Mode};
-use unit_script::{Action, Call};
+use std::alloc::Global;
+use unit_lists::Mode;
+use unit_script::Call;
 
 fn calls_of_words(
     alloc: Global,
@@ -38,149 +32,12 @@ fn scope_of(runtime: bool) -> Scope {
     if runtime { Scope::Run } else { Scope::Etc }
 }
 
-/// Adds a call of an operator, unless it names no unit.
-fn push_units_call(
-    calls: &mut Vec<Call>,
-    operator: Operator,
-    units: &Units,
-    action: Action,
-) -> Result<(), AllocError> {
-    if units.as_slice().is_empty() {
-        return Ok(());
-    }
-    let request = Request::Do(action);
-    Ok(calls.push(Call { operator, request })?)
-}
-
-/// The calls, of which each `preset` has only the units that the mode takes.
-fn calls_in_mode(
-    alloc: Global,
-    tree: &Tree,
-    mode: Mode,
-    calls: &[Call],
-) -> Result<Vec<Call>, AllocError> {
-    let mut taken = Vec::new(alloc);
-    for call in calls {
-        if let Request::Do(Action::Preset(preset)) = &call.request {
-            let units = units_in_mode(alloc, tree, mode, &preset.units)?;
-            push_preset(&mut taken, call.operator, preset.scope, &units)?;
-        }
-    }
-    Ok(taken)
-}
-
-fn push_preset(
-    calls: &mut Vec<Call>,
-    operator: Operator,
-    scope: Scope,
-    units: &Units,
-) -> Result<(), AllocError> {
-    let preset = Action::Preset(Preset {
-        scope,
-        units: units.copy()?,
-    });
-    push_units_call(calls, operator, units, preset)
-}
-
-/// The calls of `preset-all`: a `disable` of the units without install words that have links, and a
-/// `preset` of all others.
-fn preset_all_calls(
-    alloc: Global,
-    chosen: &Chosen,
-    operator: Operator,
-    scope: Scope,
-) -> Result<Vec<Call>, AllocError> {
-    let mut calls = Vec::new(alloc);
-    let units = chosen.bare.copy()?;
-    let disable = Action::Disable(Disable { scope, units });
-    push_units_call(&mut calls, operator, &chosen.bare, disable)?;
-    push_preset(&mut calls, operator, scope, &chosen.names)?;
-    Ok(calls)
-}
-
-/// Reports how many names `preset-all` leaves out, if there are any.
-fn report_left_out(rt: &HostRuntime, chosen: &Chosen) -> Result<(), AllocError> {
-    if let Some(text) = left_out_text(rt.alloc(), chosen)? {
-        let line = format!(in rt.alloc(); "unitroot: {text}\n")?;
-        print_messages(rt, line.as_str().as_bytes());
-    }
-    Ok(())
-}
-
-/// Makes the changes of calls, if any are made, and prints the report.
-fn carry_out(
-    cx: Context<'_>,
-    disk: RealDisk<'_>,
-    made: &Made<'_>,
-    report: &Report,
-) -> Result<u8, Failure> {
-    let done = if report.plan == Plan::Make && !made.changes.is_empty() {
-        made.make(cx.rt.alloc(), disk)?;
-        Done::Changes
-    } else {
-        Done::Nothing
-    };
-    print_report(cx.rt, cx.asked, made, report, done)
-}
-
-/// Reports the calls of a history, and makes their changes.
-fn report_and_make(
-    cx: Context<'_>,
-    disk: RealDisk<'_>,
-    history: &History<Action>,
-    script: &[u8],
-) -> Result<u8, Failure> {
-    let mut disk = disk;
-    let alloc = cx.rt.alloc();
-    let made = Made::of(alloc, history)?;
-    let report = report_of(alloc, cx.asked, cx.root, &mut disk, &made, script)?;
-    carry_out(cx, disk, &made, &report)
-}
-
-/// Makes calls on a root without a history. The script is that of `run`.
-pub(crate) fn run_calls(
-    cx: Context<'_>,
-    disk: RealDisk<'_>,
-    calls: Vec<Call>,
-    script: &[u8],
-) -> Result<u8, Failure> {
-    let mut disk = disk;
-    let history = made_in(cx.rt.alloc(), &mut disk, calls)?;
-    report_and_make(cx, disk, &history, script)
-}
-
 /// The part of a `preset` that is carried out.
 fn mode_asked(command: &Command) -> Mode {
     match command {
         Command::Units { mode, .. } => mode_of(*mode),
         _ => Mode::Full,
     }
-}
-
-/// The history of calls of which each `preset` has only the units that the mode takes. That is judged
-/// on the whole root.
-fn made_in_mode(
-    cx: Context<'_>,
-    disk: &mut RealDisk<'_>,
-    mode: Mode,
-    calls: &[Call],
-) -> Result<History<Action>, Failure> {
-    let alloc = cx.rt.alloc();
-    let tree = capture_for(alloc, cx.asked, disk)?;
-    let calls = calls_in_mode(alloc, &tree, mode, calls)?;
-    made_on(alloc, &tree, calls)
-}
-
-/// The same, with its report.
-fn run_in_mode(
-    cx: Context<'_>,
-    disk: RealDisk<'_>,
-    mode: Mode,
-    calls: &[Call],
-) -> Result<u8, Failure> {
-    let mut disk = disk;
-    let history = made_in_mode(cx, &mut disk, mode, calls)?;
-    report_and_make(cx, disk, &history, &[])
 }
 
 /// Asks a root, whether it has a history or not.
@@ -276,39 +133,6 @@ pub(crate) fn place_input(cx: Context<'_>, operator: &[u8], path: &str) -> Resul
     place(cx, parsed(operator)?, path, &bytes)
 }
 
-/// The history of the calls of `preset-all`. What they leave out is reported.
-fn preset_all_in(
-    cx: Context<'_>,
-    disk: &mut RealDisk<'_>,
-    operator: Operator,
-    scope: Scope,
-    mode: Mode,
-) -> Result<History<Action>, Failure> {
-    let alloc = cx.rt.alloc();
-    let tree = capture_for(alloc, cx.asked, disk)?;
-    let chosen = choose_all(alloc, &tree, operator, mode)?;
-    if !cx.asked.output.quiet && !cx.asked.output.json {
-        report_left_out(cx.rt, &chosen)?;
-    }
-    made_on(
-        alloc,
-        &tree,
-        preset_all_calls(alloc, &chosen, operator, scope)?,
-    )
-}
-
-fn run_all_plain(
-    cx: Context<'_>,
-    disk: RealDisk<'_>,
-    operator: Operator,
-    scope: Scope,
-    mode: Mode,
-) -> Result<u8, Failure> {
-    let mut disk = disk;
-    let history = preset_all_in(cx, &mut disk, operator, scope, mode)?;
-    report_and_make(cx, disk, &history, &[])
-}
-
 /// Runs `preset-all`.
 pub(crate) fn run_preset_all(
     cx: Context<'_>,
@@ -319,7 +143,7 @@ pub(crate) fn run_preset_all(
     let operator = parsed(operator)?;
     let (scope, mode) = (scope_of(runtime), mode_of(mode));
     match take(cx)? {
-        Taken::Plain(disk) => run_all_plain(cx, disk, operator, scope, mode),
+        Taken::Plain(disk) => run_all_in_mode(cx, disk, operator, scope, mode),
         Taken::Kept(root) => {
             check_operator(operator.text())?;
             run_on_kept(cx, root, &Wanted::PresetAll(operator, scope, mode), &[])

@@ -1,13 +1,9 @@
 //! What the program does for each command.
 
 use crate::commands::{place_input, run_command, run_preset_all};
-use crate::listing::list_unit_files;
 use crate::scripts::run_script;
-use crate::status::show_status;
-use crate::whole::{apply_inventory, report_differences, write_capture};
 use history::Operator;
-use root_access::{Failure, print_messages};
-use root_histories::{Context, canonical_root, forget, keep, recover_root, variable};
+use root_histories::{Context, Failure, canonical_root, print_messages, recover_root, variable};
 use root_log::{show_log, show_row};
 use root_reports::path_for_input;
 use root_runs::login_operator;
@@ -15,6 +11,9 @@ use root_words::{Asked, Command};
 use std::alloc::AllocError;
 use std::env::VarError;
 use std::{env, fs};
+use whole_roots::{
+    apply_inventory, forget, keep, list_unit_files, report_differences, show_status, write_capture,
+};
 
 /// The root of the command line, or that of the environment.
 fn root_of(rt: &HostRuntime, asked: &Asked) -> Result<String, Failure> {

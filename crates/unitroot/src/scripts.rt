@@ -1,9 +1,9 @@
 //! Scripts that are run on a root.
 
-use crate::commands::run_calls;
 use byte_streams::{FromRead, ReadError};
-use root_access::{Failure, bad_lines_of, read_text};
-use root_histories::{Context, Taken, check_script, run_on_kept, take, wanted_lines};
+use kept_calls::{check_script, run_on_kept, wanted_lines};
+use root_histories::{Context, Failure, Taken, bad_lines_of, read_text, take};
+use root_reports::run_calls;
 use root_words::RowsOf;
 use std::alloc::Global;
 use unit_script::{Call, read_script};

@@ -60,7 +60,7 @@ fn row_units(alloc: Global, row: &Row) -> Result<Units, AllocError> {
 
 fn result_of<O: Operation>(alloc: Global, command: &O) -> Result<Vec<u8>, AllocError> {
     let tree = tree(alloc, TREE)?;
-    checked_result(alloc, command, &tree, false)
+    checked_result(alloc, command, command, &tree, false)
 }
 
 fn answer(alloc: Global, row: &Row) -> Result<Vec<u8>, AllocError> {

@@ -1,5 +1,5 @@
 //! A disk that holds a tree, and fails at chosen calls.
-ghost use Rattle.std.specs.Prelude.{◌≡◌, Some, Err};
+ghost use Rattle.std.specs.Prelude.{◌≡◌, Some, None, Err};
 ghost use Rattle.disk.specs.Disks.{Held, Sets, failures_after};
 
 use disk::{Disk, DiskError, Found, Listing, Oddity};
@@ -114,6 +114,8 @@ impl Disk for Fake {
 
     ghost failures = { λ disk. disk.failures };
 
+    ghost done = { λ disk. None };
+
     fn list(&mut self, _alloc: Global, _directory: &TreePath) -> Result<Listing, DiskError> {
         self.tree.shape();
         Err(self.fail())
@@ -138,7 +140,7 @@ impl Disk for Fake {
         self.set(path, Some(entry.copy()?))
     }
 
-    fn take(&mut self, path: &TreePath) -> Result<(), DiskError> {
+    fn take(&mut self, path: &TreePath, _before: &Option<Entry>) -> Result<(), DiskError> {
         self.call()?;
         self.set(path, None)
     }

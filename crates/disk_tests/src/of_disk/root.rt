@@ -115,6 +115,8 @@ impl Disk for Root {
 
     ghost failures = { λ root. root.failures };
 
+    ghost done = { λ _. None };
+
     fn list(&mut self, alloc: Global, directory: &TreePath) -> Result<Listing, DiskError> {
         self.call()?;
         if is_at(&self.no_directory, directory) {
@@ -143,7 +145,7 @@ impl Disk for Root {
         Err(DiskError::OutOfMemory)
     }
 
-    fn take(&mut self, _path: &TreePath) -> Result<(), DiskError> {
+    fn take(&mut self, _path: &TreePath, _before: &Option<Entry>) -> Result<(), DiskError> {
         Err(DiskError::OutOfMemory)
     }
 }

@@ -22,8 +22,8 @@ end
 ";
 
 const ROWS: &[u8] = b"\
-    # key, reading, changes, answer: whether a copy is the same as the original, or is shown\n\
-    # alike.\n\
+    # key, reading, changes, answer: whether a copy is the same as another of the same words, or is\n\
+    # shown alike.\n\
     key\t/a/b\t\tthe same\n\
     key\tetc:a.service\t\tthe same\n\
     key\trun:b.service\t\tthe same\n\
@@ -33,6 +33,7 @@ const ROWS: &[u8] = b"\
     observed\t/etc/systemd/system/a.service /a etc:a.service links presets /a\t\t5, agreed: yes\n\
     # A reading by the keys ONE, and how many observations its copy has.\n\
     reading\t/etc/systemd/system/a.service /a etc:a.service links\t\t4, shown alike\n\
+    reading\tpresets run:b.service\t\t2, shown alike\n\
     # The changes of TREE if ONE is linked elsewhere and TWO is removed, and how many their copy\n\
     # has.\n\
     changes\t/etc/systemd/system/a.service\t/etc/systemd/system/b.service\t2, shown alike\n\
@@ -118,12 +119,31 @@ fn observed(alloc: Global, inventory: &[u8], texts: &[u8]) -> Result<Vec<u8>, Al
     }
 }
 
+/// A copy of a reading.
+fn copy_of_reading(alloc: Global, reading: &Reading) -> Result<Box<Reading>, AllocError> {
+    Ok(Box::new(alloc, reading.copy()?)?)
+}
+
+/// How many observations a copy has, and whether it is shown as another reading.
+fn told_of_reading(alloc: Global, copy: &Reading, same: &Reading) -> Result<Vec<u8>, AllocError> {
+    let are_alike = are_shown_alike(alloc, copy, same)?;
+    count_text(alloc, copy.as_slice().len(), are_alike)
+}
+
+/// What a copy of a reading is. If memory runs out, the reading is shown as another one by the same
+/// keys, and is copied again.
 fn reading_copied(alloc: Global, keys: &[u8]) -> Result<Vec<u8>, AllocError> {
     let inventory = b"unitadm-inventory 1\nL\t/etc/systemd/system/a.service\tb.service\nend\n";
-    let reading = reading(alloc, inventory, keys)?;
-    let copy = Box::new(alloc, reading.copy()?)?;
-    let are_alike = are_shown_alike(alloc, &*copy, &*reading)?;
-    count_text(alloc, copy.as_slice().len(), are_alike)
+    let original = reading(alloc, inventory, keys)?;
+    let same = reading(alloc, inventory, keys)?;
+    if let Ok(copy) = copy_of_reading(alloc, &original) {
+        return told_of_reading(alloc, &copy, &same);
+    }
+    if !are_shown_alike(alloc, &*original, &*same)? {
+        return Vec::from_slice(alloc, CHANGED);
+    }
+    let copy = copy_of_reading(alloc, &original)?;
+    told_of_reading(alloc, &copy, &same)
 }
 
 /// The changes if one slot is linked elsewhere, and another is cleared.
@@ -148,11 +168,25 @@ fn changes(alloc: Global, relinked: &[u8], cleared: &[u8]) -> Result<Changes, Al
     edited(alloc, &tree, &relinked, &cleared)
 }
 
-fn changes_copied(alloc: Global, relinked: &[u8], cleared: &[u8]) -> Result<Vec<u8>, AllocError> {
-    let changes = changes(alloc, relinked, cleared)?;
-    let copy = changes.copy()?;
-    let are_alike = are_shown_alike(alloc, &copy, &changes)?;
+/// How many changes a copy has, and whether it is shown as others.
+fn told_of_changes(alloc: Global, copy: &Changes, same: &Changes) -> Result<Vec<u8>, AllocError> {
+    let are_alike = are_shown_alike(alloc, copy, same)?;
     count_text(alloc, copy.as_slice().len(), are_alike)
+}
+
+/// What a copy of changes is. If memory runs out, the changes are shown as others of the same edit,
+/// and are copied again.
+fn changes_copied(alloc: Global, relinked: &[u8], cleared: &[u8]) -> Result<Vec<u8>, AllocError> {
+    let original = changes(alloc, relinked, cleared)?;
+    let same = changes(alloc, relinked, cleared)?;
+    if let Ok(copy) = original.copy() {
+        return told_of_changes(alloc, &copy, &same);
+    }
+    if !are_shown_alike(alloc, &original, &same)? {
+        return Vec::from_slice(alloc, CHANGED);
+    }
+    let copy = original.copy()?;
+    told_of_changes(alloc, &copy, &same)
 }
 
 /// The changes that undo changes. If memory runs out, the changes are as they were, and they are

@@ -1,5 +1,5 @@
 //! Which links units want.
-use crate::of_install_section::units::{names, text_of_count, wanted_text};
+use crate::of_install_section::units::{closed, names, text_of_count, wanted_text};
 use crate::trees::tree;
 use install_section::{Links, Wanted, wanted, wanted_into};
 use link_tree::{Scope, Tree};
@@ -86,7 +86,8 @@ fn tree_named(word: &[u8]) -> &[u8] {
 }
 
 fn boxed(alloc: Global, tree: &Tree, units: &[UnitName]) -> Result<Box<Wanted>, AllocError> {
-    match wanted(alloc, tree, units, Scope::Etc, false) {
+    let closure = closed(alloc, tree, units)?;
+    match wanted(alloc, tree, &closure, Scope::Etc, false) {
         Ok(wanted) => Ok(Box::new(alloc, wanted)?),
         Err(_) => Err(AllocError),
     }

@@ -96,6 +96,18 @@ fn joined(alloc: Global, before: &[u8], text: &[u8]) -> Result<Vec<u8>, AllocErr
     Ok(joined)
 }
 
+/// The units that are enabled together with these.
+pub(crate) fn closed(
+    alloc: Global,
+    tree: &Tree,
+    units: &[UnitName],
+) -> Result<Box<Closure>, AllocError> {
+    match closure(alloc, tree, units) {
+        Ok(closure) => Ok(Box::new(alloc, closure)?),
+        Err(_) => Err(AllocError),
+    }
+}
+
 fn asked(
     alloc: Global,
     tree: &Tree,
@@ -103,7 +115,8 @@ fn asked(
     scope: Scope,
     skip: bool,
 ) -> Result<Vec<u8>, AllocError> {
-    match wanted(alloc, tree, units, scope, skip) {
+    let closure = closed(alloc, tree, units)?;
+    match wanted(alloc, tree, &closure, scope, skip) {
         Ok(wanted) => wanted_told(alloc, &wanted),
         Err(WantedError::NeedsInstance(unit)) => joined(alloc, b"needs an instance: ", unit.text()),
         Err(WantedError::Clash(path)) => joined(alloc, b"clash at ", path.text()),

@@ -1,32 +1,23 @@
 //! A disk in memory that also holds the history of its root.
 ghost use Rattle.std.specs.Prelude.{◌≡◌, None};
 ghost use Rattle.disk.specs.Disks.{failures_after};
-ghost use Rattle.disk.specs.Steps.{failures_after_step};
 
 use super::contents::{Contents, Directory};
 use super::files::Files;
 use super::names::Naming;
-use disk::{Disk, DiskError, Found, Listing, StepError};
+use disk::{Disk, DiskError, Found, Listing};
 use kept_history::KeptDisk;
 use link_tree::{Change, Entry, TreePath};
 use std::alloc::{AllocError, Global};
 
 /// Files in memory as a disk, of which nothing is claimed. It notes each event by a letter: a
-/// promise, the history's sync (h), a step that is made or taken back (b), a sync of steps (s), a
-/// commit, a withdrawal, and leftovers cleared (x).
+/// promise, the history's sync (h), a step that is made (m), also if that takes another back, a sync
+/// of steps (s), a commit, a withdrawal, and leftovers cleared (x).
 #[derive(Drop)]
 pub(crate) struct MemoryDisk {
     pub(crate) files: Files,
     pub(crate) failures: u64,
     pub(crate) events: Vec<u8>,
-}
-
-fn is_same(one: &Option<Entry>, other: &Option<Entry>) -> bool {
-    match (one, other) {
-        (None, None) => true,
-        (Some(one), Some(other)) => one.same(other),
-        _ => false,
-    }
 }
 
 fn has_step_in(steps: &[Change], directory: Directory) -> bool {
@@ -36,32 +27,6 @@ fn has_step_in(steps: &[Change], directory: Directory) -> bool {
 }
 
 impl Files {
-    fn check(&mut self, path: &TreePath, entry: &Option<Entry>) -> Result<(), StepError> {
-        let there = match self.look(path)? {
-            Found::Nothing => None,
-            Found::Entry(entry) => Some(entry),
-            Found::Odd(_) => return Err(StepError::Odd),
-        };
-        if is_same(&there, entry) {
-            Ok(())
-        } else {
-            Err(StepError::Changed)
-        }
-    }
-
-    fn step(
-        &mut self,
-        path: &TreePath,
-        from: &Option<Entry>,
-        to: &Option<Entry>,
-    ) -> Result<(), StepError> {
-        self.check(path, from)?;
-        match to {
-            Some(entry) => Ok(self.put(path, from.is_none(), entry)?),
-            None => Ok(self.take(path)?),
-        }
-    }
-
     fn sync_steps(&mut self, steps: &[Change]) -> Result<(), DiskError> {
         for directory in Directory::IN_ROOT {
             if has_step_in(steps, directory) {
@@ -99,12 +64,12 @@ impl MemoryDisk {
         Ok(Box::new(alloc, disk)?)
     }
 
-    /// Counts a failure, or notes an event.
-    fn counted(&mut self, letter: u8, answer: Result<(), DiskError>) -> Result<(), DiskError>
+    /// Counts a failure.
+    fn noted<T: Drop>(&mut self, answer: Result<T, DiskError>) -> Result<T, DiskError>
         ensures { self.new.failures ≡ failures_after self.old.failures result }
     {
         match answer {
-            Ok(()) => Ok(self.events.push(letter)?),
+            Ok(given) => Ok(given),
             Err(DiskError::OutOfMemory) => Err(DiskError::OutOfMemory),
             Err(DiskError::Failed) => {
                 self.failures = self.failures.saturating_add(1);
@@ -113,15 +78,12 @@ impl MemoryDisk {
         }
     }
 
-    /// The same of a step.
-    fn counted_step(&mut self, letter: u8, answer: Result<(), StepError>) -> Result<(), StepError>
-        ensures { self.new.failures ≡ failures_after_step self.old.failures result }
+    /// Counts a failure, or notes an event.
+    fn counted(&mut self, letter: u8, answer: Result<(), DiskError>) -> Result<(), DiskError>
+        ensures { self.new.failures ≡ failures_after self.old.failures result }
     {
-        match answer {
-            Ok(()) => Ok(self.counted(letter, Ok(()))?),
-            Err(StepError::Failed) => Ok(self.counted(letter, Err(DiskError::Failed))?),
-            Err(why) => Err(why),
-        }
+        self.noted(answer)?;
+        Ok(self.events.push(letter)?)
     }
 }
 
@@ -130,54 +92,41 @@ impl Disk for MemoryDisk {
 
     ghost failures = { λ disk. disk.failures };
 
+    ghost done = { λ disk. None };
+
     fn list(&mut self, _alloc: Global, _directory: &TreePath) -> Result<Listing, DiskError> {
         Err(DiskError::OutOfMemory)
     }
 
-    fn look(&mut self, _alloc: Global, _path: &TreePath) -> Result<Found, DiskError> {
-        Err(DiskError::OutOfMemory)
+    fn look(&mut self, _alloc: Global, path: &TreePath) -> Result<Found, DiskError> {
+        let found = self.files.look(path);
+        self.noted(found)
     }
 
     fn put(
         &mut self,
-        _path: &TreePath,
-        _before: &Option<Entry>,
-        _entry: &Entry,
+        path: &TreePath,
+        before: &Option<Entry>,
+        entry: &Entry,
     ) -> Result<(), DiskError> {
-        Err(DiskError::OutOfMemory)
+        let put = self.files.put(path, before.is_none(), entry);
+        self.counted(b'm', put)
     }
 
-    fn take(&mut self, _path: &TreePath) -> Result<(), DiskError> {
-        Err(DiskError::OutOfMemory)
+    fn take(&mut self, path: &TreePath, _before: &Option<Entry>) -> Result<(), DiskError> {
+        let taken = self.files.take(path);
+        self.counted(b'm', taken)
     }
 }
 
 impl KeptDisk for MemoryDisk {
-    ghost done = { λ disk. None };
-
-    fn check(
-        &mut self,
-        _alloc: Global,
-        path: &TreePath,
-        entry: &Option<Entry>,
-    ) -> Result<(), StepError> {
-        let checked = self.files.check(path, entry);
-        self.counted_step(b'l', checked)
-    }
-
-    fn make(&mut self, _alloc: Global, step: &Change) -> Result<(), StepError> {
-        let made = self.files.step(&step.path, &step.before, &step.after);
-        self.counted_step(b'm', made)
-    }
-
-    fn take_back(&mut self, _alloc: Global, step: &Change) -> Result<(), StepError> {
-        let made = self.files.step(&step.path, &step.after, &step.before);
-        self.counted_step(b'b', made)
-    }
-
     fn sync_steps(&mut self, steps: &[Change]) -> Result<(), DiskError> {
         let synced = self.files.sync_steps(steps);
         self.counted(b's', synced)
+    }
+
+    fn sync_back(&mut self, steps: &[Change]) -> Result<(), DiskError> {
+        self.sync_steps(steps)
     }
 
     fn clear(&mut self, steps: &[Change]) -> Result<(), DiskError> {

@@ -23,83 +23,83 @@ const RUNS: &[u8] = b"\
     # in. run twice: each of them twice. Of the system calls those of ONE fail: `3`, that one;\n\
     # `3 7`, that one, and the other and all after it. The answer has the events that were done,\n\
     # by their letters, and what is there then.\n\
-    between\t\told\tdone; lllllphmmmmmsch; history new, next none, tree new; failed 0\n\
-    run\t\told\tdone; lllllphmmmmmsch; history new, next none, tree new; failed 0\n\
+    between\t\told\tdone; phmmmmmsch; history new, next none, tree new; failed 0\n\
+    run\t\told\tdone; phmmmmmsch; history new, next none, tree new; failed 0\n\
     # Refused: something else is at a path, or what is there is no entry, or a look fails.\n\
     between\t\tother\tstep 0: changed meanwhile; ; history old, next none, tree other; failed 0\n\
     between\t\tlast other\t\
-        step 4: changed meanwhile; llll; history old, next none, tree last other; failed 0\n\
+        step 4: changed meanwhile; ; history old, next none, tree last other; failed 0\n\
     run\t\tnew\tstep 0: changed meanwhile; ; history old, next none, tree new; failed 0\n\
     between\t\todd old\t\
         step 0: neither a file nor a link; ; history old, next none, tree old; failed 0\n\
-    between\t3\told\tstep 3: disk failure; lll; history old, next none, tree old; failed 1\n\
+    between\t3\told\tstep 3: disk failure; ; history old, next none, tree old; failed 1\n\
     # Not promised: the new history is not written, or not synced, or not renamed.\n\
     between\t5\told\t\
-        history not written: disk failure; lllll; history old, next none, tree old; failed 1\n\
+        history not written: disk failure; ; history old, next none, tree old; failed 1\n\
     between\t6\told\t\
-        history not written: disk failure; lllll; history old, next none, tree old; failed 1\n\
+        history not written: disk failure; ; history old, next none, tree old; failed 1\n\
     run\t7\told\t\
-        history not written: disk failure; lllll; history old, next none, tree old; failed 1\n\
+        history not written: disk failure; ; history old, next none, tree old; failed 1\n\
     # Withdrawn: a step is not made.\n\
     between\t9\told\t\
-        step 0: disk failure; lllllphswh; history old, next none, tree old; failed 1\n\
+        step 0: disk failure; phswh; history old, next none, tree old; failed 1\n\
     between\t11\told\t\
-        step 0: disk failure; lllllphswh; history old, next none, tree old; failed 1\n\
+        step 0: disk failure; phswh; history old, next none, tree old; failed 1\n\
     between\t15\told\t\
-        step 1: disk failure; lllllphmbswh; history old, next none, tree old; failed 1\n\
+        step 1: disk failure; phmmswh; history old, next none, tree old; failed 1\n\
     run\t20\told\t\
-        step 3: disk failure; lllllphmmmbbbswh; history old, next none, tree old; failed 1\n\
+        step 3: disk failure; phmmmmmmswh; history old, next none, tree old; failed 1\n\
     run twice\t\told\t\
-        step 5: changed meanwhile; llllllllllphmmmmmbbbbbswh; history old, next none, tree \
+        step 5: changed meanwhile; phmmmmmmmmmmswh; history old, next none, tree \
         old; failed 0\n\
     # The file that was linked to its path is not removed under its first name: it is replaced by\n\
     # the next that is made in that directory, if there is one.\n\
-    between\t12\told\tdone; lllllphmmmmmsch; history new, next none, tree new; failed 0\n\
+    between\t12\told\tdone; phmmmmmsch; history new, next none, tree new; failed 0\n\
     # Unfinished: a sync or the last rename fails.\n\
     between\t8\told\t\
-        promised, the next run finishes it: disk failure; lllllp; history old, next new, \
+        promised, the next run finishes it: disk failure; p; history old, next new, \
         tree old; failed 1\n\
     between\t23\told\t\
-        promised, the next run finishes it: disk failure; lllllphmmmmm; history old, next \
+        promised, the next run finishes it: disk failure; phmmmmm; history old, next \
         new, tree new; failed 1\n\
     between\t25\told\t\
-        promised, the next run finishes it: disk failure; lllllphmmmmm; history old, next \
+        promised, the next run finishes it: disk failure; phmmmmm; history old, next \
         new, tree new; failed 1\n\
     run\t26\told\t\
-        promised, the next run finishes it: disk failure; lllllphmmmmms; history old, next \
+        promised, the next run finishes it: disk failure; phmmmmms; history old, next \
         new, tree new; failed 1\n\
     run\t27\told\t\
-        promised, the next run finishes it: disk failure; lllllphmmmmmsc; history new, next \
+        promised, the next run finishes it: disk failure; phmmmmmsc; history new, next \
         none, tree new; failed 1\n\
     # Half withdrawn: all fails after a step that is not made, or from later on.\n\
     between\t9 10\told\t\
-        step 0: disk failure; promised, the next run finishes it: disk failure; lllllphs; \
+        step 0: disk failure; promised, the next run finishes it: disk failure; phs; \
         history old, next new, tree old; failed 2\n\
     between\t9 11\told\t\
-        step 0: disk failure; promised, the next run finishes it: disk failure; lllllphsw; \
+        step 0: disk failure; promised, the next run finishes it: disk failure; phsw; \
         history old, next none, tree old; failed 2\n\
     run\t19 20\told\t\
-        step 3: disk failure; promised, the next run finishes it: disk failure; lllllphmmm; \
+        step 3: disk failure; promised, the next run finishes it: disk failure; phmmm; \
         history old, next new, tree unknown; failed 2\n";
 
 const FINISHES: &[u8] = b"\
     # finish: a run is promised, and the root has the tree TWO. The answer also has the steps\n\
     # that are not made, since somebody else has changed what is there.\n\
-    finish\t\told\tdone, others':; lllllhxmmmmmsch; history new, next none, tree new; failed 0\n\
-    finish\t\thalf\tdone, others':; lllllhxmmsch; history new, next none, tree new; failed 0\n\
-    finish\t\tnew\tdone, others':; lllllhxsch; history new, next none, tree new; failed 0\n\
+    finish\t\told\tdone, others':; hxmmmmmsch; history new, next none, tree new; failed 0\n\
+    finish\t\thalf\tdone, others':; hxmmsch; history new, next none, tree new; failed 0\n\
+    finish\t\tnew\tdone, others':; hxsch; history new, next none, tree new; failed 0\n\
     finish\t\tother\t\
-        done, others': c-F dFF; lllhxmmmsch; history new, next none, tree other new; failed \
+        done, others': c-F dFF; hxmmmsch; history new, next none, tree other new; failed \
         0\n\
     finish\t\todd old\t\
-        done, others': c-F c-L; lllhxmmmsch; history new, next none, tree unknown; failed 0\n\
+        done, others': c-F c-L; hxmmmsch; history new, next none, tree unknown; failed 0\n\
     # A look fails, the first sync, a step, a sync of steps, the rename, the last sync.\n\
     finish\t0\told\tdisk failure; ; history old, next new, tree old; failed 1\n\
-    finish\t5\told\tdisk failure; lllll; history old, next new, tree old; failed 1\n\
-    finish\t6\told\tdisk failure; lllllhx; history old, next new, tree old; failed 1\n\
-    finish\t20\told\tdisk failure; lllllhxmmmmm; history old, next new, tree new; failed 1\n\
-    finish\t23\told\tdisk failure; lllllhxmmmmms; history old, next new, tree new; failed 1\n\
-    finish\t24\told\tdisk failure; lllllhxmmmmmsc; history new, next none, tree new; failed 1\n\
+    finish\t5\told\tdisk failure; ; history old, next new, tree old; failed 1\n\
+    finish\t6\told\tdisk failure; hx; history old, next new, tree old; failed 1\n\
+    finish\t20\told\tdisk failure; hxmmmmm; history old, next new, tree new; failed 1\n\
+    finish\t23\told\tdisk failure; hxmmmmms; history old, next new, tree new; failed 1\n\
+    finish\t24\told\tdisk failure; hxmmmmmsc; history new, next none, tree new; failed 1\n\
     # recover: no run is promised.\n\
     recover\t\told\tdone, others':; h; history old, next none, tree old; failed 0\n\
     recover\t0\told\tdisk failure; ; history old, next none, tree old; failed 1\n";

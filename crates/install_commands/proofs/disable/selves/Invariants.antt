@@ -1,7 +1,8 @@
 use Rattle.std.proofs.Common.{[], drop}
+use Rattle.transaction.specs.Runs.{asking}
+use Rattle.transaction.proofs.Turns.{Goes}
 use Rattle.install_commands.specs.Disable.{selves_behind}
-use Rattle.install_commands.proofs.Asked.{Goes}
 use Rattle.install_commands.proofs.disable.selves.Given as goal
 
 abbrev pub invariant-loop-unit : goal.invariant-loop-unit
-invariant-loop-unit l = Goes l.tree l.keys (selves_behind l.names (drop l.unit-index l.units)) l.fn.keys (selves_behind [] l.fn.units)
+invariant-loop-unit l = Goes (asking (selves_behind l.names (drop l.unit-index l.units))) (asking (selves_behind [] l.fn.units)) l.fn.txn l.txn

@@ -1,7 +1,8 @@
 use Rattle.std.proofs.Common.{[], drop}
+use Rattle.transaction.specs.Runs.{asking_for}
+use Rattle.transaction.proofs.Turns.{Goes}
 use Rattle.install_commands.specs.Preset.{counting_behind}
-use Rattle.install_commands.proofs.Asked.{Goes}
 use Rattle.install_commands.proofs.preset.counting.Given as goal
 
 abbrev pub invariant-loop-unit : goal.invariant-loop-unit
-invariant-loop-unit l = Goes l.tree l.keys (counting_behind l.names (drop l.unit-index l.units)) l.fn.keys (counting_behind [] l.fn.units)
+invariant-loop-unit l = Goes (asking_for (counting_behind l.names (drop l.unit-index l.units))) (asking_for (counting_behind [] l.fn.units)) l.fn.txn l.txn

@@ -1,5 +1,5 @@
 use Rattle.std.proofs.Common.{[], ◌∷◌}
-use Rattle.kept_history.specs.Roots.{SyncHistory, Clear}
+use Rattle.disk.specs.Events.{SyncHistory, Clear}
 use Rattle.kept_history.proofs.Fronts.{does_one}
 use Rattle.kept_history.proofs.recovery.begin_recovery.Goals as goal
 

@@ -3,7 +3,7 @@ use Rattle.std.specs.Option.{option_map}
 use Rattle.disk.specs.Disks.{of_disk}
 use Rattle.disk.specs.Steps.{failures_with}
 use Rattle.disk.specs.Applied.{Stops, after_steps}
-use Rattle.kept_history.specs.Roots.{SyncHistory, Clear, Commit, Make}
+use Rattle.disk.specs.Events.{SyncHistory, Clear, Commit, Make}
 use Rattle.kept_history.specs.Runs.{ending}
 use Rattle.kept_history.proofs.Fronts.{stops_first}
 use Rattle.kept_history.proofs.Parts.{recovery_done, recovery_ends, recovery_stops, counted_alike}

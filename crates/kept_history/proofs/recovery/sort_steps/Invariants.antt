@@ -7,5 +7,5 @@ abbrev pub invariant-loop-step : goal.invariant-loop-step
 invariant-loop-step g l =
     AddsAll (g.D.Disk.holds l.fn.disk) l.steps l.sorted.due.items l.sorted.foreign.items (take l.step-index l.steps)
     × (g.D.Disk.holds l.disk ≡ g.D.Disk.holds l.fn.disk)
-    × (g.D.KeptDisk.done l.disk ≡ g.D.KeptDisk.done l.fn.disk)
+    × (g.D.Disk.done l.disk ≡ g.D.Disk.done l.fn.disk)
     × (g.D.Disk.failures l.disk ≡ g.D.Disk.failures l.fn.disk)

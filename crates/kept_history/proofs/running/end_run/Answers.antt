@@ -1,7 +1,7 @@
 use Rattle.std.proofs.Common.{[], ◌∷◌, ap, ◌∙◌}
-use Rattle.kept_history.specs.Roots.{Commit, SyncHistory, SyncSteps}
-use Rattle.kept_history.specs.Doing.{with_events}
-use Rattle.kept_history.proofs.Fronts.{with_with, does_one}
+use Rattle.disk.specs.Events.{Commit, SyncHistory, SyncSteps, with_events}
+use Rattle.disk.proofs.Doing.{with_with}
+use Rattle.kept_history.proofs.Fronts.{does_one}
 use Rattle.kept_history.proofs.running.end_run.Goals as goal
 
 pub returns-clause-done : goal.returns-clause-done

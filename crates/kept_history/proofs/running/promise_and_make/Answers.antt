@@ -7,7 +7,7 @@ use Rattle.kept_history.proofs.running.promise_and_make.Goals as goal
 
 pub returns-in-Ok-sync_history-clause-runs : goal.returns-in-Ok-sync_history-clause-runs
 returns-in-Ok-sync_history-clause-runs g c =
-    c.make_promised.ensures.runs c.args.text.now (g.D.KeptDisk.done c.args.disk.now)
+    c.make_promised.ensures.runs c.args.text.now (g.D.Disk.done c.args.disk.now)
     (promise_synced _ _ _ c.args.text.now c.in-Ok.ensures.done c.in-Ok-sync_history.ensures.done)
 
 pub returns-in-Ok-sync_history-clause-leaves : goal.returns-in-Ok-sync_history-clause-leaves

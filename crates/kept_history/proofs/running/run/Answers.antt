@@ -4,7 +4,7 @@ use Rattle.kept_history.proofs.running.run.Goals as goal
 
 pub returns-in-Ok-clause-runs : goal.returns-in-Ok-clause-runs
 returns-in-Ok-clause-runs g c =
-    subst (λ o. Runs o (g.D.KeptDisk.done c.promise_and_make.new.disk) c.promise_and_make.result c.args.text.now c.args.steps.now) c.in-Ok.ensures.done c.promise_and_make.ensures.runs
+    subst (λ o. Runs o (g.D.Disk.done c.promise_and_make.new.disk) c.promise_and_make.result c.args.text.now c.args.steps.now) c.in-Ok.ensures.done c.promise_and_make.ensures.runs
 
 pub returns-in-Ok-clause-leaves : goal.returns-in-Ok-clause-leaves
 returns-in-Ok-clause-leaves g c =

@@ -9,11 +9,11 @@ use Rattle.kept_history.proofs.running.run_between.Goals as goal
 
 pub returns-in_err-steps-clause-whole : goal.returns-in_err-steps-clause-whole
 returns-in_err-steps-clause-whole g c =
-    never_half_since (g.D.KeptDisk.done c.args.disk.now) (g.D.KeptDisk.done c.args.disk.now) c.args.old.now c.args.new.now c.args.text.now (Err (NotPromised OutOfMemory)) refl
+    never_half_since (g.D.Disk.done c.args.disk.now) (g.D.Disk.done c.args.disk.now) c.args.old.now c.args.new.now c.args.text.now (Err (NotPromised OutOfMemory)) refl
 
 pub returns-in_err-steps-clause-runs : goal.returns-in_err-steps-clause-runs
 returns-in_err-steps-clause-runs g c =
-    subst (λ r. Runs (g.D.KeptDisk.done c.args.disk.now) (g.D.KeptDisk.done c.args.disk.now) r c.args.text.now (steps_between c.args.old.now c.args.new.now))
+    subst (λ r. Runs (g.D.Disk.done c.args.disk.now) (g.D.Disk.done c.args.disk.now) r c.args.text.now (steps_between c.args.old.now c.args.new.now))
     (sym (returned c.from_residual.result (NotPromised OutOfMemory) c.from_residual.ensures)) refl
 
 pub returns-in_err-steps-clause-leaves : goal.returns-in_err-steps-clause-leaves
@@ -29,11 +29,11 @@ returns-in_err-steps-clause-counted g c =
 pub returns-clause-whole : goal.returns-clause-whole
 returns-clause-whole g c =
     never_half_since _ _ c.args.old.now c.args.new.now c.args.text.now c.run.result
-    (subst (λ steps. Runs (g.D.KeptDisk.done c.args.disk.now) (g.D.KeptDisk.done c.run.new.disk) c.run.result c.args.text.now steps) (c.deref.ensures.value ∙ c.in_ok-steps.ensures.steps) c.run.ensures.runs)
+    (subst (λ steps. Runs (g.D.Disk.done c.args.disk.now) (g.D.Disk.done c.run.new.disk) c.run.result c.args.text.now steps) (c.deref.ensures.value ∙ c.in_ok-steps.ensures.steps) c.run.ensures.runs)
 
 pub returns-clause-runs : goal.returns-clause-runs
 returns-clause-runs g c =
-    subst (λ steps. Runs (g.D.KeptDisk.done c.args.disk.now) (g.D.KeptDisk.done c.run.new.disk) c.run.result c.args.text.now steps) (c.deref.ensures.value ∙ c.in_ok-steps.ensures.steps) c.run.ensures.runs
+    subst (λ steps. Runs (g.D.Disk.done c.args.disk.now) (g.D.Disk.done c.run.new.disk) c.run.result c.args.text.now steps) (c.deref.ensures.value ∙ c.in_ok-steps.ensures.steps) c.run.ensures.runs
 
 pub returns-clause-leaves : goal.returns-clause-leaves
 returns-clause-leaves g c =

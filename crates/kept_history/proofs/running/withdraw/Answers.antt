@@ -1,6 +1,6 @@
 use Rattle.std.proofs.Common.{map as list_map}
-use Rattle.kept_history.specs.Roots.{Withdraw, Make}
-use Rattle.kept_history.specs.Runs.{way_back, ending}
+use Rattle.disk.specs.Events.{Withdraw, Make, way_back}
+use Rattle.kept_history.specs.Runs.{ending}
 use Rattle.kept_history.proofs.Fronts.{stops_first, stops_later, stops_back}
 use Rattle.kept_history.proofs.running.withdraw.Goals as goal
 
@@ -11,4 +11,4 @@ returns-in-Err-end_withdrawal-clause-done g c =
 pub returns-in-Err-clause-done : goal.returns-in-Err-clause-done
 returns-in-Err-clause-done g c =
     stops_first _ _ (list_map Make (way_back c.args.steps.now)) (ending Withdraw c.args.steps.now)
-    (stops_back _ _ c.in-Err.left.step c.args.steps.now c.in-Err.ensures.some_done)
+    (stops_back _ _ c.in-Err.left.made c.args.steps.now c.in-Err.ensures.some_done)

@@ -29,11 +29,11 @@ loop-ask-preserved g c = record {
   is_open = is_open c.issue.new.self _ c.in-Ok.ensures.issued;
 }
 
-pub returns-in-Err-Disconnected : goal.returns-in-Err-Disconnected
-returns-in-Err-Disconnected g c = λ shut. absurd (true≢false (sym shut ∙ ap (λ (jobs : Jobs). jobs.is_shut) c.unserved.ensures ∙ is_open c.issue.new.self _ c.in-Ok.ensures.issued))
+pub returns-in-Err-Disconnected-clause-issued : goal.returns-in-Err-Disconnected-clause-issued
+returns-in-Err-Disconnected-clause-issued g c = λ shut. absurd (true≢false (sym shut ∙ ap (λ (jobs : Jobs). jobs.is_shut) c.unserved.ensures.desk ∙ is_open c.issue.new.self _ c.in-Ok.ensures.issued))
 
-pub returns : goal.returns
-returns g c = λ shut.
+pub returns-clause-issued : goal.returns-clause-issued
+returns-clause-issued g c = λ shut.
     let left = c.loop-ask.ask-iterator in
     let none = nil_from_length (into_iter_items left) (sym left.rest.ok.0 ∙ c.in-None.ensures.steps.0) in
-    ap (λ (jobs : Jobs). jobs.issued) (c.unserved-2.ensures ∙ c.shut.ensures) ∙ all_issued c.loop-ask.desk c.args.feed.asks (into_iter_items left) none c.loop-ask.invariant.issued
+    ap (λ (jobs : Jobs). jobs.issued) (c.unserved-2.ensures.desk ∙ c.shut.ensures) ∙ all_issued c.loop-ask.desk c.args.feed.asks (into_iter_items left) none c.loop-ask.invariant.issued

@@ -1,7 +1,8 @@
-use Rattle.std.proofs.Common.{IfOk, IfErr, subst}
+use Rattle.std.proofs.Common.{ℕ, List, IfOk, IfErr, subst, ◌∙◌}
 use Rattle.link_tree.proofs.Stops.{returned}
 use Rattle.shared_admin.specs.Sharing.{Opening}
 use Rattle.sessions.specs.Fed.{HasFed}
+use Rattle.sessions.specs.Runs.{AreInOrder}
 use Rattle.sessions.specs.Faults.{of_open, IsRunError, IfUnclosed, IsUnfedBySome}
 use Rattle.sessions.proofs.Reasons.{told_of_open}
 use Rattle.sessions.proofs.feeding.run_desk.Goals as goal
@@ -21,6 +22,11 @@ returns-in_err-admin-clause-unclosed g c =
 pub returns-clause-fed : goal.returns-clause-fed
 returns-clause-fed g c =
     subst (λ (o : Opening). IfOk c.feed_and_close.result (λ r. HasFed o.first o.operators c.args.asks r.0 r.1)) c.in_ok-admin.ensures.shared.0 c.feed_and_close.ensures.fed
+
+pub returns-clause-order : goal.returns-clause-order
+returns-clause-order g c =
+    let names = c.as_slice-3.ensures ∙ c.copied-names.ensures ∙ c.as_slice-2.ensures in
+    subst (λ (os : List (List ℕ)). IfOk c.feed_and_close.result (λ r. AreInOrder os r.1)) names c.feed_and_close.ensures.order
 
 pub returns-clause-legal : goal.returns-clause-legal
 returns-clause-legal g c = c.feed_and_close.ensures.legal

@@ -1,0 +1,62 @@
+-- Commands that have ended: their outcomes are those of what they mean.
+use Rattle.std.proofs.Common.{◌≡◌, List, [], Result, Ok, Err, refl, sym, ap, ◌∙◌, subst}
+use Rattle.std.specs.FinMap as map
+use Rattle.unit_file.specs.Notices.{NoticeMap}
+use Rattle.link_tree.specs.Differences.{changes_between}
+use Rattle.link_tree.specs.Trees.{Entries}
+use Rattle.footprint.specs.declared.answer.Answer.TheVariants as answers
+use Rattle.footprint.specs.declared.key.Key.{Key}
+use Rattle.footprint.specs.declared.outcome.Outcome.{Outcome}
+use Rattle.footprint.specs.declared.refusal.Refusal.{Refusal}
+use Rattle.footprint.specs.Commands.{Command, carried_out}
+use Rattle.footprint.specs.Edits.{ended}
+use Rattle.footprint.specs.Inquiry.{Inquiry}
+use Rattle.footprint.specs.Operations.{Effect}
+use Rattle.footprint.specs.Placing.{Ruling, effect}
+use Rattle.footprint.specs.Readings.{reading_of}
+use Rattle.transaction.specs.declared.stop.Stop.{Stop}
+use Rattle.transaction.specs.declared.stop.Stop.TheVariants.{Refused, OutOfMemory}
+use Rattle.transaction.specs.Runs.{Run, Runs, Closes, doing, reported_by}
+use Rattle.transaction.specs.Seen.{Transacted}
+
+-- the effect of what a run leaves of a tree
+abbrev pub effect_of : Entries → Result (NoticeMap × Entries) Refusal → Effect
+effect_of t (Ok done) = record { answer = answers.Done done.0; changes = changes_between t done.1 }
+effect_of t (Err refusal) = record { answer = answers.Refused refusal; changes = [] }
+
+-- A run has the effect in a tree that an inquiry means, and looks at the same keys.
+pub record Means (run : Run NoticeMap) (meaning : Inquiry Effect) (t : Entries) : Type 0 where
+  pub concludes : effect_of t (run.conclusion t) ≡ meaning.conclusion t
+  pub looks : run.keys t ≡ meaning.keys t
+
+-- a transaction that has just begun
+abbrev pub begun : Entries → Transacted
+begun t = record { first = t; tree = t; keys = [] }
+
+abbrev outcome_by : Effect → List Key → Entries → Outcome
+outcome_by e keys t = record { answer = e.answer; changes = e.changes; reading = reading_of keys t }
+
+-- The outcome of a command that was carried out in a new transaction.
+module _ (run : Run NoticeMap) (meaning : Inquiry Effect) (t : Entries) (means : Means run meaning t) where
+  as_meant : outcome_by (effect_of t (run.conclusion t)) (run.keys t) t ≡ outcome_by (meaning.conclusion t) (meaning.keys t) t
+  as_meant = λ i. outcome_by (means.concludes i) (means.looks i) t
+
+  from_begun : (new : Transacted) (done : Result NoticeMap Stop) → Runs run (begun t) new done → (outcome : Outcome) → Closes new done outcome
+      → outcome ≡ outcome_by (meaning.conclusion t) (meaning.keys t) t
+  from_begun new (Ok notices) runs outcome closes =
+      closes ∙ (λ i. ended (runs.2 i) (runs.1 i) notices (Ok (runs.2 i, new.tree))) ∙ ap (λ done. outcome_by (effect_of t done) (run.keys t) t) (sym runs.0) ∙ as_meant
+  from_begun new (Err (Refused refusal)) runs outcome closes =
+      closes ∙ (λ i. ended (runs.2 i) (runs.1 i) map.empty (Err refusal)) ∙ ap (λ done. outcome_by (effect_of t done) (run.keys t) t) (sym runs.0) ∙ as_meant
+  from_begun new (Err OutOfMemory) runs outcome closes = absurd closes
+
+  pub comes_to : (old new : Transacted) (done : Result NoticeMap Stop) → old ≡ begun t → Runs run old new done → (outcome : Outcome) → Closes new done outcome
+      → outcome ≡ outcome_by (meaning.conclusion t) (meaning.keys t) t
+  comes_to old new done from runs = from_begun new done (subst (λ old. Runs run old new done) from runs)
+
+effect_reported : (t : Entries) (notices : NoticeMap) (ruling : Ruling) → effect_of t (reported_by notices ruling t) ≡ effect t notices ruling
+effect_reported t notices (Ok placed) = refl
+effect_reported t notices (Err refusal) = refl
+
+-- one command
+pub command_means : (command : Command) (t : Entries) → Means (doing command) (carried_out command) t
+command_means command t = record { concludes = effect_reported t (command.conclusion t).0 ((command.conclusion t).1.conclusion t); looks = refl }
