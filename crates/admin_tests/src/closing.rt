@@ -1,19 +1,16 @@
 //! Logs of a shared history's operators, and whether they say what its rows say.
 
+use crate::events::push_rows;
 use crate::sharing::{FIRST, run};
 use history::History;
 use link_tree::{Tree, push_decimal};
-use sample_rows::{Row, unlike};
-use sample_steps::{
-    Step, begin_word, is, number, operator, parts, push_numbered, push_pair, push_row, reply,
-    request,
-};
+use sample_rows::{Row, assert_rows};
+use sample_steps::{Step, is, number, operator, parts, push_numbered, push_pair, reply, request};
 use sample_values::tree;
 use shared_admin::{
     CloseFault, LogEntries, LogEntry, SessionLog, SessionLogs, SharedAdmin, Unclosed, run_fault,
 };
 use std::alloc::{AllocError, Global};
-use std::str;
 use std::sync::Wait;
 use std::test::Fail;
 
@@ -194,11 +191,7 @@ fn push_back(
 ) -> Result<(), AllocError> {
     out.extend_from_slice(b" logs:")?;
     push_decimal(out, logs.as_slice().len())?;
-    for row in history.rows() {
-        begin_word(out)?;
-        push_row(out, row)?;
-    }
-    Ok(())
+    push_rows(out, history)
 }
 
 /// What a close with logs returns.
@@ -269,7 +262,5 @@ fn answer(rt: &impl Wait, alloc: Global, row: &Row) -> Result<Vec<u8>, AllocErro
 
 #[test]
 fn a_run_is_closed_with_the_logs_of_its_rows(rt: HostRuntime) -> Result<(), Fail> {
-    let found = unlike(rt.alloc(), ROWS, |alloc, row| answer(&rt, alloc, row))?;
-    assert!(rt; found.is_empty(), "{:?}", str::from_utf8(&found));
-    Ok(())
+    assert_rows(&rt, rt.alloc(), ROWS, |alloc, row| answer(&rt, alloc, row))
 }

@@ -11,14 +11,13 @@ ghost use Rattle.shared_admin.specs.Events.{HasSlot};
 
 use history::{History, Operator, Plan};
 use link_tree::{Tree, push_decimal};
-use sample_rows::{Row, unlike};
+use sample_rows::{Row, assert_rows};
 use sample_steps::{
     Step, begin_word, is, number, operator, parts, push_numbered, push_pair, push_row, step,
     unit_at,
 };
 use shared_admin::{Event, EventReply, Kept, SLOTS, drive, empty_slots, happen};
 use std::alloc::{AllocError, Global};
-use std::str;
 use std::test::Fail;
 
 /// Events on a history of the empty tree, and what results from each; then the rows, and how many
@@ -177,13 +176,18 @@ pub(crate) fn push_replies(out: &mut Vec<u8>, replies: &[EventReply]) -> Result<
     Ok(())
 }
 
-/// Adds the rows, and how many entries the tree has.
-fn push_history(out: &mut Vec<u8>, history: &History<Step>) -> Result<(), AllocError> {
-    out.extend_from_slice(b" /")?;
+pub(crate) fn push_rows(out: &mut Vec<u8>, history: &History<Step>) -> Result<(), AllocError> {
     for row in history.rows() {
         begin_word(out)?;
         push_row(out, row)?;
     }
+    Ok(())
+}
+
+/// Adds the rows, and how many entries the tree has.
+fn push_history(out: &mut Vec<u8>, history: &History<Step>) -> Result<(), AllocError> {
+    out.extend_from_slice(b" /")?;
+    push_rows(out, history)?;
     out.extend_from_slice(b" / entries:")?;
     push_decimal(out, history.tree().len())
 }
@@ -214,12 +218,12 @@ fn push_next(
     word: &[u8],
     out: &mut Vec<u8>,
 ) -> Result<(), AllocError> {
-    let event = event(alloc, word)?;
-    if slots.len() == SLOTS {
-        let reply = happen(alloc, history, slots, event)?;
-        push_event_reply(out, &reply)?;
+    if slots.len() != SLOTS {
+        return Ok(());
     }
-    Ok(())
+    let event = event(alloc, word)?;
+    let reply = happen(alloc, history, slots, event)?;
+    push_event_reply(out, &reply)
 }
 
 /// Lets the events of a script happen.
@@ -279,7 +283,5 @@ fn answer(alloc: Global, row: &Row) -> Result<Vec<u8>, AllocError> {
 
 #[test]
 fn each_event_has_its_reply(rt: HostRuntime) -> Result<(), Fail> {
-    let found = unlike(rt.alloc(), ROWS, answer)?;
-    assert!(rt; found.is_empty(), "{:?}", str::from_utf8(&found));
-    Ok(())
+    assert_rows(&rt, rt.alloc(), ROWS, answer)
 }

@@ -10,7 +10,7 @@ use crate::sharing::{FIRST, operators};
 use footprint::Operation;
 use history::{CallError, History, Plan, RowReply, Unrun};
 use link_tree::{Change, Scope, Tree, last_part};
-use sample_rows::{Row, unlike};
+use sample_rows::{Row, assert_rows};
 use sample_steps::{Step, begin_word, is, push_numbered, push_pair, push_reply, push_row, step};
 use sample_values::{name, tree};
 use shared_admin::{
@@ -18,7 +18,6 @@ use shared_admin::{
     happen, plan,
 };
 use std::alloc::{AllocError, Global};
-use std::str;
 use std::test::Fail;
 
 /// Plans of a step on a tree and on a snapshot of it, and their answers. Operators who share a
@@ -168,31 +167,62 @@ pub(crate) fn ended(
     }
 }
 
+/// What results from planning.
+type Planned = Result<Plan<Step>, Unrun<Step>>;
+
 /// A plan of a step on the tree of a snapshot, or on the snapshot.
 fn planned(
     alloc: Global,
     snapshot: &Snapshot,
     step: Step,
     is_on_tree: bool,
-) -> Result<Plan<Step>, Unrun<Step>> {
+) -> Result<Box<Planned>, AllocError> {
     if is_on_tree {
-        Plan::make(alloc, step, &snapshot.tree)
-    } else {
-        plan(alloc, snapshot, step)
+        return Ok(Box::new(alloc, Plan::make(alloc, step, &snapshot.tree))?);
+    }
+    Ok(Box::new(alloc, plan(alloc, snapshot, step))?)
+}
+
+fn push_answer(out: &mut Vec<u8>, plan: &Plan<Step>) -> Result<(), AllocError> {
+    let reply = RowReply::Answered(plan.answer().copy()?);
+    push_reply(out, &reply)
+}
+
+/// Adds the answer of a plan, or what is wrong if there is none, unless memory ran out.
+fn push_planned(out: &mut Vec<u8>, planned: &Planned) -> Result<(), AllocError> {
+    match planned {
+        Ok(plan) => push_answer(out, plan),
+        Err(unrun) => push_unless(out, unrun.why == CallError::OutOfMemory, b"full"),
     }
 }
 
-/// Adds the answer of a plan of the step of a word, and takes the plan apart.
-fn push_planned(
+/// The step of a plan, or the one that comes back without a plan.
+fn step_of(planned: Box<Planned>) -> Step {
+    match Box::into_inner(planned) {
+        Ok(plan) => plan.into_op(),
+        Err(unrun) => unrun.operation,
+    }
+}
+
+/// Adds the answer of a plan of the step of a word, and what is wrong. Returns the step, which
+/// comes out of the plan, or comes back without one.
+fn push_made(
     alloc: Global,
-    plan: Plan<Step>,
+    planned: Box<Planned>,
     word: &[u8],
     out: &mut Vec<u8>,
-) -> Result<(), AllocError> {
-    let reply = RowReply::Answered(plan.answer().copy()?);
-    push_reply(out, &reply)?;
-    let operation = plan.into_op();
-    push_unless(out, operation.same(&step(alloc, word)?), b"another-step")
+) -> Result<Step, AllocError> {
+    push_planned(out, &planned)?;
+    let operation = step_of(planned);
+    let is_same = operation.same(&step(alloc, word)?);
+    push_unless(out, is_same, b"another-step")?;
+    Ok(operation)
+}
+
+/// A snapshot of the first tree.
+fn first_snapshot(alloc: Global) -> Result<Box<Snapshot>, AllocError> {
+    let tree = Box::into_inner(tree(alloc, FIRST)?);
+    Ok(Box::new(alloc, Snapshot { tree, front: 0 })?)
 }
 
 /// Makes a plan of the step of a word, and makes it again of the step that comes back if memory
@@ -203,40 +233,66 @@ fn push_plan(
     is_on_tree: bool,
     out: &mut Vec<u8>,
 ) -> Result<(), AllocError> {
-    let tree = Box::into_inner(tree(alloc, FIRST)?);
-    let snapshot = Box::new(alloc, Snapshot { tree, front: 0 })?;
+    let snapshot = first_snapshot(alloc)?;
     let before = text_of_tree(alloc, &snapshot.tree)?;
-    let unrun = match planned(alloc, &snapshot, step(alloc, word)?, is_on_tree) {
-        Ok(plan) => return push_planned(alloc, plan, word, out),
-        Err(unrun) => unrun,
-    };
-    let Unrun { operation, why } = unrun;
-    push_unless(out, why == CallError::OutOfMemory, b"full")?;
-    push_unless(out, operation.same(&step(alloc, word)?), b"another-step")?;
+    let first = planned(alloc, &snapshot, step(alloc, word)?, is_on_tree)?;
+    let is_made = first.is_ok();
+    let operation = push_made(alloc, first, word, out)?;
+    if is_made {
+        return Ok(());
+    }
     let now = text_of_tree(alloc, &snapshot.tree)?;
     push_unless(out, now == before, &now)?;
-    match planned(alloc, &snapshot, operation, is_on_tree) {
-        Ok(plan) => push_planned(alloc, plan, word, out),
-        Err(_) => out.extend_from_slice(TWICE),
-    }
+    let again = planned(alloc, &snapshot, operation, is_on_tree)?;
+    push_unless(out, again.is_ok(), TWICE)?;
+    push_made(alloc, again, word, out)?;
+    Ok(())
 }
 
 /// What results from sharing a history of a tree.
 type Opened = Result<SharedAdmin<Step>, OpenError>;
 
 /// A history of a tree, shared by operators of these names. A short one has room for one row.
-fn opened(alloc: Global, given: &Tree, names: &[u8], is_short: bool) -> Result<Opened, AllocError> {
-    let tree = given.share()?;
+fn opened(
+    alloc: Global,
+    given: &Tree,
+    names: &[u8],
+    is_short: bool,
+) -> Result<Box<Opened>, AllocError> {
     let operators = operators(alloc, names)?;
+    let tree = given.share()?;
     if is_short {
-        Ok(SharedAdmin::with_limit(alloc, tree, operators, 1))
-    } else {
-        Ok(SharedAdmin::new(alloc, tree, operators))
+        return Ok(Box::new(alloc, SharedAdmin::with_limit(alloc, tree, operators, 1))?);
+    }
+    Ok(Box::new(alloc, SharedAdmin::new(alloc, tree, operators))?)
+}
+
+/// Adds the history that was shared, once its sharing has ended.
+fn push_opened(alloc: Global, opened: Box<Opened>, out: &mut Vec<u8>) -> Result<(), AllocError> {
+    match Box::into_inner(opened) {
+        Ok(admin) => push_history(out, &*ended(alloc, Box::new(alloc, admin)?)?),
+        Err(_) => out.extend_from_slice(b"refused"),
     }
 }
 
+/// Shares a history of a tree once. Returns whether memory was enough for it.
+fn push_shared_once(
+    alloc: Global,
+    given: &Tree,
+    names: &[u8],
+    is_short: bool,
+    out: &mut Vec<u8>,
+) -> Result<bool, AllocError> {
+    let opened = opened(alloc, given, names, is_short)?;
+    if matches!(&*opened, Err(OpenError::OutOfMemory)) {
+        return Ok(false);
+    }
+    push_opened(alloc, opened, out)?;
+    Ok(true)
+}
+
 /// Shares a history of a tree, and shares one again if memory runs out. The tree is as it was.
-fn push_opened(
+fn push_shared(
     alloc: Global,
     names: &[u8],
     is_short: bool,
@@ -244,49 +300,79 @@ fn push_opened(
 ) -> Result<(), AllocError> {
     let given = tree(alloc, FIRST)?;
     let before = text_of_tree(alloc, &given)?;
-    let opened = match opened(alloc, &given, names, is_short)? {
-        Err(OpenError::OutOfMemory) => {
-            let now = text_of_tree(alloc, &given)?;
-            push_unless(out, now == before, &now)?;
-            opened(alloc, &given, names, is_short)?
-        }
-        opened => opened,
-    };
-    match opened {
-        Ok(admin) => push_history(out, &*ended(alloc, Box::new(alloc, admin)?)?),
-        Err(OpenError::OutOfMemory) => out.extend_from_slice(TWICE),
-        Err(_) => out.extend_from_slice(b"refused"),
+    if push_shared_once(alloc, &given, names, is_short, out)? {
+        return Ok(());
     }
+    let now = text_of_tree(alloc, &given)?;
+    push_unless(out, now == before, &now)?;
+    let is_enough = push_shared_once(alloc, &given, names, is_short, out)?;
+    push_unless(out, is_enough, TWICE)
 }
 
 /// What results from events.
 type Driven = Result<(History<Step>, Vec<EventReply>), AllocError>;
 
-fn driven(alloc: Global, given: &Tree, script: &[u8]) -> Result<Driven, AllocError> {
-    let tree = given.share()?;
+fn driven(alloc: Global, given: &Tree, script: &[u8]) -> Result<Box<Driven>, AllocError> {
     let events = events(alloc, script)?;
-    Ok(drive(alloc, tree, events))
+    let tree = given.share()?;
+    Ok(Box::new(alloc, drive(alloc, tree, events))?)
+}
+
+/// Adds what results from events. Returns whether memory was enough for them.
+fn push_driven(out: &mut Vec<u8>, driven: &Driven) -> Result<bool, AllocError> {
+    match driven {
+        Ok((history, replies)) => {
+            push_replies(out, replies)?;
+            push_history(out, history)?;
+            Ok(true)
+        }
+        Err(AllocError) => Ok(false),
+    }
+}
+
+/// Lets events happen once. Returns whether memory was enough for them.
+fn push_driven_once(
+    alloc: Global,
+    given: &Tree,
+    script: &[u8],
+    out: &mut Vec<u8>,
+) -> Result<bool, AllocError> {
+    let driven = driven(alloc, given, script)?;
+    push_driven(out, &driven)
 }
 
 /// Lets events happen on a history of a tree, and lets them happen again if memory runs out. The
 /// tree is as it was.
-fn push_driven(alloc: Global, script: &[u8], out: &mut Vec<u8>) -> Result<(), AllocError> {
+fn push_all_driven(alloc: Global, script: &[u8], out: &mut Vec<u8>) -> Result<(), AllocError> {
     let given = tree(alloc, FIRST)?;
     let before = text_of_tree(alloc, &given)?;
-    let driven = match driven(alloc, &given, script)? {
-        Err(AllocError) => {
-            let now = text_of_tree(alloc, &given)?;
-            push_unless(out, now == before, &now)?;
-            driven(alloc, &given, script)?
+    if push_driven_once(alloc, &given, script, out)? {
+        return Ok(());
+    }
+    let now = text_of_tree(alloc, &given)?;
+    push_unless(out, now == before, &now)?;
+    let is_enough = push_driven_once(alloc, &given, script, out)?;
+    push_unless(out, is_enough, TWICE)
+}
+
+/// Lets the event of a word happen once. Returns whether memory was enough for it.
+fn push_event_once(
+    alloc: Global,
+    history: &mut History<Step>,
+    slots: &mut Vec<Kept<Plan<Step>>>,
+    word: &[u8],
+    out: &mut Vec<u8>,
+) -> Result<bool, AllocError>
+    requires { length slots.old.items ≡ 16 }
+    ensures { length slots.new.items ≡ 16 }
+{
+    let event = event(alloc, word)?;
+    match happen(alloc, history, slots, event) {
+        Ok(reply) => {
+            push_event_reply(out, &reply)?;
+            Ok(true)
         }
-        driven => driven,
-    };
-    match driven {
-        Ok((history, replies)) => {
-            push_replies(out, &replies)?;
-            push_history(out, &history)
-        }
-        Err(AllocError) => out.extend_from_slice(TWICE),
+        Err(AllocError) => Ok(false),
     }
 }
 
@@ -303,17 +389,13 @@ fn push_event(
     ensures { length slots.new.items ≡ 16 }
 {
     let before = text_of(alloc, history)?;
-    let first = event(alloc, word)?;
-    let second = event(alloc, word)?;
-    if let Ok(reply) = happen(alloc, history, slots, first) {
-        return push_event_reply(out, &reply);
+    if push_event_once(alloc, history, slots, word, out)? {
+        return Ok(());
     }
     let now = text_of(alloc, history)?;
     push_unless(out, now == before, &now)?;
-    match happen(alloc, history, slots, second) {
-        Ok(reply) => push_event_reply(out, &reply),
-        Err(AllocError) => out.extend_from_slice(TWICE),
-    }
+    let is_enough = push_event_once(alloc, history, slots, word, out)?;
+    push_unless(out, is_enough, TWICE)
 }
 
 /// Lets the events of a script happen, one after another.
@@ -334,18 +416,16 @@ fn answer_of_given(alloc: Global, row: &Row) -> Result<Vec<u8>, AllocError> {
     if is(&row.kind, b"make") || is(&row.kind, b"plan") {
         push_plan(alloc, &row.one, is(&row.kind, b"make"), &mut out)?;
     } else if is(&row.kind, b"drive") {
-        push_driven(alloc, &row.one, &mut out)?;
+        push_all_driven(alloc, &row.one, &mut out)?;
     } else if is(&row.kind, b"events") {
         push_events(alloc, &row.one, &mut out)?;
     } else {
-        push_opened(alloc, &row.one, is(&row.kind, b"with limit"), &mut out)?;
+        push_shared(alloc, &row.one, is(&row.kind, b"with limit"), &mut out)?;
     }
     Ok(out)
 }
 
 #[test]
 fn what_is_given_is_as_it_was_without_memory(rt: HostRuntime) -> Result<(), Fail> {
-    let found = unlike(rt.alloc(), GIVEN, answer_of_given)?;
-    assert!(rt; found.is_empty(), "{:?}", str::from_utf8(&found));
-    Ok(())
+    assert_rows(&rt, rt.alloc(), GIVEN, answer_of_given)
 }

@@ -64,7 +64,7 @@ fn script(alloc: Global, seed: u32) -> Result<Vec<u8>, AllocError> {
     Ok(script)
 }
 
-#[derive(Clone, Copy, Debug, PartialEq, Eq)]
+#[derive(Clone, Copy, PartialEq, Eq)]
 enum Verb {
     Put,
     Remove,
@@ -94,7 +94,7 @@ fn step_of(word: &[u8]) -> (Verb, u8) {
 }
 
 /// What a row says.
-#[derive(Clone, Copy, Debug, PartialEq, Eq)]
+#[derive(Clone, Copy)]
 enum Said {
     Done,
     Exists,
@@ -112,8 +112,20 @@ enum Said {
     Hindered(u32),
 }
 
+impl Said {
+    /// Whether it says that row `n` was undone.
+    fn is_undo_of(self, n: u32) -> bool {
+        matches!(self, Said::Undid(undone) if undone == n)
+    }
+
+    /// Whether it says that row `n` was redone.
+    fn is_redo_of(self, n: u32) -> bool {
+        matches!(self, Said::Redid(redone) if redone == n)
+    }
+}
+
 /// A row: the operator, the step, and what it says.
-#[derive(Clone, Copy, Debug)]
+#[derive(Clone, Copy)]
 struct PlainRow {
     operator: &'static [u8],
     verb: Verb,
@@ -126,7 +138,7 @@ struct PlainRow {
 impl PlainRow {
     /// Whether it is an accepted command.
     fn is_command(&self) -> bool {
-        self.said == Said::Done
+        matches!(self.said, Said::Done)
     }
 
     fn survives(&self) -> bool {
@@ -224,7 +236,7 @@ fn was_undone(rows: &[PlainRow], n: u32, later: u32) -> bool {
     for row in rows {
         number = number.wrapping_add(1);
         if number < later {
-            is_undone = (is_undone || row.said == Said::Undid(n)) && row.said != Said::Redid(n);
+            is_undone = (is_undone || row.said.is_undo_of(n)) && !row.said.is_redo_of(n);
         }
     }
     is_undone
@@ -292,7 +304,7 @@ fn mark(rows: &mut [PlainRow], n: u32, by: u32) {
 }
 
 /// What a slot keeps: the units at whose slots a file was, and a step with whether it saw a file.
-#[derive(Clone, Copy, Debug)]
+#[derive(Clone, Copy)]
 struct PlainSlot {
     snapshot: Option<u8>,
     plan: Option<(Verb, u8, bool)>,
@@ -362,7 +374,7 @@ impl Plain {
     fn undo(&mut self, n: u32) -> Result<(), AllocError> {
         let said = said_of_undo(&self.rows, n);
         let by = self.count().wrapping_add(1);
-        if said == Said::Undid(n) {
+        if said.is_undo_of(n) {
             mark(&mut self.rows, n, by);
         }
         self.add(b"bob", Verb::Undo, b'?', said)
@@ -370,7 +382,7 @@ impl Plain {
 
     fn redo(&mut self, n: u32) -> Result<(), AllocError> {
         let said = said_of_redo(&self.rows, n);
-        if said == Said::Redid(n) {
+        if said.is_redo_of(n) {
             mark(&mut self.rows, n, 0);
         }
         self.add(b"bob", Verb::Redo, b'?', said)

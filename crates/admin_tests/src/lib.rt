@@ -4,8 +4,6 @@
 #[cfg(test)]
 mod closing;
 #[cfg(test)]
-mod commands;
-#[cfg(test)]
 mod events;
 #[cfg(test)]
 mod keeping;

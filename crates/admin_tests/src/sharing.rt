@@ -11,7 +11,7 @@
 
 use history::{CallError, MAX_ROWS, Operator, Plan, Uncommitted};
 use link_tree::{Tree, push_decimal};
-use sample_rows::{Row, unlike};
+use sample_rows::{Row, assert_rows};
 use sample_steps::{
     Step, begin_word, is, number, operator, parts, push_numbered, push_pair, push_reply, step,
     unit_at,
@@ -19,7 +19,6 @@ use sample_steps::{
 use sample_values::tree;
 use shared_admin::{NewRow, OpenError, Operators, Settled, SharedAdmin, Snapshot, plan};
 use std::alloc::{AllocError, Global};
-use std::str;
 use std::sync::Wait;
 use std::test::Fail;
 
@@ -382,22 +381,29 @@ fn said(alloc: Global, rt: &impl Wait, script: &[u8], limit: usize) -> Result<Ve
 fn snapshot_taken(alloc: Global, rt: &impl Wait, script: &[u8]) -> Result<Vec<u8>, AllocError> {
     let mut said = Vec::new(alloc);
     let bench = run(alloc, rt, script, &mut said)?;
-    match bench.admin.snapshot(rt) {
-        Ok(_) => Vec::from_slice(alloc, b"is taken"),
-        Err(AllocError) => Vec::from_slice(alloc, b"out of memory"),
+    if bench.admin.snapshot(rt).is_ok() {
+        return Vec::from_slice(alloc, b"is taken");
     }
+    Vec::from_slice(alloc, b"out of memory")
 }
 
-fn shared_by(alloc: Global, names: &[u8]) -> Result<SharedAdmin<Step>, OpenError> {
-    match (Tree::empty(alloc), operators(alloc, names)) {
-        (Ok(tree), Ok(operators)) => SharedAdmin::new(alloc, tree, operators),
-        _ => Err(OpenError::OutOfMemory),
-    }
+/// What results from sharing a history of a tree.
+type Opened = Result<SharedAdmin<Step>, OpenError>;
+
+fn shared_by(alloc: Global, names: &[u8]) -> Result<Box<Opened>, AllocError> {
+    let operators = operators(alloc, names)?;
+    let tree = Tree::empty(alloc)?;
+    Ok(Box::new(alloc, SharedAdmin::new(alloc, tree, operators))?)
 }
 
 /// What results from opening a history for these operators.
 fn opened(alloc: Global, names: &[u8]) -> Result<Vec<u8>, AllocError> {
-    match shared_by(alloc, names) {
+    let opened = shared_by(alloc, names)?;
+    text_of_opened(alloc, &opened)
+}
+
+fn text_of_opened(alloc: Global, opened: &Opened) -> Result<Vec<u8>, AllocError> {
+    match opened {
         Ok(_) => Vec::from_slice(alloc, b"is shared"),
         Err(OpenError::TooManySessions) => Vec::from_slice(alloc, b"too many sessions"),
         Err(OpenError::SameOperator) => Vec::from_slice(alloc, b"an operator twice"),
@@ -423,7 +429,5 @@ fn answer(rt: &impl Wait, alloc: Global, row: &Row) -> Result<Vec<u8>, AllocErro
 
 #[test]
 fn each_call_is_one_step(rt: HostRuntime) -> Result<(), Fail> {
-    let found = unlike(rt.alloc(), ROWS, |alloc, row| answer(&rt, alloc, row))?;
-    assert!(rt; found.is_empty(), "{:?}", str::from_utf8(&found));
-    Ok(())
+    assert_rows(&rt, rt.alloc(), ROWS, |alloc, row| answer(&rt, alloc, row))
 }

@@ -14,14 +14,12 @@
 use crate::lines::two_lines;
 use crate::outcomes::outcome_text;
 use crate::readings::keys_text;
-use footprint::{Operation, Outcome, Then};
+use footprint::{Operation, Outcome};
 use link_tree::{ToWrite, Tree, write_inventory};
-use sample_rows::{Row, unlike};
+use sample_rows::{Row, is};
 use sample_values::tree;
 use std::alloc::{AllocError, Global};
-use std::process::Abort;
-use std::str::from_utf8;
-use std::test::Fail;
+use two_operations::Then;
 
 /// An operation that has a line.
 pub(crate) trait OfLine: Operation {
@@ -188,7 +186,7 @@ pub(crate) fn asked<O: OfLine>(
     row: &Row,
     inventory: &[u8],
 ) -> Result<Vec<u8>, AllocError> {
-    if row.kind.as_slice() == b"same".as_slice() {
+    if is(row, b"same") {
         return compared_lines::<O>(alloc, &row.one, &row.two);
     }
     let tree = tree(alloc, inventory)?;
@@ -198,20 +196,4 @@ pub(crate) fn asked<O: OfLine>(
 /// The answer to a row whose line has none of the verbs.
 pub(crate) fn no_such_verb(alloc: Global) -> Result<Vec<u8>, AllocError> {
     Vec::from_slice(alloc, b"no such verb here")
-}
-
-/// Every row gets the answer that it states.
-pub(crate) fn assert_rows<F>(
-    rt: &impl Abort,
-    alloc: Global,
-    rows: &[u8],
-    answer: F,
-) -> Result<(), Fail>
-where
-    F: Fn(Global, &Row) -> Result<Vec<u8>, AllocError>,
-    requires { F.IsAlwaysCallable answer }
-{
-    let found = unlike(alloc, rows, answer)?;
-    assert_eq!(rt; from_utf8(&found).unwrap_or("no text"), "");
-    Ok(())
 }

@@ -13,14 +13,14 @@ use Rattle.link_tree.proofs.Changed.{is_at}
 use Rattle.link_tree.proofs.Shapes.{same_key}
 use Rattle.disk.specs.Disks.{Held}
 use Rattle.disk.specs.Captures.{leads_to, IsReached, IsReasonAgainst, AtSlot, Asked, Led}
-use Rattle.disk.specs.Capturing.{Paths, IsCaptured, IsBegun, IsShapeError, Takes, Adds, IsSlotAt, optional}
+use Rattle.disk.specs.Capturing.{Paths, IsCaptured, IsSettled, IsBegun, IsShapeError, Takes, IsSlotAt, optional}
 use Rattle.disk.specs.Partials.{IsIn, AreCaptured, IsPartial, IsTakenFrom, IsReasonAgainstPart, TakesMore, TakesMoreOrStops}
 use Rattle.disk.specs.declared.capture_error.CaptureError.{CaptureError}
 use Rattle.disk.specs.declared.capture_error.CaptureError.TheVariants as captures
 use Rattle.disk.specs.declared.partial.Area.{Area}
 use Rattle.disk.specs.declared.partial.Partial.{Partial}
 use Rattle.disk.specs.declared.taking.Taken.{Taken}
-use Rattle.disk.proofs.Going.{in_cons, found_captured, none_captured, stays, here_captured, one_more, too_many}
+use Rattle.disk.proofs.Going.{IsNoRoom, in_cons, found_captured, none_captured, stays, here_captured, one_more, no_room}
 use Rattle.disk.proofs.Whole.{begins}
 
 first_of : {X : Type 0} (x : X) (xs : List X) → Contains (x ∷ xs) x
@@ -69,8 +69,8 @@ module _ (t : Held) (asked : Paths) where
     followed = λ q next e here leads. elim (begun.followed q next e here leads) [ inl w ↦ still next w | inr done ↦ inr done ];
   }
     where
-      still : (q : List ℕ) → Contains (path ∷ wanted) q → Contains wanted q ⊎ IsCaptured t found q
-      still q there = elim (in_cons path wanted q there) [ inl same ↦ inr (subst (IsCaptured t found) same captured) | inr was ↦ inl was ]
+      still : (q : List ℕ) → Contains (path ∷ wanted) q → Contains wanted q ⊎ IsSettled t found q
+      still q there = elim (in_cons path wanted q there) [ inl same ↦ inr (inr (subst (IsCaptured t found) same captured)) | inr was ↦ inl was ]
 
 -- an entry at a path that is requested now
 module _ (t : Held) (old new : Taken) (path : List ℕ) (entry : Entry) (free : map.get old.found path ≡ None) (there : map.get t.entries path ≡ Some entry) where
@@ -89,24 +89,19 @@ module _ (t : Held) (old new : Taken) (path : List ℕ) (entry : Entry) (free : 
         ]),
       )
 
-  no_room : map.len old.found ≡ 65536 → IsTakenFrom t old → IsReasonAgainstPart t captures.TooMany
-  no_room full begun =
+  no_part_room : (e : CaptureError) → IsNoRoom old.found e → IsTakenFrom t old → IsReasonAgainstPart t e
+  no_part_room e room begun =
       let asked = path ∷ begun.0 in
-      part_reason t asked captures.TooMany (too_many t asked old.found (path ∷ old.wanted.items) path entry free there (Asked path (first_of path begun.0)) (asked_too t begun.0 old.found old.wanted.items path begun.1) full)
+      part_reason t asked e (no_room t asked old.found (path ∷ old.wanted.items) path entry e free there (Asked path (first_of path begun.0)) room (asked_too t begun.0 old.found old.wanted.items path begun.1))
 
 pub took_other : (tree : Option Held) (old new : Taken) (path : List ℕ) (entry : Entry) (result : Result (Unit {0}) CaptureError)
     → map.get old.found path ≡ None → IfSome tree (λ t. map.get t.entries path ≡ Some entry)
-    → Adds old.found new.found result path entry → OnOk result (new.wanted.items ≡ old.wanted.items ++ optional (leads_to path entry))
+    → OnOk result (new.found ≡ map.insert old.found path entry) → IfErr result (IsNoRoom old.found) → OnOk result (new.wanted.items ≡ old.wanted.items ++ optional (leads_to path entry))
     → TakesMoreOrStops tree old new result (λ q. q ≡ path)
-took_other None old new path entry (Ok done) free there adds wants = tt
-took_other None old new path entry (Err e) free there adds wants = tt
-took_other (Some t) old new path entry (Ok done) free there adds wants = entry_taken t old new path entry free there adds wants
-took_other (Some t) old new path entry (Err captures.TooMany) free there adds wants = no_room t old new path entry free there adds
-took_other (Some t) old new path entry (Err captures.OutOfMemory) free there adds wants = λ begun. tt
-took_other (Some t) old new path entry (Err captures.Failed) free there adds wants = absurd adds
-took_other (Some t) old new path entry (Err captures.BadShape) free there adds wants = absurd adds
-took_other (Some t) old new path entry (Err (captures.Odd slot oddity)) free there adds wants = absurd adds
-took_other (Some t) old new path entry (Err (captures.NoDirectory directory)) free there adds wants = absurd adds
+took_other None old new path entry (Ok done) free there adds room wants = tt
+took_other None old new path entry (Err e) free there adds room wants = tt
+took_other (Some t) old new path entry (Ok done) free there adds room wants = entry_taken t old new path entry free there adds wants
+took_other (Some t) old new path entry (Err e) free there adds room wants = no_part_room t old new path entry free there e room
 
 -- nothing is at a path, which is no slot
 pub nothing_other : (tree : Option Held) (old : Taken) (path : List ℕ) → is_slot path ≡ false → IfSome tree (λ t. map.get t.entries path ≡ None) → IfSome tree (λ t. TakesMore t old old (λ q. q ≡ path))

@@ -50,10 +50,9 @@ fn found<D: Disk>(alloc: Global, disk: &mut D, also: &[TreePath]) -> Result<Capt
     ensures kept { D.holds disk.new ≡ D.holds disk.old }
     ensures counted { D.failures disk.new ≡ failures_after_capture (D.failures disk.old) result }
 {
-    let taken = slots_taken(alloc, disk, also)?;
-    let mut found = taken.found;
-    found.follow_all(alloc, disk, taken.wanted)?;
-    Ok(found)
+    let mut taken = slots_taken(alloc, disk, also)?;
+    taken.follow_all(alloc, disk)?;
+    Ok(taken.found)
 }
 
 /// Captures what is at slots and at the other paths that were requested, and where links lead from

@@ -1,11 +1,11 @@
 //! Takes what is at slots: reads it from the disk, and adds it to what was captured.
-ghost use Rattle.std.specs.Prelude.{◌≡◌, ◌++◌, None, true, List, ℕ, IfOk, IfErr, IfSome, OnOk};
+ghost use Rattle.std.specs.Prelude.{◌≡◌, ◌++◌, ◌⊎◌, None, true, List, ℕ, IfOk, IfErr, IfSome, OnOk};
 ghost use Rattle.std.specs.FinMap as map;
 ghost use Rattle.unit_paths.specs.Slots.{is_slot};
 ghost use Rattle.unit_paths.specs.Places.{unit_directory, preset_directory};
 ghost use Rattle.disk.specs.Disks.{ListsAll};
 ghost use Rattle.disk.specs.Captures.{leads_to, IsReasonAgainst, failures_after_capture};
-ghost use Rattle.disk.specs.Capturing.{Adds, Takes, IsSlotIn, IsSlotAt, IsSlotAtOrIn, IsUnitSlotOf, IsPresetSlotOf, AtSome, optional};
+ghost use Rattle.disk.specs.Capturing.{Takes, IsSlotIn, IsSlotAt, IsSlotAtOrIn, IsUnitSlotOf, IsPresetSlotOf, AtSome, optional};
 
 use crate::capture_error::CaptureError;
 use crate::captured::Captured;
@@ -40,7 +40,8 @@ impl Taken {
         entry: Entry,
     ) -> Result<(), CaptureError>
         requires { map.get self.old.found path ≡ None }
-        ensures adds { Adds self.old.found self.new.found result path entry }
+        ensures added { OnOk result (self.new.found ≡ map.insert self.old.found path entry) }
+        ensures room { IfErr result (λ e. (e ≡ CaptureError.OutOfMemory) ⊎ ((e ≡ CaptureError.TooMany) × (map.len self.old.found ≡ 65536))) }
         ensures wanted { OnOk result (self.new.wanted.items ≡ self.old.wanted.items ++ optional (leads_to path entry)) }
     {
         let next = leads_to(alloc, &path, &entry)?;

@@ -1,26 +1,23 @@
 -- The entries of a tree that keys look at.
-use Rattle.std.proofs.Common.{◌≡◌, ℕ, true, false, cond, List, [], ◌∷◌, All, Contains, Option, Some, None, refl, sym, ap, ◌∙◌, subst, inl, inr, ◌⊎◌}
-use Rattle.std.specs.Prelude.{not, ◌&&◌, if◌then◌else◌, is_some, IsPermutation}
-use Rattle.std.specs.Str.{bytes_eq}
+use Rattle.std.proofs.Common.{◌≡◌, ℕ, true, false, List, [], ◌∷◌, All, Contains, Option, Some, None, refl, sym, ap, ◌∙◌, inl, inr}
+use Rattle.std.specs.Prelude.{not, ◌&&◌, is_some, IsPermutation}
 use Rattle.std.specs.FinMap as map
-use Rattle.std.specs.List.{list_any}
-use Rattle.std.proofs.lemmas.Bool.{cases_Bool, true≢false, and_parts, or_left, or_right}
-use Rattle.std.proofs.lemmas.List.Elements.{All-head, All-tail, All-nil, All-cons, All-contains, All-contains_itself, All-weaker, Contains-append_right}
-use Rattle.std.proofs.lemmas.List.Sorted.{All-permutation, Contains-permutation, IsPermutation-sym}
-use Rattle.std.proofs.lemmas.Slice.Eq.{bytes_eq-Decides}
+use Rattle.std.proofs.lemmas.Bool.{cases_Bool, true≢false, and_parts}
+use Rattle.std.proofs.lemmas.List.Elements.{All-head, All-tail, All-nil, All-cons, All-contains, All-contains_itself, Contains-append_right}
+use Rattle.std.proofs.lemmas.List.Sorted.{All-permutation, Contains-permutation}
 use Rattle.link_tree.specs.declared.entry.Entry.{Entry}
 use Rattle.link_tree.specs.declared.entry.Entry.TheVariants.{File, Link}
 use Rattle.unit_paths.specs.declared.place.Scope.{Scope}
 use Rattle.unit_paths.specs.declared.slot.Slot.{Slot}
 use Rattle.unit_paths.specs.Canonical.{is_null_target}
 use Rattle.unit_paths.specs.Slots.{slot_of, is_slot}
-use Rattle.link_tree.specs.Trees.{path_cmp, Entries, set_entry}
-use Rattle.link_tree.proofs.Changed.{get-set, same_tree, same_bytes}
+use Rattle.link_tree.specs.Trees.{Entries}
+use Rattle.link_tree.proofs.Changed.{same_tree}
 use Rattle.link_tree.proofs.Maps.{all_standing, all_listed}
 use Rattle.footprint.specs.declared.key.Key.{Key}
 use Rattle.footprint.specs.declared.key.Key.TheVariants.{Cell, Marked, Presets, Links}
 use Rattle.link_tree.specs.Links.{is_of_scope, is_named, belongs}
-use Rattle.footprint.specs.Keys.{is_cell, selects, any_selects, those, shows, shown, part, StandAtSlots}
+use Rattle.footprint.specs.Keys.{is_cell, selects, any_selects, those, shown, part, StandAtSlots}
 use Rattle.unit_paths.specs.Kinds.{is_preset, is_dependency}
 use Rattle.footprint.specs.KeyLaws.{get-part, get-those, part_is}
 use Rattle.footprint.proofs.Those.{Standing, shown_there, shown_chosen, some_is, gathered, gathered_those}

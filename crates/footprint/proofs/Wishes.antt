@@ -1,5 +1,5 @@
 -- Links that are wanted all at once.
-use Rattle.std.proofs.Common.{◌≡◌, ℕ, Bool, true, false, cond, T, List, [], ◌∷◌, All, ◌⊎◌, Option, Some, None, Result, Ok, Err, refl, sym, ap, subst, ◌∙◌, inl, inr}
+use Rattle.std.proofs.Common.{◌≡◌, ℕ, Bool, true, false, cond, T, List, [], ◌∷◌, ◌⊎◌, Option, Some, None, Result, Ok, Err, refl, sym, ap, subst, ◌∙◌, inl, inr}
 use Rattle.std.specs.FinMap as map
 use Rattle.std.specs.FinMap.{find, is_sorted}
 use Rattle.std.specs.FinMap.Entries.{below_all}
@@ -8,20 +8,15 @@ use Rattle.std.specs.declared.cmp.Ordering.TheVariants.{Less}
 use Rattle.std.specs.Cmp.{tied_itself}
 use Rattle.std.specs.Cmp.Lexicographic.{nat_list_cmp_total}
 use Rattle.std.proofs.lemmas.Bool.{cases_Bool, false≢true}
-use Rattle.std.proofs.lemmas.List.Elements.{All-head, All-tail, All-weaker}
-use Rattle.unit_paths.specs.Slots.{is_slot}
 use Rattle.link_tree.specs.declared.entry.Entry.{Entry}
 use Rattle.link_tree.specs.Trees.{path_cmp, Entries, set_entry}
 use Rattle.link_tree.proofs.Changed.{is_at, get-set_entry}
 use Rattle.link_tree.proofs.Keys.{same-found}
-use Rattle.link_tree.proofs.Maps.{first, second, less, none_some, none_below, found_later, all_standing}
+use Rattle.link_tree.proofs.Maps.{first, second, less, none_some, none_below, found_later}
 use Rattle.link_tree.proofs.Shapes.{same_key}
 use Rattle.footprint.specs.declared.refusal.Refusal.{Refusal}
 use Rattle.footprint.specs.Laws.{IsRefusedAt, RefusedAtTheLeast, IsLeft, LeftAllAtOnce}
 use Rattle.footprint.specs.Placing.{Placed, Ruling, Wanted, placed_in, ruled_at, placed_before, concluded_after, wanted_at, all_wanted}
-use Rattle.footprint.specs.EditLaws.{AreAtSlots}
-use Rattle.footprint.specs.Edits.{stepped}
-use Rattle.footprint.proofs.Turns.{left_by, left_more, begun_ok, begun_err}
 
 -- a path, and what is wanted there
 abbrev pub Link : Type 0
@@ -30,84 +25,6 @@ Link = List ℕ × Option (List ℕ)
 -- what the rule leaves at one of the paths
 abbrev pub ruling_at : Entries → Link → Result (Option Entry) Refusal
 ruling_at t link = wanted_at link.1 link.0 (map.get t link.0)
-
--- The remaining links are at slots, and making them in the tree as it is now leaves what making all
--- of them leaves in the first tree.
-pub record AreComing (begun edit : Entries × Entries) (rest all : List Link) : Type 0 where
-  pub first : edit.0 ≡ begun.0
-  pub leave : left_by (all_wanted rest begun.1) edit.1 ≡ left_by (all_wanted all begun.1) begun.1
-  pub at_slots : All (λ link. is_slot link.0 ≡ true) rest
-
--- an empty map of wanted links
-pub none_at_slots : AreAtSlots map.empty
-none_at_slots path link there = none_some link (sym (map.get-empty path_cmp path) ∙ there)
-
--- one more slot with a wanted link
-pub one_at_slots : (wanted : Wanted) (slot : List ℕ) (link : Option (List ℕ)) → is_slot slot ≡ true → AreAtSlots wanted → AreAtSlots (map.insert wanted slot link)
-one_at_slots wanted slot link here all path other there = elim (cases_Bool (is_at path slot)) [
-  | inl at ↦ ap is_slot (same_key path slot at) ∙ here
-  | inr away ↦ all path other (sym (map.get-insert nat_list_cmp_total wanted slot link path ∙ ap (λ b. cond b (Some link) (map.get wanted path)) away) ∙ there)
-]
-
--- one path fewer with a wanted link
-pub fewer_at_slots : (wanted : Wanted) (slot : List ℕ) → AreAtSlots wanted → AreAtSlots (map.remove wanted slot)
-fewer_at_slots wanted slot all path link there = elim (cases_Bool (is_at path slot)) [
-  | inl at ↦ absurd (none_some link (sym (map.get-remove nat_list_cmp_total wanted slot path ∙ ap (λ b. cond b None (map.get wanted path)) at) ∙ there))
-  | inr away ↦ all path link (sym (map.get-remove nat_list_cmp_total wanted slot path ∙ ap (λ b. cond b None (map.get wanted path)) away) ∙ there)
-]
-
--- so all links in the list are at slots
-pub listed_at_slots : (wanted : Wanted) → AreAtSlots wanted → All (λ link. is_slot link.0 ≡ true) (map.entries wanted)
-listed_at_slots wanted all = All-weaker (λ link. map.get wanted link.0 ≡ Some link.1) (λ link. is_slot link.0 ≡ true) (λ link there. all link.0 link.1 there) (map.entries wanted) (all_standing wanted)
-
--- at first, all links remain
-pub none_made : (begun edit : Entries × Entries) (rest all : List Link) → edit ≡ begun → rest ≡ all → All (λ link. is_slot link.0 ≡ true) all → AreComing begun edit rest all
-none_made begun edit rest all new same slots = record {
-  first = ap (λ e. e.0) new;
-  leave = λ i. left_by (all_wanted (same i) begun.1) (new i).1;
-  at_slots = subst (All (λ link. is_slot link.0 ≡ true)) (sym same) slots;
-}
-
-pub at_slot : (begun edit : Entries × Entries) (link : Link) (rest all : List Link) → AreComing begun edit (link ∷ rest) all → is_slot link.0 ≡ true
-at_slot begun edit link rest all come = All-head (λ link. is_slot link.0 ≡ true) link rest come.at_slots
-
--- one link is made
-pub one_made : (begun edit next : Entries × Entries) (link : Link) (rest all : List Link) → AreComing begun edit (link ∷ rest) all
-    → Ok next ≡ stepped (ruled_at link.0 (ruling_at begun.1 link)) edit → AreComing begun next rest all
-one_made begun edit next link rest all come is = by_ruling (ruling_at begun.1 link) refl
-  where
-    by_ruling : (r : Result (Option Entry) Refusal) → ruling_at begun.1 link ≡ r → AreComing begun next rest all
-    by_ruling (Ok entry) at =
-        let made : Ok next ≡ stepped (ruled_at link.0 (Ok entry)) edit = is ∙ ap (λ r. stepped (ruled_at link.0 r) edit) at in
-        let same : next ≡ (edit.0, set_entry edit.1 link.0 entry) = cc in
-        let left : left_by (all_wanted rest begun.1) (set_entry edit.1 link.0 entry) ≡ left_by (all_wanted all begun.1) begun.1 =
-        sym (left_more ((link.0, entry) ∷ []) (all_wanted rest begun.1) edit.1)
-        ∙ sym (ap (λ r. left_by (concluded_after (ruled_at link.0 r) (λ left. all_wanted rest begun.1) begun.1) edit.1) at) ∙ come.leave in
-        record {
-          first = ap (λ e. e.0) same ∙ come.first;
-          leave = ap (λ (e : Entries × Entries). left_by (all_wanted rest begun.1) e.1) same ∙ left;
-          at_slots = All-tail (λ link. is_slot link.0 ≡ true) link rest come.at_slots;
-        }
-    by_ruling (Err refusal) at =
-        let made : Ok next ≡ stepped (ruled_at link.0 (Err refusal)) edit = is ∙ ap (λ r. stepped (ruled_at link.0 r) edit) at in cc
-
--- something is in the way of one link
-pub one_refused : (begun edit : Entries × Entries) (refusal : Refusal) (link : Link) (rest all : List Link) → AreComing begun edit (link ∷ rest) all
-    → Err refusal ≡ stepped (ruled_at link.0 (ruling_at begun.1 link)) edit → Err refusal ≡ stepped (all_wanted all begun.1) begun
-one_refused begun edit refusal link rest all come is = by_ruling (ruling_at begun.1 link) refl
-  where
-    by_ruling : (r : Result (Option Entry) Refusal) → ruling_at begun.1 link ≡ r → Err refusal ≡ stepped (all_wanted all begun.1) begun
-    by_ruling (Ok entry) at =
-        let made : Err refusal ≡ stepped (ruled_at link.0 (Ok entry)) edit = is ∙ ap (λ r. stepped (ruled_at link.0 r) edit) at in cc
-    by_ruling (Err other) at =
-        let made : Err refusal ≡ stepped (ruled_at link.0 (Err other)) edit = is ∙ ap (λ r. stepped (ruled_at link.0 r) edit) at in
-        let same : other ≡ refusal = cc in
-        begun_err (all_wanted all begun.1) begun refusal
-        (sym come.leave ∙ ap (λ r. left_by (concluded_after (ruled_at link.0 r) (λ left. all_wanted rest begun.1) begun.1) edit.1) at ∙ ap (λ (e : Refusal). Err e) same)
-
--- all links are made
-pub all_made : (begun edit : Entries × Entries) (all : List Link) → AreComing begun edit [] all → Ok edit ≡ stepped (all_wanted all begun.1) begun
-all_made begun edit all come = begun_ok (all_wanted all begun.1) begun edit come.first (sym come.leave)
 
 -- whether a path is less than or equal to another
 abbrev upto : List ℕ → List ℕ → Bool

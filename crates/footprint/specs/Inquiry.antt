@@ -59,6 +59,14 @@ by_cells s = record {
   agreement = λ t u agree. let same = s.agreement t u (same_cells (s.cells t) t u agree) in (same.0, ap (list_map Cell) same.1);
 }
 
+-- the same, and the cells with the result
+abbrev pub with_cells : {X : Type 0} → Search X → Inquiry (X × List (List ℕ))
+with_cells s = record {
+  conclusion = λ t. (s.conclusion t, s.cells t);
+  keys = λ t. list_map Cell (s.cells t);
+  agreement = λ t u agree. let same = s.agreement t u (same_cells (s.cells t) t u agree) in (λ i. (same.0 i, same.1 i), ap (list_map Cell) same.1);
+}
+
 -- the entry at a path
 abbrev pub stands_at : List ℕ → Inquiry (Option Entry)
 stands_at path = by_cells (look_at_cell path)
@@ -87,8 +95,3 @@ q >>= f = record {
   keys = λ t. q.keys t ++ (f (q.conclusion t)).keys t;
   agreement = both_agree q.conclusion q.keys (λ x. (f x).conclusion) (λ x. (f x).keys) q.agreement (λ x. (f x).agreement);
 }
-
--- For functions that look things up: the result of the inquiry in the tree is x, and its keys have
--- been appended to the earlier ones.
-abbrev pub Asks : {X : Type 0} → Entries → Inquiry X → (before after : List Key) → X → Type 0
-Asks t q before after x = (x ≡ q.conclusion t) × (after ≡ before ++ q.keys t)

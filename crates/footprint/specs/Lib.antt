@@ -15,9 +15,5 @@ pub mod Steps
 pub mod Units
 pub mod Commands
 pub mod Net
-pub mod NetLaws
 pub mod Then
-pub mod ThenLaws
-pub mod EditLaws
-pub mod Edits
 pub mod Laws

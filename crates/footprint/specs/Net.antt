@@ -4,8 +4,8 @@ use Rattle.std.specs.List.{flat_map}
 use Rattle.std.specs.Str.{bytes_eq}
 use Rattle.std.specs.FinMap as map
 use Rattle.link_tree.specs.declared.change.Change.{Change}
-use Rattle.link_tree.specs.Trees.{path_cmp}
-use Rattle.link_tree.specs.Differences.{same, change}
+use Rattle.link_tree.specs.Trees.{path_cmp, Entries}
+use Rattle.link_tree.specs.Differences.{same, change, with_change}
 
 -- the change at a path, if there is one
 abbrev pub change_of : List Change → List ℕ → Option Change
@@ -34,3 +34,8 @@ net_map first second = map.from_entries (flat_map (λ path. row path (net_change
 -- The net changes of two lists, the second after the first, in byte order of their paths.
 unfoldable pub net : (first second : List Change) → List Change
 net first second = map.values (net_map first second)
+
+-- net changes with further changes recorded, each against what the first tree has at its path
+abbrev pub noted : map.FinMap path_cmp Change → Entries → List Change → map.FinMap path_cmp Change
+noted net first [] = net
+noted net first (change ∷ changes) = noted (with_change net change.path (map.get first change.path) change.after) first changes

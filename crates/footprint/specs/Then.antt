@@ -1,11 +1,10 @@
 -- Two operations, one after the other.
-use Rattle.std.specs.Prelude.{Bool, ◌&&◌, if◌then◌else◌, [], ◌++◌}
+use Rattle.std.specs.Prelude.{if◌then◌else◌, [], ◌++◌}
 use Rattle.unit_file.specs.Notices.{joined}
 use Rattle.link_tree.specs.Trees.{Entries}
 use Rattle.footprint.specs.declared.answer.Answer.{Answer}
 use Rattle.footprint.specs.declared.answer.Answer.TheVariants.{Done}
 use Rattle.footprint.specs.declared.outcome.Outcome.{Outcome}
-use Rattle.footprint.specs.declared.then.Then.{Then}
 use Rattle.footprint.specs.Inquiry.{Inquiry, over, giving, after, ◌>>=◌}
 use Rattle.footprint.specs.Net.{net}
 use Rattle.footprint.specs.Operations.{Effect, is_refused}
@@ -30,14 +29,6 @@ continued second first = if is_refused first.answer then over first else giving 
 -- One after the other. All keys are looked at in the first tree.
 abbrev pub followed_by : (first second : Inquiry Effect) → Inquiry Effect
 followed_by first second = first >>= continued second
-
--- What two operations look up in a tree, and what effect they have.
-abbrev pub then_meaning : {A B : Type 0} → (A → Inquiry Effect) → (B → Inquiry Effect) → Then A B → Inquiry Effect
-then_meaning first second c = followed_by (first c.first) (second c.second)
-
--- Both together are a question if each is.
-abbrev pub both_ask : {A B : Type 0} → (A → Bool) → (B → Bool) → Then A B → Bool
-both_ask first second c = first c.first && second c.second
 
 -- For functions that compute the outcome of both on a tree from that of the first there and that of
 -- the second on the tree after it.

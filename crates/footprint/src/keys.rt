@@ -64,7 +64,7 @@ impl Keys {
     }
 
     /// Adds these keys, in their order. If memory runs out, some of them may have been added.
-    pub(crate) fn append(&mut self, more: Keys) -> Result<(), AllocError>
+    pub fn append(&mut self, more: Keys) -> Result<(), AllocError>
         ensures { OnOk result (self.new ≡ self.old ++ more) }
     {
         for key in more.items {
@@ -147,7 +147,7 @@ impl Reading {
     pub fn of(alloc: Global, tree: &Tree, keys: Keys) -> Result<Reading, AllocError>
         ensures { IfOk result (λ reading. reading ≡ reading_of keys tree.now) }
     {
-        let gathered = keys.gathered(alloc, tree)?;
+        let gathered = keys.gather(alloc, tree)?;
         KeySet::of(alloc, keys)?.read(alloc, tree, &gathered)
     }
 }

@@ -1,6 +1,5 @@
 //! What holds for all operations and keys: each function does nothing, and its contract is the law.
-ghost use Rattle.footprint.specs.Then.{then_meaning};
-ghost use Rattle.footprint.specs.Laws.{AgreeAfterChanges, ComesToTheSame, IsTakenBack, LeftAllAtOnce, MayChangePlaces, RefusedAtTheLeast, ThenAnswers, ThenInSteps, ThenLeads};
+ghost use Rattle.footprint.specs.Laws.{AgreeAfterChanges, ComesToTheSame, IsTakenBack, LeftAllAtOnce, MayChangePlaces, RefusedAtTheLeast};
 
 use crate::operation::Operation;
 
@@ -24,18 +23,6 @@ pub fn operations_are_taken_back<A: Operation>()
 /// key at which the other looks.
 pub fn commands_may_change_places<A: Operation, B: Operation>()
     ensures { MayChangePlaces A.meaning B.meaning }
-{}
-
-/// Two operations combined by `then` are what they are alone: if accepted, they leave the tree that
-/// the second leaves after the first. If the changes of the first touch no key of the second, the
-/// answer of both is that of the second alone. Their changes are undone in one step. For three
-/// operations the grouping doesn't matter, except for notices: if the second is a question and is
-/// combined with the first, the notices of the first are lost.
-pub fn then_is_one_after_the_other<A: Operation, B: Operation, C: Operation>()
-    ensures leads { ThenLeads A.meaning B.meaning }
-    ensures answers { ThenAnswers A.meaning B.meaning }
-    ensures taken_back { IsTakenBack (then_meaning A.meaning B.meaning) }
-    ensures in_steps { ThenInSteps A.meaning B.meaning C.meaning }
 {}
 
 /// Links that are wanted all at once are refused exactly if something is in the way of one of them,

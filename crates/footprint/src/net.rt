@@ -4,8 +4,7 @@ ghost use Rattle.std.specs.Option.{option_copied};
 ghost use Rattle.std.specs.FinMap as map;
 ghost use Rattle.link_tree.specs.Differences.{same, with_change};
 ghost use Rattle.link_tree.specs.Trees.{after_changes};
-ghost use Rattle.footprint.specs.EditLaws.{noted};
-ghost use Rattle.footprint.specs.Net.{net};
+ghost use Rattle.footprint.specs.Net.{net, noted};
 ghost use Rattle.footprint.specs.Operations.{AreChanges};
 
 use crate::changes::Changes;
@@ -14,9 +13,9 @@ use std::alloc::{AllocError, Global};
 use std::collections::BTreeMap;
 use std::marker::Model;
 
-/// Changes, at most one for each path. Contracts see a finite map.
+/// Changes from a first tree to a later one, at most one for each path. Contracts see a finite map.
 #[derive(Drop)]
-pub(crate) struct NetChanges {
+pub struct NetChanges {
     by_path: BTreeMap<TreePath, Change>,
 }
 
@@ -56,7 +55,7 @@ pub(crate) fn copied(entry: Option<&Entry>) -> Result<Option<Entry>, AllocError>
 }
 
 impl NetChanges {
-    /// No changes.
+    /// No changes. Allocates no memory.
     pub fn none(alloc: Global) -> NetChanges
         ensures { result ≡ map.empty }
     {
@@ -65,7 +64,8 @@ impl NetChanges {
         }
     }
 
-    /// Records what was at a path first, and what is there now.
+    /// Records what was at a path first, and what is there now. If that is the same, the path has
+    /// no change. Fails only if memory runs out.
     pub fn note(
         &mut self,
         path: &TreePath,
@@ -111,7 +111,7 @@ impl NetChanges {
         Ok(())
     }
 
-    /// The changes in byte order of their paths.
+    /// The changes in byte order of their paths. Fails only if memory runs out.
     pub fn into_changes(self, alloc: Global) -> Result<Changes, AllocError>
         ensures { IfOk result (λ changes. changes ≡ map.values self) }
     {

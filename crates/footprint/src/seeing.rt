@@ -35,7 +35,7 @@ impl Key {
         match self {
             Key::Cell(path) => Ok(Seen::Entry(copied(tree.get(path))?)),
             Key::Marked(..) => Ok(Seen::Entries(self.entries(alloc, tree)?)),
-            key => Ok(Seen::Entries(key.walked(alloc, gathered)?)),
+            key => Ok(Seen::Entries(key.walk(alloc, gathered)?)),
         }
     }
 
@@ -47,15 +47,15 @@ impl Key {
         ensures { IfOk result (λ found. found ≡ part self.now tree.now) }
     {
         if !self.is_marked() {
-            return self.walked(alloc, tree.entries());
+            return self.walk(alloc, tree.entries());
         }
         let mut keys = Keys::none(alloc);
         keys.push(self.copy()?)?;
-        keys.looked_up(alloc, tree)
+        keys.look_up(alloc, tree)
     }
 
     /// Those of these entries at which a key that isn't a cell looks: all of them are scanned.
-    fn walked(&self, alloc: Global, entries: &TreePart) -> Result<TreePart, AllocError>
+    fn walk(&self, alloc: Global, entries: &TreePart) -> Result<TreePart, AllocError>
         requires { is_cell self.now ≡ false }
         ensures { IfOk result (λ found. found ≡ part self.now entries.now) }
     {
@@ -85,21 +85,23 @@ impl Keys {
         self.as_slice().iter().any(|key| !key.is_marked())
     }
 
-    /// The entries of a tree at which at least one of the keys looks; no key may be a cell. If all
-    /// of them look at the links that belong to a name, these are looked up.
-    pub(crate) fn entries_of(&self, alloc: Global, tree: &Tree) -> Result<TreePart, AllocError>
+    /// The entries of a tree at which at least one of the keys looks; no key may be a cell. All of
+    /// them are at slots, and share their texts with the tree. If all keys look at the links that
+    /// belong to a name, these are looked up; otherwise all entries are scanned. Fails only if
+    /// memory runs out.
+    pub fn entries_of(&self, alloc: Global, tree: &Tree) -> Result<TreePart, AllocError>
         requires { All (λ key. is_cell key ≡ false) self.now }
         ensures { IfOk result (λ found. found ≡ those (any_selects self.now) tree.now) }
     {
         if self.any_other() {
-            self.walked(alloc, tree.entries())
+            self.walk(alloc, tree.entries())
         } else {
-            self.looked_up(alloc, tree)
+            self.look_up(alloc, tree)
         }
     }
 
     /// The same for these entries, all of which are scanned.
-    fn walked(&self, alloc: Global, entries: &TreePart) -> Result<TreePart, AllocError>
+    fn walk(&self, alloc: Global, entries: &TreePart) -> Result<TreePart, AllocError>
         requires { All (λ key. is_cell key ≡ false) self.now }
         ensures { IfOk result (λ found. found ≡ those (any_selects self.now) entries.now) }
     {
@@ -116,7 +118,7 @@ impl Keys {
 
 impl Keys {
     /// The links that belong to the names of the keys.
-    fn looked_up(&self, alloc: Global, tree: &Tree) -> Result<TreePart, AllocError>
+    fn look_up(&self, alloc: Global, tree: &Tree) -> Result<TreePart, AllocError>
         requires { All (λ key. is_marked key ≡ true) self.now }
         ensures { IfOk result (λ found. found ≡ those (any_selects self.now) tree.now) }
     {
@@ -186,14 +188,14 @@ impl Keys {
     /// Entries in which the keys that scan all entries see what they see in the tree. If there are
     /// several such keys, these are only the entries at which one of them looks, so that the whole
     /// tree is walked once for all of them.
-    pub(crate) fn gathered(&self, alloc: Global, tree: &Tree) -> Result<TreePart, AllocError>
+    pub(crate) fn gather(&self, alloc: Global, tree: &Tree) -> Result<TreePart, AllocError>
         ensures { IfOk result (λ gathered. All (SeesTheSame gathered tree.now) self.now) }
     {
         let walkers = self.walkers(alloc)?;
         if walkers.as_slice().len() < 2 {
             return tree.entries().share();
         }
-        walkers.walked(alloc, tree.entries())
+        walkers.walk(alloc, tree.entries())
     }
 }
 

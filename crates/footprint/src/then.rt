@@ -1,37 +1,23 @@
 //! Two operations, one after the other.
-ghost use Rattle.std.specs.Prelude.{◌≡◌, [], if◌then◌else◌, All, true, IfOk, OnOk};
-ghost use Rattle.unit_paths.specs.Slots.{is_slot};
-ghost use Rattle.link_tree.specs.Trees.{AreFrom, after_changes};
+ghost use Rattle.std.specs.Prelude.{◌≡◌, [], if◌then◌else◌, IfOk, OnOk};
+ghost use Rattle.link_tree.specs.Trees.{after_changes};
 ghost use Rattle.footprint.specs.Merging.{IsReading};
 ghost use Rattle.footprint.specs.Net.{net};
-ghost use Rattle.footprint.specs.Operations.{AreChanges, is_refused, outcome_of};
+ghost use Rattle.footprint.specs.Operations.{AreChanges, is_refused};
 ghost use Rattle.footprint.specs.Then.{answer_of_both, outcome_of_both};
 
 use crate::answer::Answer;
 use crate::changes::Changes;
 use crate::net::net_changes;
-use crate::operation::Operation;
 use crate::outcome::Outcome;
 use crate::reading::Reading;
 use link_tree::Tree;
 use std::alloc::{AllocError, Global};
 use std::mem::replace;
 
-/// Two operations, one after the other, all or nothing. The second runs on the tree after the
-/// first; if the first is refused, that is the outcome, and the second isn't run. The answer is
-/// that of the second, with the notices of the first too if both are done. If the second is
-/// refused, the changes of the first are dropped. A path at which the original entry is back in the
-/// end counts as no change. It reads the keys of both, each as it is in the first tree, and is a
-/// question if both are.
-#[derive(Debug, Drop)]
-pub struct Then<A, B> {
-    pub first: A,
-    pub second: B,
-}
-
 impl Answer {
     /// Whether nothing was done.
-    pub(crate) fn is_refused(&self) -> bool
+    pub fn is_refused(&self) -> bool
         ensures { result ≡ is_refused self.now }
     {
         match self {
@@ -78,7 +64,7 @@ fn changes_of_both(
 impl Outcome {
     /// The outcome of both on the tree, where the later one is the outcome on the tree after the
     /// changes of this one.
-    fn and_then(self, alloc: Global, tree: &Tree, later: Outcome) -> Result<Outcome, AllocError>
+    pub fn and_then(self, alloc: Global, tree: &Tree, later: Outcome) -> Result<Outcome, AllocError>
         requires first { AreChanges tree.now self.changes }
         requires second { AreChanges (after_changes self.changes tree.now) later.changes }
         requires first_reading { IsReading tree.now self.reading }
@@ -111,55 +97,4 @@ impl Outcome {
         self.reading = reading.and_then(alloc, tree, &changes, later)?;
         Ok(())
     }
-}
-
-/// The outcome of an operation on the tree after changes.
-fn run_after<B: Operation>(
-    alloc: Global,
-    tree: &Tree,
-    changes: &Changes,
-    second: &B,
-) -> Result<Outcome, AllocError>
-    requires slots { All (λ change. is_slot change.path ≡ true) changes.now }
-    requires from { AreFrom tree.now changes.now }
-    ensures outcome { IfOk result (λ done. done ≡ outcome_of B.meaning second.now (after_changes changes.now tree.now)) }
-    ensures slots { IfOk result (λ done. All (λ change. is_slot change.path ≡ true) done.changes) }
-{
-    let after = tree.with_changes(changes.as_slice())?;
-    second.run(alloc, &after)
-}
-
-impl<A: Operation, B: Operation> Operation for Then<A, B> {
-    ghost use Rattle.footprint.specs.Then.{then_meaning, both_ask};
-    ghost use Rattle.footprint.specs.ThenLaws.{then_laws};
-
-    ghost meaning = { then_meaning A.meaning B.meaning };
-
-    ghost asks = { both_ask A.asks B.asks };
-
-    fn run(&self, alloc: Global, tree: &Tree) -> Result<Outcome, AllocError> {
-        let first = self.first.run(alloc, tree)?;
-        if first.answer.is_refused() {
-            return Ok(first);
-        }
-        let second = run_after(alloc, tree, &first.changes, &self.second)?;
-        first.and_then(alloc, tree, second)
-    }
-
-    fn asks_only(&self) -> bool {
-        self.first.asks_only() && self.second.asks_only()
-    }
-
-    fn copy(&self) -> Result<Then<A, B>, AllocError> {
-        Ok(Then {
-            first: self.first.copy()?,
-            second: self.second.copy()?,
-        })
-    }
-
-    fn same(&self, other: &Then<A, B>) -> bool {
-        self.first.same(&other.first) && self.second.same(&other.second)
-    }
-
-    ghost laws = { then_laws A.laws B.laws };
 }

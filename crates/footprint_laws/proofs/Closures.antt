@@ -22,9 +22,8 @@ use Rattle.install_section.specs.declared.closed.Closed.{Closed}
 use Rattle.install_section.specs.declared.closed.ClosureFault.{ClosureFault}
 use Rattle.install_section.specs.Words.{named_by}
 use Rattle.install_section.specs.Sections.{section_of, identity_in}
-use Rattle.install_section.specs.Closure.{why_not, joined, and_then, all_joined, closed_with, joined_unless, with_name, unless_too_many, with_words, with_section, with_unit, with_unit_at, closed_from, closure}
-use Rattle.install_section.specs.ClosureLaws.{IsUnit, Reached}
-use Rattle.install_section.specs.ClosureLaws.Reached.{Given, Named}
+use Rattle.install_section.specs.Closure.{IsUnit, Reached, why_not, joined, and_then, all_joined, closed_with, joined_unless, with_name, unless_too_many, with_words, with_section, with_unit, with_unit_at, closed_from, closure}
+use Rattle.install_section.specs.Closure.Reached.{Given, Named}
 use Rattle.install_section.proofs.Least.{some_is, none_of, first_or_later, is_first, is_later, closure_least}
 use Rattle.install_section.proofs.LooksAsFind.{looks_as_find}
 use Rattle.footprint_laws.specs.Sets.{IsLookedUp, Mentions, IsLookedUpWith}

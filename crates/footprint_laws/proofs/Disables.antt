@@ -4,8 +4,7 @@ use Rattle.std.proofs.lemmas.Bool.{false≢true}
 use Rattle.std.proofs.lemmas.List.Elements.{Contains-append_left, Contains-append_right, Contains-append_cases}
 use Rattle.link_tree.specs.Trees.{Entries}
 use Rattle.load_path.specs.Find.{find}
-use Rattle.install_section.specs.Closure.{closure}
-use Rattle.install_section.specs.ClosureLaws.{Reached}
+use Rattle.install_section.specs.Closure.{Reached, closure}
 use Rattle.install_section.proofs.Least.{is_first, is_later, first_or_later, none_of}
 use Rattle.footprint.specs.declared.key.Key.{Key}
 use Rattle.footprint.specs.declared.key.Key.TheVariants.{Cell, Marked}

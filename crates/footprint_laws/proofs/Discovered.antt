@@ -24,8 +24,7 @@ use Rattle.install_section.specs.declared.closed.ClosureFault.{ClosureFault}
 use Rattle.install_section.specs.declared.closed.ClosureFault.TheVariants.{TooMany}
 use Rattle.install_section.specs.Words.{named_by, skipped}
 use Rattle.install_section.specs.Sections.{section_of}
-use Rattle.install_section.specs.Closure.{why_not, joined, and_then, all_joined, closed_with, joined_unless, with_name, unless_too_many, with_words, with_section, with_unit, with_unit_at, closed_from, closure}
-use Rattle.install_section.specs.ClosureLaws.{IsUnit}
+use Rattle.install_section.specs.Closure.{IsUnit, why_not, joined, and_then, all_joined, closed_with, joined_unless, with_name, unless_too_many, with_words, with_section, with_unit, with_unit_at, closed_from, closure}
 use Rattle.install_section.proofs.Least.{none_of}
 use Rattle.install_section.proofs.LooksAsFind.{looks_as_find}
 use Rattle.footprint_laws.specs.Discovery.{also_of, identity_by, WordLeaves, WordsLeave, WordsLook, UnitsLook, IsDiscoveredAt, ClosureLooksInOrder}

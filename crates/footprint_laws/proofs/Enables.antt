@@ -9,8 +9,7 @@ use Rattle.install_section.specs.declared.closed.Closed.{Closed}
 use Rattle.install_section.specs.declared.closed.ClosureFault.{ClosureFault}
 use Rattle.install_section.specs.declared.closed.ClosureFault.TheVariants as closure_faults
 use Rattle.install_section.specs.declared.wants.Wanted.{Wanted}
-use Rattle.install_section.specs.Closure.{closure}
-use Rattle.install_section.specs.ClosureLaws.{IsUnit, Reached}
+use Rattle.install_section.specs.Closure.{IsUnit, Reached, closure}
 use Rattle.install_section.specs.Sections.{section_of}
 use Rattle.install_section.specs.Wanted.{with_section, all_wants, no_wants, wanted}
 use Rattle.install_section.proofs.Least.{none_of, is_first, is_later, closure_least}

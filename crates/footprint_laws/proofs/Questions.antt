@@ -13,7 +13,7 @@ use Rattle.load_path.specs.declared.finding.Found.{Found}
 use Rattle.load_path.specs.declared.finding.Found.TheVariants as founds
 use Rattle.load_path.specs.Find.{find}
 use Rattle.install_section.specs.Sections.{section_of}
-use Rattle.install_section.specs.ClosureLaws.{IsUnit}
+use Rattle.install_section.specs.Closure.{IsUnit}
 use Rattle.install_section.proofs.Least.{is_first, is_later, first_or_later, none_of}
 use Rattle.install_section.proofs.LooksAsFind.{looks_as_find}
 use Rattle.footprint.specs.declared.key.Key.{Key}

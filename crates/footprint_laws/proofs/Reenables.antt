@@ -6,7 +6,7 @@ use Rattle.std.proofs.lemmas.List.Elements.{Contains-append_left, Contains-appen
 use Rattle.link_tree.specs.declared.entry.Entry.{Entry}
 use Rattle.link_tree.specs.Trees.{Entries, after_changes}
 use Rattle.load_path.specs.Find.{find}
-use Rattle.install_section.specs.ClosureLaws.{IsUnit}
+use Rattle.install_section.specs.Closure.{IsUnit}
 use Rattle.install_section.proofs.Least.{is_first, is_later, none_of}
 use Rattle.footprint.specs.declared.answer.Answer.TheVariants.{Done, Refused}
 use Rattle.footprint.specs.declared.key.Key.{Key}

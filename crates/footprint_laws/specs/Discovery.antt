@@ -4,8 +4,7 @@
 use Rattle.std.specs.Prelude.{◌≡◌, ℕ, ◌+◌, ◌↔◌, List, [], ◌∷◌, Contains, Option, Some, None, Ok, slice_get}
 use Rattle.link_tree.specs.Trees.{Entries}
 use Rattle.install_section.specs.declared.section.Section.{Section}
-use Rattle.install_section.specs.Closure.{joined, all_joined, closure}
-use Rattle.install_section.specs.ClosureLaws.{IsUnit}
+use Rattle.install_section.specs.Closure.{IsUnit, joined, all_joined, closure}
 use Rattle.install_section.specs.Sections.{identity_in, section_of}
 use Rattle.install_section.specs.Words.{named_by}
 use Rattle.footprint_laws.specs.Sets.{IsLookedUp}

@@ -9,8 +9,7 @@ use Rattle.link_tree.specs.Trees.{Entries}
 use Rattle.load_path.specs.Follow.{chain_from}
 use Rattle.install_section.specs.declared.closed.Closed.{Closed}
 use Rattle.install_section.specs.declared.wants.Wanted.{Wanted}
-use Rattle.install_section.specs.Closure.{closure}
-use Rattle.install_section.specs.ClosureLaws.{IsUnit, Reached}
+use Rattle.install_section.specs.Closure.{IsUnit, Reached, closure}
 use Rattle.preset_rules.specs.Files.{presets_of, winners}
 use Rattle.footprint.specs.declared.answer.Answer.TheVariants.{Refused}
 use Rattle.footprint.specs.declared.key.Key.{Key}

@@ -3,7 +3,7 @@ use Rattle.std.specs.Prelude.{◌≡◌, ℕ, List, [], ◌∷◌, ◌++◌, All
 use Rattle.link_tree.specs.Trees.{Entries}
 use Rattle.load_path.specs.Find.{find}
 use Rattle.install_section.specs.declared.section.Section.{Section}
-use Rattle.install_section.specs.ClosureLaws.{HasWord}
+use Rattle.install_section.specs.Closure.{HasWord}
 use Rattle.install_section.specs.Sections.{identity_in}
 use Rattle.install_section.specs.Words.{named_by}
 use Rattle.footprint.specs.declared.key.Key.{Key}

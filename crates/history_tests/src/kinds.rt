@@ -4,10 +4,9 @@ use crate::texts::text_of;
 use crate::watching::{Watch, looking};
 use history::{History, RowReply};
 use link_tree::Tree;
-use sample_rows::{Row, unlike};
+use sample_rows::{Row, assert_rows};
 use sample_steps::{operator, push_numbered, push_reply};
 use std::alloc::{AllocError, Global};
-use std::str;
 use std::test::Fail;
 
 /// A slot at which the first row makes a link; the key by which the second row looks; how many rows
@@ -126,7 +125,5 @@ fn answer(alloc: Global, row: &Row) -> Result<Vec<u8>, AllocError> {
 
 #[test]
 fn a_link_is_seen_by_these_keys(rt: HostRuntime) -> Result<(), Fail> {
-    let found = unlike(rt.alloc(), ROWS, answer)?;
-    assert!(rt; found.is_empty(), "{:?}", str::from_utf8(&found));
-    Ok(())
+    assert_rows(&rt, rt.alloc(), ROWS, answer)
 }

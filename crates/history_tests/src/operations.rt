@@ -1,14 +1,14 @@
 //! Two operations in one; and copies of replies, requests and operations.
 
 use crate::watching::{Watch, telling};
-use footprint::{Answer, Operation, Outcome, Then};
+use footprint::{Answer, Operation, Outcome};
 use history::{Request, RowReply};
 use link_tree::{Tree, push_decimal};
-use sample_rows::{Row, unlike};
+use sample_rows::{Row, assert_rows};
 use sample_steps::{Step, is, parts, push_reply, reply, request, step};
 use std::alloc::{AllocError, Global};
-use std::str;
 use std::test::Fail;
+use two_operations::Then;
 
 /// Two operations `UNIT:SLOT`, each of which gives a notice of a unit and links a slot, and the
 /// outcome of both as one: how many keys it looked at, and the lines of its notices. Two steps as
@@ -221,7 +221,5 @@ fn answer(alloc: Global, row: &Row) -> Result<Vec<u8>, AllocError> {
 
 #[test]
 fn operations_are_joined_and_copied(rt: HostRuntime) -> Result<(), Fail> {
-    let found = unlike(rt.alloc(), ROWS, answer)?;
-    assert!(rt; found.is_empty(), "{:?}", str::from_utf8(&found));
-    Ok(())
+    assert_rows(&rt, rt.alloc(), ROWS, answer)
 }

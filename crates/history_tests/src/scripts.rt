@@ -1,10 +1,9 @@
 //! Scripts of calls, undos, redos, plans and commits, and the results of their words.
 
 use crate::bench::said;
-use sample_rows::{Row, unlike};
+use sample_rows::{Row, assert_rows};
 use sample_steps::is;
 use std::alloc::{AllocError, Global};
-use std::str;
 use std::test::Fail;
 
 /// A script on a history of the empty tree, and the results of its words; then how many entries the
@@ -111,7 +110,5 @@ fn answer(alloc: Global, row: &Row) -> Result<Vec<u8>, AllocError> {
 
 #[test]
 fn each_word_of_a_script_is_answered(rt: HostRuntime) -> Result<(), Fail> {
-    let found = unlike(rt.alloc(), ROWS, answer)?;
-    assert!(rt; found.is_empty(), "{:?}", str::from_utf8(&found));
-    Ok(())
+    assert_rows(&rt, rt.alloc(), ROWS, answer)
 }

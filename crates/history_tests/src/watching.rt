@@ -1,20 +1,21 @@
 //! An operation that looks by a key of any kind, reports a word, and links a file.
-ghost use Rattle.std.specs.Prelude.{◌≡◌, ◌↔◌, IfOk, IsTrue};
-ghost use Rattle.footprint.specs.Edits.{Carries};
-ghost use Rattle.sample_steps.specs.Samples.{told_of, watch_command};
+ghost use Rattle.std.specs.Prelude.{◌≡◌, ◌↔◌, ◌∷◌, [], Ok, IfOk, OnOk, OnErr, IsTrue};
+ghost use Rattle.footprint.specs.Commands as commands;
+ghost use Rattle.footprint.specs.Inquiry.{beside};
+ghost use Rattle.sample_steps.specs.Samples.{linked_at, told_of, watch_command};
+ghost use Rattle.transaction.specs.Runs.{Runs, asking, doing};
 
-use footprint::{
-    Edit, Key, Keys, Notice, NoticeKey, Notices, Operation, Outcome, Reason, Refusal, link_at,
-};
+use footprint::{Key, Notice, NoticeKey, Notices, Operation, Outcome, Reason, Refusal};
 use link_tree::{Scope, Slot, Tree, TreePath};
 use sample_steps::{is, parts};
 use sample_values::{name, path};
 use std::alloc::{AllocError, Global};
+use transaction::{Stop, Transaction, link_at};
 use unit_file::Word;
 use unit_name::UnitName;
 
 /// Looks by a key; may report that a word of a unit was not found; and links a file at a slot.
-#[derive(Debug, Drop)]
+#[derive(Drop)]
 pub(crate) struct Watch {
     pub(crate) key: Key,
     pub(crate) told: Option<UnitName>,
@@ -53,22 +54,40 @@ impl Watch {
         Ok(notices)
     }
 
-    fn linked<'a>(
-        &self,
-        alloc: Global,
-        tree: &'a Tree,
-        keys: &mut Keys,
-    ) -> Result<(Notices, Result<Edit<'a>, Refusal>), AllocError>
-        ensures { IfOk result (λ done. Carries (watch_command self.now.key self.now.told self.now.file self.now.slot) tree.now keys.old keys.new done.0 done.1) }
+    /// Looks by the key.
+    fn look(&self, alloc: Global, txn: &mut Transaction<'_>) -> Result<(), AllocError>
+        ensures ok { OnOk result (Runs (asking (beside (self.now.key ∷ []))) txn.old txn.new (Ok tt)) }
+        ensures err { OnErr result (txn.new.first ≡ txn.old.first) }
     {
-        keys.push(self.key.copy()?)?;
+        match &self.key {
+            Key::Cell(path) => drop(txn.get(path)?),
+            key => drop(txn.entries(alloc, key.copy()?)?),
+        }
+        Ok(())
+    }
+
+    /// Links the file at the slot, and reports the word.
+    fn link(&self, alloc: Global, txn: &mut Transaction<'_>) -> Result<Notices, Stop>
+        ensures { Runs (doing (commands.telling (told_of self.now.told) (linked_at self.now.file self.now.slot))) txn.old txn.new result }
+    {
         let notices = self.notices(alloc)?;
         if Slot::of(&self.slot).is_none() {
-            return Ok((notices, Err(Refusal::NotASlot(self.slot.copy()?))));
+            return Err(Stop::Refused(Refusal::NotASlot(self.slot.copy()?)));
         }
-        keys.push(Key::Cell(self.slot.copy()?))?;
-        let ruled = link_at(alloc, &self.file, &self.slot, tree.get(&self.slot))?;
-        Ok((notices, Edit::new(alloc, tree)?.ruled(&self.slot, ruled)?))
+        let there = txn.get(&self.slot)?;
+        match link_at(alloc, &self.file, &self.slot, there.as_ref()) {
+            Ok(entry) => txn.put(alloc, &self.slot, entry)?,
+            Err(Stop::Refused(refusal)) => return Err(Stop::Refused(refusal)),
+            Err(Stop::OutOfMemory) => return Err(Stop::OutOfMemory),
+        }
+        Ok(notices)
+    }
+
+    fn watch(&self, alloc: Global, txn: &mut Transaction<'_>) -> Result<Notices, Stop>
+        ensures { Runs (doing (watch_command self.now.key self.now.told self.now.file self.now.slot)) txn.old txn.new result }
+    {
+        self.look(alloc, txn)?;
+        self.link(alloc, txn)
     }
 }
 
@@ -85,9 +104,9 @@ impl Operation for Watch {
     ghost laws = { laws_of (λ c. watch_command c.key c.told c.file c.slot) };
 
     fn run(&self, alloc: Global, tree: &Tree) -> Result<Outcome, AllocError> {
-        let mut keys = Keys::none(alloc);
-        let (notices, done) = self.linked(alloc, tree, &mut keys)?;
-        Outcome::of(alloc, tree, keys, notices, done)
+        let mut txn = Transaction::new(alloc, tree);
+        let done = self.watch(alloc, &mut txn);
+        txn.outcome(alloc, done)
     }
 
     fn asks_only(&self) -> bool {

@@ -9,7 +9,7 @@ use Rattle.link_tree.proofs.Changed.{same_bytes}
 use Rattle.load_path.specs.declared.finding.Found.{Found}
 use Rattle.load_path.specs.declared.finding.Found.TheVariants as founds
 use Rattle.load_path.specs.Find.{find}
-use Rattle.install_section.specs.ClosureLaws.{IsUnit}
+use Rattle.install_section.specs.Closure.{IsUnit}
 use Rattle.footprint.specs.declared.refusal.Refusal.{Refusal}
 use Rattle.footprint.specs.declared.refusal.Refusal.TheVariants.{IsAlias}
 use Rattle.footprint.specs.Units.{found_unit}

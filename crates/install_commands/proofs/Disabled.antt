@@ -8,8 +8,7 @@ use Rattle.link_tree.specs.declared.entry.Entry.{Entry}
 use Rattle.link_tree.specs.Links.{belongs}
 use Rattle.link_tree.specs.Trees.{Entries, after_changes}
 use Rattle.install_section.specs.declared.closed.ClosureFault.TheVariants as closure_faults
-use Rattle.install_section.specs.Closure.{closure}
-use Rattle.install_section.specs.ClosureLaws.{IsUnit, Reached}
+use Rattle.install_section.specs.Closure.{IsUnit, Reached, closure}
 use Rattle.install_section.proofs.Least.{refused_exactly}
 use Rattle.footprint.specs.declared.answer.Answer.TheVariants.{Done, Refused}
 use Rattle.footprint.specs.declared.refusal.Refusal.{Refusal}

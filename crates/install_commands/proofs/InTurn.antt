@@ -8,11 +8,11 @@ use Rattle.footprint.specs.declared.answer.Answer.TheVariants.{Done, Refused}
 use Rattle.footprint.specs.declared.refusal.Refusal.{Refusal}
 use Rattle.footprint.specs.Commands.{Command, carried_out}
 use Rattle.footprint.specs.Inquiry.{Inquiry}
-use Rattle.footprint.specs.NetLaws.{net_between}
+use Rattle.footprint.proofs.NetLaws.{net_between}
 use Rattle.footprint.specs.Operations.{Effect, AreChanges}
 use Rattle.footprint.specs.Placing.{Placed, Ruling, placed_in, effect}
 use Rattle.footprint.specs.Then.{effect_of_both, continued, followed_by}
-use Rattle.footprint.specs.ThenLaws.{changes_between_are}
+use Rattle.footprint.proofs.ThenLaws.{changes_between_are}
 use Rattle.transaction.specs.Runs.{Run, with_tree, asking_for, doing, doing_both, and_then, reporting_too, reported_by, reported_too, concluded_after, keys_after}
 use Rattle.transaction.proofs.Ends.{Means, effect_of}
 use Rattle.install_commands.specs.declared.judging.Judged.{Judged}

@@ -4,7 +4,6 @@ pub mod Enabled
 pub mod Named
 pub mod Removal
 pub mod Disabled
-pub mod Going
 pub mod InTurn
 pub mod Composites
 pub mod Reenabled

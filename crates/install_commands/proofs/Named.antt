@@ -13,9 +13,8 @@ use Rattle.load_path.proofs.Once.{cells_once}
 use Rattle.install_section.specs.declared.closed.Closed.{Closed}
 use Rattle.install_section.specs.declared.closed.ClosureFault.{ClosureFault}
 use Rattle.install_section.specs.declared.closed.ClosureFault.TheVariants as closure_faults
-use Rattle.install_section.specs.Closure.{closure}
-use Rattle.install_section.specs.ClosureLaws.{IsUnit, Reached}
-use Rattle.install_section.specs.ClosureLaws.Reached.{Given as GivenOf, Named as NamedBy}
+use Rattle.install_section.specs.Closure.{IsUnit, Reached, closure}
+use Rattle.install_section.specs.Closure.Reached.{Given as GivenOf, Named as NamedBy}
 use Rattle.install_section.proofs.Least.{is_first, is_later, first_or_later, none_of, closure_least}
 use Rattle.footprint.specs.declared.refusal.Refusal.{Refusal}
 use Rattle.footprint.specs.declared.refusal.Refusal.TheVariants.{TooMany}

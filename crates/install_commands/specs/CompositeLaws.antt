@@ -1,4 +1,5 @@
--- Laws of reenabling and of presets, each the contract of a public function: systemctl(1), "reenable", "preset".
+-- Laws of reenabling and of presets, each the contract of a public function: systemctl(1),
+-- "reenable", "preset".
 use Rattle.std.specs.Prelude.{◌≡◌, ℕ, Bool, ◌↔◌, ◌⊎◌, true, false, List, [], ◌∷◌, ◌++◌, All, Contains, Some, Ok, Err}
 use Rattle.unit_file.specs.Listed.{is_template_name}
 use Rattle.unit_paths.specs.Slots.{slot_of}
@@ -11,7 +12,7 @@ use Rattle.link_tree.specs.Trees.{Entries}
 use Rattle.load_path.specs.declared.finding.Found.TheVariants.{Unit}
 use Rattle.load_path.specs.Find.{find}
 use Rattle.load_path.specs.RealNames.{put_in}
-use Rattle.install_section.specs.ClosureLaws.{IsUnit}
+use Rattle.install_section.specs.Closure.{IsUnit}
 use Rattle.preset_rules.specs.declared.rule.Rule.{Rule}
 use Rattle.preset_rules.specs.declared.rule.Verdict.TheVariants as verdicts
 use Rattle.preset_rules.specs.Files.{policy_of}

@@ -1,4 +1,5 @@
--- Laws of enabling and disabling, each the contract of a public function: systemctl(1), "enable", "disable".
+-- Laws of enabling and disabling, each the contract of a public function: systemctl(1), "enable",
+-- "disable".
 use Rattle.std.specs.Prelude.{◌≡◌, ℕ, ◌↔◌, ◌⊎◌, true, false, List, [], ◌∷◌, ◌++◌, All, Contains, Some, None, Ok, Err, length}
 use Rattle.std.specs.List.{IsDistinct}
 use Rattle.std.specs.Str.{bytes_eq}
@@ -10,7 +11,7 @@ use Rattle.link_tree.specs.declared.entry.Entry.{Entry}
 use Rattle.link_tree.specs.declared.entry.Entry.TheVariants.{Link}
 use Rattle.link_tree.specs.Links.{belongs}
 use Rattle.link_tree.specs.Trees.{Entries, after_changes}
-use Rattle.install_section.specs.ClosureLaws.{IsUnit, Names, Reached}
+use Rattle.install_section.specs.Closure.{IsUnit, Names, Reached}
 use Rattle.install_section.specs.WantedLaws.{AsksFor}
 use Rattle.footprint.specs.declared.answer.Answer.TheVariants.{Done, Refused}
 use Rattle.footprint.specs.declared.refusal.Refusal.{Refusal}

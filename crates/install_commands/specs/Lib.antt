@@ -3,6 +3,5 @@ pub mod Enable
 pub mod Disable
 pub mod Reenable
 pub mod Preset
-pub mod BothLaws
 pub mod Laws
 pub mod CompositeLaws

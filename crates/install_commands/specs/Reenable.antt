@@ -1,33 +1,21 @@
 -- Reenabling units: systemctl(1), "reenable".
-use Rattle.std.specs.Prelude.{ℕ, if◌then◌else◌, List, [], ◌∷◌, ◌++◌, map as list_map, Result, false}
+use Rattle.std.specs.Prelude.{ℕ, if◌then◌else◌, List, [], ◌∷◌, ◌++◌, Result, false}
 use Rattle.unit_paths.specs.declared.place.Scope.{Scope}
 use Rattle.unit_paths.specs.Slots.{slot_of}
 use Rattle.unit_paths.specs.Kinds.{is_unit_slot}
 use Rattle.load_path.specs.declared.finding.Found.{Found}
 use Rattle.load_path.specs.declared.finding.Found.TheVariants.{Unit}
 use Rattle.load_path.specs.Find.{find}
-use Rattle.load_path.specs.Search.{Search}
-use Rattle.footprint.specs.declared.key.Key.TheVariants.{Cell}
 use Rattle.footprint.specs.declared.refusal.Refusal.{Refusal}
 use Rattle.footprint.specs.Commands.{Command, unless_refused, carried_out}
-use Rattle.footprint.specs.Inquiry.{Inquiry, over, giving, ◌>>=◌}
-use Rattle.footprint.specs.KeyLaws.{same_cells}
+use Rattle.footprint.specs.Inquiry.{Inquiry, over, giving, with_cells, ◌>>=◌}
 use Rattle.footprint.specs.Operations.{Effect}
 use Rattle.footprint.specs.Then.{followed_by}
-use Rattle.std.proofs.Common.{ap}
 use Rattle.install_commands.specs.declared.disable.Named.{Named}
 use Rattle.install_commands.specs.declared.reenable.Reenable.{Reenable}
 use Rattle.install_commands.specs.Check.{going_on, checked}
 use Rattle.install_commands.specs.Disable.{units_named, links_removed_but}
 use Rattle.install_commands.specs.Enable.{units_enabled}
-
--- the result of a search, with the cells that it looks at
-abbrev pub with_cells : {X : Type 0} → Search X → Inquiry (X × List (List ℕ))
-with_cells s = record {
-  conclusion = λ t. (s.conclusion t, s.cells t);
-  keys = λ t. list_map Cell (s.cells t);
-  agreement = λ t u agree. let same = s.agreement t u (same_cells (s.cells t) t u agree) in (λ i. (same.0 i, same.1 i), ap (list_map Cell) same.1);
-}
 
 -- Also keeps the cells by which a name was found, if it is a unit whose file is in none of the four
 -- directories.

@@ -18,7 +18,7 @@ pub struct Check {
 }
 
 /// Checks that one unit is found, and is no alias.
-fn one_checked(alloc: Global, name: &UnitName, txn: &mut Transaction<'_>) -> Result<(), Stop>
+fn check_one(alloc: Global, name: &UnitName, txn: &mut Transaction<'_>) -> Result<(), Stop>
     ensures { Runs (asking_for (one_checked name.now)) txn.old txn.new result }
 {
     let (real, _file) = txn.unit(alloc, name)?;
@@ -30,7 +30,7 @@ fn one_checked(alloc: Global, name: &UnitName, txn: &mut Transaction<'_>) -> Res
 }
 
 /// Checks that each unit is found, and is no alias, up to the first that is refused.
-pub(crate) fn checked(
+pub(crate) fn check_all(
     alloc: Global,
     names: &[UnitName],
     txn: &mut Transaction<'_>,
@@ -38,7 +38,7 @@ pub(crate) fn checked(
     ensures { Runs (asking_for (checked names.now)) txn.old txn.new result }
 {
     for name in names {
-        one_checked(alloc, name, txn)?;
+        check_one(alloc, name, txn)?;
     }
     Ok(())
 }
@@ -54,7 +54,7 @@ impl Operation for Check {
 
     fn run(&self, alloc: Global, tree: &Tree) -> Result<Outcome, AllocError> {
         let mut txn = Transaction::new(alloc, tree);
-        let done = checked(alloc, self.units.as_slice(), &mut txn);
+        let done = check_all(alloc, self.units.as_slice(), &mut txn);
         txn.outcome_of_steps(alloc, done)
     }
 

@@ -8,12 +8,12 @@ ghost use Rattle.install_commands.specs.Disable.{with_real, reals_behind, is_its
 ghost use Rattle.install_commands.specs.Disable as disabling;
 ghost use Rattle.transaction.specs.Runs.{Runs, asking, asking_for, doing};
 
-use crate::enable::closed;
-use footprint::{Notices, Operation, Outcome, Units, WantedLinks};
+use crate::enable::close;
+use footprint::{Notices, Operation, Outcome, Units};
 use link_tree::{Scope, Tree, TreePath};
 use load_path::Found;
 use std::alloc::{AllocError, Global};
-use transaction::{Stop, Transaction};
+use transaction::{Stop, Transaction, WantedLinks};
 use unit_name::UnitName;
 
 /// systemctl(1), `disable`: removes all links in the scope that belong to the units, no matter what
@@ -124,7 +124,7 @@ fn each_once(alloc: Global, names: &[UnitName]) -> Result<Units, AllocError>
 }
 
 /// These names with more of them after them, each once.
-fn joined_once(alloc: Global, mut names: Units, more: &[UnitName]) -> Result<Units, AllocError>
+fn join_once(alloc: Global, mut names: Units, more: &[UnitName]) -> Result<Units, AllocError>
     ensures { IfOk result (λ once. once ≡ each_once (names ++ more.now)) }
 {
     push_all(&mut names, more)?;
@@ -132,7 +132,7 @@ fn joined_once(alloc: Global, mut names: Units, more: &[UnitName]) -> Result<Uni
 }
 
 /// The closure of the units that are found under their own names, after these names.
-fn selves_named(
+fn name_selves(
     alloc: Global,
     names: Units,
     selves: &[UnitName],
@@ -140,14 +140,14 @@ fn selves_named(
 ) -> Result<Named, Stop>
     ensures { Runs (asking_for (selves_named names selves.now)) txn.old txn.new result }
 {
-    let closed = closed(alloc, selves, txn)?;
-    let names = joined_once(alloc, names, closed.units.as_slice())?;
+    let closed = close(alloc, selves, txn)?;
+    let names = join_once(alloc, names, closed.units.as_slice())?;
     let notices = closed.notices;
     Ok(Named { names, notices })
 }
 
 /// The names to disable, given the units' own names.
-fn reals_named(
+fn name_reals(
     alloc: Global,
     units: &[UnitName],
     reals: &[UnitName],
@@ -159,12 +159,12 @@ fn reals_named(
     let mut names = Units::none(alloc);
     push_all(&mut names, units)?;
     push_all(&mut names, reals)?;
-    selves_named(alloc, names, selves.as_slice(), txn)
+    name_selves(alloc, names, selves.as_slice(), txn)
 }
 
 /// The names to disable: those that are given, the own names of those that are found as units, and
 /// the closure of those of them that are found under their own names. Refused by `TooMany`.
-pub(crate) fn units_named(
+pub(crate) fn name_units(
     alloc: Global,
     units: &[UnitName],
     txn: &mut Transaction<'_>,
@@ -172,7 +172,7 @@ pub(crate) fn units_named(
     ensures { Runs (asking_for (disabling.units_named units.now)) txn.old txn.new result }
 {
     let reals = reals(alloc, units, txn)?;
-    reals_named(alloc, units, reals.as_slice(), txn)
+    name_reals(alloc, units, reals.as_slice(), txn)
 }
 
 /// Removes these paths from what is wanted: what is there stays as it is.
@@ -186,7 +186,7 @@ fn leave_all(wanted: &mut WantedLinks, kept: &[TreePath])
 
 /// Wants the removal of all links of the scope that belong to one of the names, but for the paths
 /// that are kept.
-fn links_unwanted(
+fn collect_unwanted(
     alloc: Global,
     scope: Scope,
     names: &[UnitName],
@@ -204,7 +204,7 @@ fn links_unwanted(
 
 /// Removes the links of the scope that belong to one of the names, but for those that are kept.
 /// Returns the notices about skipped words.
-pub(crate) fn links_removed_but(
+pub(crate) fn remove_links_but(
     alloc: Global,
     scope: Scope,
     kept: &[TreePath],
@@ -213,13 +213,13 @@ pub(crate) fn links_removed_but(
 ) -> Result<Notices, Stop>
     ensures { Runs (doing (disabling.links_removed_but scope kept.now named)) txn.old txn.new result }
 {
-    let wanted = links_unwanted(alloc, scope, named.names.as_slice(), kept, txn)?;
+    let wanted = collect_unwanted(alloc, scope, named.names.as_slice(), kept, txn)?;
     txn.all_at_once(alloc, &wanted)?;
     Ok(named.notices)
 }
 
 /// Removes all links of the scope that belong to one of the names.
-pub(crate) fn links_removed(
+pub(crate) fn remove_links(
     alloc: Global,
     scope: Scope,
     named: Named,
@@ -227,15 +227,15 @@ pub(crate) fn links_removed(
 ) -> Result<Notices, Stop>
     ensures { Runs (doing (disabling.links_removed scope named)) txn.old txn.new result }
 {
-    links_removed_but(alloc, scope, &[], named, txn)
+    remove_links_but(alloc, scope, &[], named, txn)
 }
 
 impl Disable {
-    fn carried_out(&self, alloc: Global, txn: &mut Transaction<'_>) -> Result<Notices, Stop>
+    fn carry_out(&self, alloc: Global, txn: &mut Transaction<'_>) -> Result<Notices, Stop>
         ensures { Runs (doing (disable_command self.now)) txn.old txn.new result }
     {
-        let named = units_named(alloc, self.units.as_slice(), txn)?;
-        links_removed(alloc, self.scope, named, txn)
+        let named = name_units(alloc, self.units.as_slice(), txn)?;
+        remove_links(alloc, self.scope, named, txn)
     }
 }
 
@@ -250,7 +250,7 @@ impl Operation for Disable {
 
     fn run(&self, alloc: Global, tree: &Tree) -> Result<Outcome, AllocError> {
         let mut txn = Transaction::new(alloc, tree);
-        let done = self.carried_out(alloc, &mut txn);
+        let done = self.carry_out(alloc, &mut txn);
         txn.outcome(alloc, done)
     }
 

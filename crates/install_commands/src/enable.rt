@@ -6,15 +6,15 @@ ghost use Rattle.install_commands.specs.Enable as enabling;
 ghost use Rattle.install_commands.specs.Enable.{unless_too_many, to_stand, links_made};
 ghost use Rattle.transaction.specs.Runs.{Runs, asking_for, doing};
 
-use crate::check::checked;
-use footprint::{Notices, Operation, Outcome, Refusal, Units, WantedLinks};
+use crate::check::check_all;
+use footprint::{Notices, Operation, Outcome, Refusal, Units};
 use install_section::{
     Closed, ClosureFault, Links, Wanted, WantedFault, closure_into, wanted_into,
 };
 use link_tree::{Scope, Tree};
 use load_path::Cells;
 use std::alloc::{AllocError, Global};
-use transaction::{Stop, Transaction};
+use transaction::{Stop, Transaction, WantedLinks};
 use unit_name::UnitName;
 
 /// systemctl(1), `enable`: makes the links in the scope that are asked for by the [Install]
@@ -33,7 +33,7 @@ pub struct Enable {
 }
 
 /// The units that are enabled and disabled together. Refused by `TooMany`.
-pub(crate) fn closed(
+pub(crate) fn close(
     alloc: Global,
     units: &[UnitName],
     txn: &mut Transaction<'_>,
@@ -51,7 +51,7 @@ pub(crate) fn closed(
 
 /// The links that the units of a closure want; with `skip` a word that would need an instance asks
 /// for nothing. Refused by `NeedsInstance` or `Clash`.
-fn closed_want(
+fn collect_links(
     alloc: Global,
     scope: Scope,
     skip: bool,
@@ -77,7 +77,7 @@ fn closed_want(
 
 /// The links wanted by units and by the units that they name; with `skip` a word that would need an
 /// instance asks for nothing.
-fn units_want(
+fn close_and_collect(
     alloc: Global,
     scope: Scope,
     skip: bool,
@@ -86,12 +86,12 @@ fn units_want(
 ) -> Result<Wanted, Stop>
     ensures { Runs (asking_for (enabling.units_want scope skip units.now)) txn.old txn.new result }
 {
-    let closed = closed(alloc, units, txn)?;
-    closed_want(alloc, scope, skip, closed, txn)
+    let closed = close(alloc, units, txn)?;
+    collect_links(alloc, scope, skip, closed, txn)
 }
 
 /// The links that units want. First checks that each unit is found and is no alias.
-fn checked_want(
+fn check_and_collect(
     alloc: Global,
     scope: Scope,
     skip: bool,
@@ -100,8 +100,8 @@ fn checked_want(
 ) -> Result<Wanted, Stop>
     ensures { Runs (asking_for (enabling.checked_want scope skip units.now)) txn.old txn.new result }
 {
-    checked(alloc, units, txn)?;
-    units_want(alloc, scope, skip, units, txn)
+    check_all(alloc, units, txn)?;
+    close_and_collect(alloc, scope, skip, units, txn)
 }
 
 /// Wants a link at each of the paths.
@@ -116,7 +116,7 @@ fn to_stand(alloc: Global, links: &Links) -> Result<WantedLinks, AllocError>
 }
 
 /// Makes the wanted links, all at once.
-fn made(alloc: Global, wanted: Wanted, txn: &mut Transaction<'_>) -> Result<Notices, Stop>
+fn make_links(alloc: Global, wanted: Wanted, txn: &mut Transaction<'_>) -> Result<Notices, Stop>
     ensures { Runs (doing (links_made wanted)) txn.old txn.new result }
 {
     let links = to_stand(alloc, &wanted.links)?;
@@ -126,7 +126,7 @@ fn made(alloc: Global, wanted: Wanted, txn: &mut Transaction<'_>) -> Result<Noti
 
 /// Checks units, and enables them and those that they name; with `skip` a word that would need an
 /// instance asks for nothing. Returns the notices about skipped words.
-pub(crate) fn units_enabled(
+pub(crate) fn enable_units(
     alloc: Global,
     scope: Scope,
     skip: bool,
@@ -135,8 +135,8 @@ pub(crate) fn units_enabled(
 ) -> Result<Notices, Stop>
     ensures { Runs (doing (enabling.units_enabled scope skip units.now)) txn.old txn.new result }
 {
-    let wanted = checked_want(alloc, scope, skip, units, txn)?;
-    made(alloc, wanted, txn)
+    let wanted = check_and_collect(alloc, scope, skip, units, txn)?;
+    make_links(alloc, wanted, txn)
 }
 
 impl Operation for Enable {
@@ -151,7 +151,7 @@ impl Operation for Enable {
     fn run(&self, alloc: Global, tree: &Tree) -> Result<Outcome, AllocError> {
         let mut txn = Transaction::new(alloc, tree);
         let units = self.units.as_slice();
-        let done = units_enabled(alloc, self.scope, false, units, &mut txn);
+        let done = enable_units(alloc, self.scope, false, units, &mut txn);
         txn.outcome(alloc, done)
     }
 

@@ -5,8 +5,8 @@ ghost use Rattle.install_commands.specs.Preset as presets;
 ghost use Rattle.install_commands.specs.Preset.{asks, counting_behind, judged_disabled, judged_enabled, preset_judges, telling_too};
 ghost use Rattle.transaction.specs.Runs.{Runs, and_then, asking, asking_for, doing, doing_both};
 
-use crate::disable::{Named, links_removed, units_named};
-use crate::following::then_enabled;
+use crate::disable::{Named, name_units, remove_links};
+use crate::following::then_enable;
 use crate::judging::Judged;
 use footprint::{Notices, Operation, Outcome, Units};
 use install_section::{Section, section_into};
@@ -79,7 +79,11 @@ fn push_counting(units: &mut Units, unit: &UnitName, counts: bool) -> Result<(),
 }
 
 /// Those of the units to which presets apply, in order, up to one that isn't found.
-fn counting(alloc: Global, units: &[UnitName], txn: &mut Transaction<'_>) -> Result<Units, Stop>
+fn select_counting(
+    alloc: Global,
+    units: &[UnitName],
+    txn: &mut Transaction<'_>,
+) -> Result<Units, Stop>
     ensures { Runs (asking_for (counting_behind [] units.now)) txn.old txn.new result }
 {
     let mut names = Units::none(alloc);
@@ -91,11 +95,7 @@ fn counting(alloc: Global, units: &[UnitName], txn: &mut Transaction<'_>) -> Res
 }
 
 /// Which of the units the preset files of the tree say to disable, and which to enable.
-fn judged(
-    alloc: Global,
-    units: &[UnitName],
-    txn: &mut Transaction<'_>,
-) -> Result<Judged, AllocError>
+fn judge(alloc: Global, units: &[UnitName], txn: &mut Transaction<'_>) -> Result<Judged, AllocError>
     ensures ok { IfOk result (λ judged. Runs (asking (presets.units_judged units.now)) txn.old txn.new (Ok judged)) }
     ensures err { OnErr result (txn.new.first ≡ txn.old.first) }
 {
@@ -107,7 +107,7 @@ fn judged(
 }
 
 /// Adds these notices.
-fn telling_too(notices: Notices, named: Named) -> Result<Named, AllocError>
+fn tell_too(notices: Notices, named: Named) -> Result<Named, AllocError>
     ensures { IfOk result (λ told. told ≡ telling_too notices named) }
 {
     let mut told = notices;
@@ -119,7 +119,7 @@ fn telling_too(notices: Notices, named: Named) -> Result<Named, AllocError>
 }
 
 /// The names of the units to disable, with the notices of the verdicts too.
-fn judged_named(
+fn name_judged(
     alloc: Global,
     disabled: &[UnitName],
     notices: Notices,
@@ -127,12 +127,12 @@ fn judged_named(
 ) -> Result<Named, Stop>
     ensures { Runs (asking_for (presets.judged_named disabled.now notices)) txn.old txn.new result }
 {
-    let named = units_named(alloc, disabled, txn)?;
-    Ok(telling_too(notices, named)?)
+    let named = name_units(alloc, disabled, txn)?;
+    Ok(tell_too(notices, named)?)
 }
 
 /// Disables units, and returns the notices about instances too.
-fn disabled_telling(
+fn disable_telling(
     alloc: Global,
     scope: Scope,
     disabled: &[UnitName],
@@ -141,12 +141,12 @@ fn disabled_telling(
 ) -> Result<Notices, Stop>
     ensures { Runs (doing (presets.disabled_telling scope disabled.now notices)) txn.old txn.new result }
 {
-    let named = judged_named(alloc, disabled, notices, txn)?;
-    links_removed(alloc, scope, named, txn)
+    let named = name_judged(alloc, disabled, notices, txn)?;
+    remove_links(alloc, scope, named, txn)
 }
 
 /// Disables units, and then enables others, as the preset files say.
-fn carried_through(
+fn carry_through(
     alloc: Global,
     scope: Scope,
     judged: Judged,
@@ -159,8 +159,8 @@ fn carried_through(
         enabled,
         notices,
     } = judged;
-    let notices = disabled_telling(alloc, scope, disabled.as_slice(), notices, txn)?;
-    then_enabled(alloc, notices, scope, true, enabled.as_slice(), txn)
+    let notices = disable_telling(alloc, scope, disabled.as_slice(), notices, txn)?;
+    then_enable(alloc, notices, scope, true, enabled.as_slice(), txn)
 }
 
 impl Preset {
@@ -168,22 +168,22 @@ impl Preset {
     fn judges(&self, alloc: Global, txn: &mut Transaction<'_>) -> Result<Judged, Stop>
         ensures { Runs (asking_for (preset_judges self.now)) txn.old txn.new result }
     {
-        let units = counting(alloc, self.units.as_slice(), txn)?;
-        Ok(judged(alloc, units.as_slice(), txn)?)
+        let units = select_counting(alloc, self.units.as_slice(), txn)?;
+        Ok(judge(alloc, units.as_slice(), txn)?)
     }
 
-    fn carried_out(&self, alloc: Global, txn: &mut Transaction<'_>) -> Result<Notices, Stop>
+    fn carry_out(&self, alloc: Global, txn: &mut Transaction<'_>) -> Result<Notices, Stop>
         ensures { Runs (and_then (asking_for (preset_judges self.now)) (λ judged. doing_both (judged_disabled self.now.scope judged) (judged_enabled self.now.scope judged))) txn.old txn.new result }
     {
         let judged = self.judges(alloc, txn)?;
-        carried_through(alloc, self.scope, judged, txn)
+        carry_through(alloc, self.scope, judged, txn)
     }
 }
 
 impl Operation for Preset {
-    ghost use Rattle.std.specs.Prelude.{false};
-    ghost use Rattle.install_commands.specs.BothLaws.{preset_laws};
-    ghost use Rattle.install_commands.specs.Preset.{preset_meaning};
+    ghost use Rattle.std.specs.Prelude.{false, refl};
+    ghost use Rattle.footprint.proofs.InTurns.{laws_of_both, laws_after};
+    ghost use Rattle.install_commands.specs.Preset.{judged_disabled, judged_enabled, carried_through, preset_judges, preset_meaning};
 
     ghost meaning = { preset_meaning };
 
@@ -191,7 +191,7 @@ impl Operation for Preset {
 
     fn run(&self, alloc: Global, tree: &Tree) -> Result<Outcome, AllocError> {
         let mut txn = Transaction::new(alloc, tree);
-        let done = self.carried_out(alloc, &mut txn);
+        let done = self.carry_out(alloc, &mut txn);
         txn.outcome(alloc, done)
     }
 
@@ -210,5 +210,7 @@ impl Operation for Preset {
         self.scope == other.scope && self.units.same(&other.units)
     }
 
-    ghost laws = { preset_laws };
+    ghost laws = { laws_after preset_judges (λ preset. carried_through preset.scope)
+        (laws_of_both (λ c. judged_disabled c.0.scope c.1) (λ c. judged_enabled c.0.scope c.1))
+        (λ preset refusal. refl) };
 }

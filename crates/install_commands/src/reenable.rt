@@ -1,14 +1,14 @@
 //! reenable.
 ghost use Rattle.std.specs.Prelude.{◌≡◌, ◌++◌, [], Ok, IfOk, OnErr, OnOk};
 ghost use Rattle.load_path.specs.Find.{find};
-ghost use Rattle.footprint.specs.Inquiry.{giving};
+ghost use Rattle.footprint.specs.Inquiry.{giving, with_cells};
 ghost use Rattle.install_commands.specs.Reenable as reenabling;
-ghost use Rattle.install_commands.specs.Reenable.{with_cells, with_kept, kept_behind, reenable_disables, reenable_enables};
+ghost use Rattle.install_commands.specs.Reenable.{with_kept, kept_behind, reenable_disables, reenable_enables};
 ghost use Rattle.transaction.specs.Runs.{Runs, asking, asking_for, doing, doing_both};
 
-use crate::check::checked;
-use crate::disable::{Named, links_removed_but, units_named};
-use crate::following::then_enabled;
+use crate::check::check_all;
+use crate::disable::{Named, name_units, remove_links_but};
+use crate::following::then_enable;
 use footprint::{Notices, Operation, Outcome, Units};
 use link_tree::{Scope, Slot, Tree, TreePath};
 use load_path::{Cells, Found, find_into};
@@ -71,7 +71,7 @@ fn keep_for(
 }
 
 /// The cells that are kept for the names, in order.
-fn kept_for(
+fn keep_for_all(
     alloc: Global,
     names: &[UnitName],
     txn: &mut Transaction<'_>,
@@ -87,20 +87,20 @@ fn kept_for(
 }
 
 /// The names of the units, which are checked first.
-fn checked_named(
+fn check_and_name(
     alloc: Global,
     units: &[UnitName],
     txn: &mut Transaction<'_>,
 ) -> Result<Named, Stop>
     ensures { Runs (asking_for (reenabling.checked_named units.now)) txn.old txn.new result }
 {
-    checked(alloc, units, txn)?;
-    units_named(alloc, units, txn)
+    check_all(alloc, units, txn)?;
+    name_units(alloc, units, txn)
 }
 
 /// Removes the links that belong to one of the names, except those by which a file outside the unit
 /// directories is found.
-fn links_cleared(
+fn clear_links(
     alloc: Global,
     scope: Scope,
     named: Named,
@@ -108,25 +108,25 @@ fn links_cleared(
 ) -> Result<Notices, Stop>
     ensures { Runs (doing (reenabling.links_cleared scope named)) txn.old txn.new result }
 {
-    let kept = kept_for(alloc, named.names.as_slice(), txn)?;
-    links_removed_but(alloc, scope, kept.as_slice(), named, txn)
+    let kept = keep_for_all(alloc, named.names.as_slice(), txn)?;
+    remove_links_but(alloc, scope, kept.as_slice(), named, txn)
 }
 
 impl Reenable {
     /// The first part: checks the units and removes their links.
-    fn disabled(&self, alloc: Global, txn: &mut Transaction<'_>) -> Result<Notices, Stop>
+    fn disable(&self, alloc: Global, txn: &mut Transaction<'_>) -> Result<Notices, Stop>
         ensures { Runs (doing (reenable_disables self.now)) txn.old txn.new result }
     {
-        let named = checked_named(alloc, self.units.as_slice(), txn)?;
-        links_cleared(alloc, self.scope, named, txn)
+        let named = check_and_name(alloc, self.units.as_slice(), txn)?;
+        clear_links(alloc, self.scope, named, txn)
     }
 
     /// Both parts.
-    fn carried_out(&self, alloc: Global, txn: &mut Transaction<'_>) -> Result<Notices, Stop>
+    fn carry_out(&self, alloc: Global, txn: &mut Transaction<'_>) -> Result<Notices, Stop>
         ensures { Runs (doing_both (reenable_disables self.now) (reenable_enables self.now)) txn.old txn.new result }
     {
-        let notices = self.disabled(alloc, txn)?;
-        then_enabled(
+        let notices = self.disable(alloc, txn)?;
+        then_enable(
             alloc,
             notices,
             self.scope,
@@ -139,7 +139,7 @@ impl Reenable {
 
 impl Operation for Reenable {
     ghost use Rattle.std.specs.Prelude.{false};
-    ghost use Rattle.install_commands.specs.BothLaws.{laws_of_both};
+    ghost use Rattle.footprint.proofs.InTurns.{laws_of_both};
     ghost use Rattle.install_commands.specs.Reenable.{reenable_disables, reenable_enables, reenable_meaning};
 
     ghost meaning = { reenable_meaning };
@@ -148,7 +148,7 @@ impl Operation for Reenable {
 
     fn run(&self, alloc: Global, tree: &Tree) -> Result<Outcome, AllocError> {
         let mut txn = Transaction::new(alloc, tree);
-        let done = self.carried_out(alloc, &mut txn);
+        let done = self.carry_out(alloc, &mut txn);
         txn.outcome(alloc, done)
     }
 

@@ -33,9 +33,9 @@ use Rattle.install_section.specs.declared.closed.ClosureFault.{ClosureFault}
 use Rattle.install_section.specs.declared.closed.ClosureFault.TheVariants.{TooMany}
 use Rattle.install_section.specs.Words.{named_by, skipped}
 use Rattle.install_section.specs.Sections.{section_of, identity_in}
-use Rattle.install_section.specs.Closure.{why_not, joined, and_then, all_joined, closed_with, skipping, joined_unless, with_name, unless_too_many, with_words, with_section, with_unit, with_unit_at, closed_from, closure}
-use Rattle.install_section.specs.ClosureLaws.{IsUnit, Names, IsNone, IsSkipped, Reached, ClosureIsLeast, RefusedWhereTooMany, NoticesAreOfSkippedWords, ComeToSame, AnyOrder}
-use Rattle.install_section.specs.ClosureLaws.Reached.{Given, Named}
+use Rattle.install_section.specs.Closure.{IsUnit, Names, Reached, why_not, joined, and_then, all_joined, closed_with, skipping, joined_unless, with_name, unless_too_many, with_words, with_section, with_unit, with_unit_at, closed_from, closure}
+use Rattle.install_section.specs.ClosureLaws.{IsNone, IsSkipped, ClosureIsLeast, RefusedWhereTooMany, NoticesAreOfSkippedWords, ComeToSame, AnyOrder}
+use Rattle.install_section.specs.Closure.Reached.{Given, Named}
 
 -- a name is a unit's exactly if there is no reason why it isn't
 itself : (name : List ℕ) (found : Found) → why_not name found ≡ None → (file : List ℕ) × (place : Place) × (found ≡ Unit name file place)

@@ -1,5 +1,7 @@
--- The units that are enabled and disabled together: systemd.unit(5), "[Install] Section Options", `Also=`.
-use Rattle.std.specs.Prelude.{ℕ, zero, suc, ◌+◌, nat_lt, if◌then◌else◌, List, [], ◌∷◌, ◌++◌, Option, Some, None, Result, Ok, Err, length, slice_get}
+-- The units that are enabled and disabled together: systemd.unit(5), "[Install] Section Options",
+-- `Also=`. First they are a set, by its rules; the walk that lists them, with the notices, follows.
+-- `closure_is_least` says that both are the same.
+use Rattle.std.specs.Prelude.{◌≡◌, ℕ, zero, suc, ◌+◌, nat_lt, if◌then◌else◌, List, [], ◌∷◌, ◌++◌, Contains, Option, Some, None, Result, Ok, Err, length, slice_get}
 use Rattle.std.specs.List.{list_any}
 use Rattle.std.specs.Str.{bytes_eq}
 use Rattle.std.specs.FinMap as map
@@ -7,6 +9,8 @@ use Rattle.unit_file.specs.declared.notice.NoticeKey.TheVariants.{Also}
 use Rattle.unit_file.specs.declared.notice.Reason.{Reason}
 use Rattle.unit_file.specs.declared.notice.Reason.TheVariants as reasons
 use Rattle.unit_file.specs.Notices.{NoticeMap, with_notice}
+use Rattle.unit_paths.specs.declared.place.Place.{Place}
+use Rattle.link_tree.specs.Trees.{Entries}
 use Rattle.load_path.specs.declared.finding.Found.{Found}
 use Rattle.load_path.specs.declared.finding.Found.TheVariants.{Missing, Masked, Dangling, Unit}
 use Rattle.load_path.specs.Search.{Search, over, giving, ◌>>=◌}
@@ -18,7 +22,26 @@ use Rattle.install_section.specs.declared.closed.ClosureFault.TheVariants.{TooMa
 use Rattle.install_section.specs.Words.{named_by, skipped}
 use Rattle.install_section.specs.Sections.{section_of, identity_in}
 
--- why what a name is found as doesn't join: it isn't a unit found under its own name
+-- A name is found as a unit with that own name.
+abbrev pub IsUnit : Entries → (name : List ℕ) → Type 0
+IsUnit t name = (file : List ℕ) × (place : Place) × ((find name).conclusion t ≡ Unit name file place)
+
+-- A word of a unit's `Also=`, as it is written.
+abbrev pub HasWord : Entries → (unit word : List ℕ) → Section → Type 0
+HasWord t unit word section = ((section_of unit).conclusion t ≡ Some section) × Contains section.text.also word
+
+-- A unit names another one: a word of it, expanded with its identity, is the name of a unit found
+-- under its own name.
+abbrev pub Names : Entries → (unit name : List ℕ) → Type 0
+Names t unit name = (word : List ℕ) × (section : Section) × HasWord t unit word section × (named_by (identity_in unit section) word ≡ Ok name) × IsUnit t name
+
+-- The least set that contains the given names and, with each name, those that its unit names.
+pub data Reached (t : Entries) (given : List (List ℕ)) : List ℕ → Type 0 where
+  Given : (name : List ℕ) → Contains given name → Reached t given name
+  Named : (unit name : List ℕ) → Reached t given unit → Names t unit name → Reached t given name
+
+-- From here on the walk: why what a name is found as doesn't join. It isn't a unit found under its
+-- own name.
 abbrev pub why_not : (name : List ℕ) → Found → Option Reason
 why_not name Missing = Some reasons.NotFound
 why_not name (Masked place) = Some reasons.Masked

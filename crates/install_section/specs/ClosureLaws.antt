@@ -7,30 +7,15 @@ use Rattle.unit_file.specs.declared.notice.Notice.{Notice}
 use Rattle.unit_file.specs.declared.notice.NoticeKey.TheVariants.{Also}
 use Rattle.unit_file.specs.declared.notice.Reason.{Reason}
 use Rattle.unit_file.specs.Notices.{notice_line}
-use Rattle.unit_paths.specs.declared.place.Place.{Place}
 use Rattle.link_tree.specs.Trees.{Entries}
-use Rattle.load_path.specs.declared.finding.Found.TheVariants as founds
 use Rattle.load_path.specs.Find.{find}
 use Rattle.install_section.specs.declared.section.Section.{Section}
 use Rattle.install_section.specs.declared.closed.Closed.{Closed}
 use Rattle.install_section.specs.declared.closed.ClosureFault.{ClosureFault}
 use Rattle.install_section.specs.declared.closed.ClosureFault.TheVariants.{TooMany}
 use Rattle.install_section.specs.Words.{named_by, skipped}
-use Rattle.install_section.specs.Sections.{section_of, identity_in}
-use Rattle.install_section.specs.Closure.{why_not, closure}
-
--- A name is found as a unit with that own name.
-abbrev pub IsUnit : Entries → (name : List ℕ) → Type 0
-IsUnit t name = (file : List ℕ) × (place : Place) × ((find name).conclusion t ≡ founds.Unit name file place)
-
--- A word of a unit's `Also=`, as it is written.
-abbrev pub HasWord : Entries → (unit word : List ℕ) → Section → Type 0
-HasWord t unit word section = ((section_of unit).conclusion t ≡ Some section) × Contains section.text.also word
-
--- A unit names another one: a word of it, expanded with its identity, is the name of a unit found
--- under its own name.
-abbrev pub Names : Entries → (unit name : List ℕ) → Type 0
-Names t unit name = (word : List ℕ) × (section : Section) × HasWord t unit word section × (named_by (identity_in unit section) word ≡ Ok name) × IsUnit t name
+use Rattle.install_section.specs.Sections.{identity_in}
+use Rattle.install_section.specs.Closure.{HasWord, Reached, why_not, closure}
 
 -- why a word names no unit that is found under its own name: it is not a name, or the reason that
 -- its unit isn't found so
@@ -43,13 +28,7 @@ abbrev pub IsSkipped : Entries → (unit : List ℕ) → Notice → Type 0
 IsSkipped t unit notice =
     (word : List ℕ) × (section : Section) × (reason : Reason) × HasWord t unit word section × IsNone t (identity_in unit section) word reason × (notice ≡ skipped unit Also word reason)
 
--- The given names, and with each name those that its unit names.
-pub data Reached (t : Entries) (given : List (List ℕ)) : List ℕ → Type 0 where
-  Given : (name : List ℕ) → Contains given name → Reached t given name
-  Named : (unit name : List ℕ) → Reached t given unit → Names t unit name → Reached t given name
-
--- The closure is the least set that contains the given names and, with each name, those that its
--- unit names; each is there once.
+-- The walk lists the units of the closure, each once, and no others.
 abbrev pub ClosureIsLeast : Type 0
 ClosureIsLeast = (given : List (List ℕ)) (t : Entries) (closed : Closed) → (closure given).conclusion t ≡ Ok closed
     → IsDistinct bytes_eq closed.units × ((name : List ℕ) → Contains closed.units name ↔ Reached t given name)

@@ -1,5 +1,5 @@
--- Which link a word of an [Install] section asks for: systemd.unit(5), "[Install] Section Options", `WantedBy=`, `RequiredBy=`,
--- `UpheldBy=` and `Alias=`; "Description", on aliases and templates.
+-- Which link a word of an [Install] section asks for: systemd.unit(5), "[Install] Section Options",
+-- `WantedBy=`, `RequiredBy=`, `UpheldBy=` and `Alias=`; "Description", on aliases and templates.
 use Rattle.std.specs.Prelude.{ℕ, Bool, true, false, not, ◌&&◌, if◌then◌else◌, List, Option, Some, None, Result, Ok, Err}
 use Rattle.std.specs.Str.{bytes_eq}
 use Rattle.unit_name.specs.declared.kind.Kind.{Kind}

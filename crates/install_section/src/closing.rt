@@ -18,13 +18,14 @@ use std::alloc::{AllocError, Global};
 use unit_file::{NoticeKey, Notices, Reason, Word};
 use unit_name::UnitName;
 
-/// The units that are enabled and disabled together with the given ones: systemd.unit(5), "[Install] Section Options", `Also=`.
-/// The given units come first, and then, unit after unit in the order in which they are found,
-/// those that the words of `Also=` name. Each word is expanded with the unit's identity and looked
-/// up, even if its unit is there already. A word that names no unit found under its own name is
-/// skipped, with a notice: it has a bad specifier or is not a unit's name, or its unit isn't found,
-/// is masked, dangles or has another name. A caller that needs every given name to be a unit's
-/// should check first that each is found under its own name; a name that is no unit's has no words.
+/// The units that are enabled and disabled together with the given ones: systemd.unit(5),
+/// "[Install] Section Options", `Also=`. The given units come first, and then, unit after unit in
+/// the order in which they are found, those that the words of `Also=` name. Each word is expanded
+/// with the unit's identity and looked up, even if its unit is there already. A word that names no
+/// unit found under its own name is skipped, with a notice: it has a bad specifier or is not a
+/// unit's name, or its unit isn't found, is masked, dangles or has another name. A caller that
+/// needs every given name to be a unit's should check first that each is found under its own name;
+/// a name that is no unit's has no words.
 ///
 /// # Errors
 ///

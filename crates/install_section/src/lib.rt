@@ -1,4 +1,5 @@
-//! Which units are enabled together, and which links they want: systemd.unit(5), "[Install] Section Options".
+//! Which units are enabled together, and which links they want: systemd.unit(5), "[Install] Section
+//! Options".
 #![tactic(auto)]
 
 mod closed;

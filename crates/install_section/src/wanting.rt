@@ -30,9 +30,9 @@ use unit_name::UnitName;
 /// file: systemd.unit(5), "[Install] Section Options", `WantedBy=`, `RequiredBy=`, `UpheldBy=` and
 /// `Alias=`. The words are expanded with the unit's identity.
 ///
-/// - A unit X in `WantedBy=`, `RequiredBy=` or `UpheldBy=` gets a link in `X.wants/`, `X.requires/` or
-///   `X.upholds/`, under the name of the unit. If the unit is a template and X is none, its default
-///   instance is linked instead.
+/// - A unit X in `WantedBy=`, `RequiredBy=` or `UpheldBy=` gets a link in `X.wants/`, `X.requires/`
+///   or `X.upholds/`, under the name of the unit. If the unit is a template and X is none, its
+///   default instance is linked instead.
 /// - A word of `Alias=` gets a link under that name, if it is another name of the unit's type and
 ///   kind, with the same instance, and not of a type without aliases: mount, automount, swap and
 ///   slice. For an instance, the name of a template means its own instance.
@@ -64,8 +64,9 @@ pub fn wanted(
     }
 }
 
-/// The same as `wanted` for a list of units, with the paths that are looked at added to `cells`, as often as they are
-/// looked at. The outer error means only that memory ran out, and then `cells` is unchanged.
+/// The same as `wanted` for a list of units, with the paths that are looked at added to `cells`, as
+/// often as they are looked at. The outer error means only that memory ran out, and then `cells` is
+/// unchanged.
 pub fn wanted_into(
     alloc: Global,
     tree: &Tree,

@@ -36,7 +36,8 @@ pub enum WantedFault {
     /// A word of this template asks for a link to an instance of it, but it has no default
     /// instance. It is the least such unit, in byte order.
     NeedsInstance(UnitName),
-    /// Two links to different files are wanted at this path. It is the least such path, in byte order.
+    /// Two links to different files are wanted at this path. It is the least such path, in byte
+    /// order.
     Clash(TreePath),
 }
 

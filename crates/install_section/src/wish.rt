@@ -15,7 +15,8 @@ use std::alloc::{AllocError, Global};
 use unit_file::{InstallText, NoticeKey, Reason, Word, listed_name};
 use unit_name::{Kind, UnitName, UnitType};
 
-/// The lists of an [Install] section whose words ask for links: systemd.unit(5), "[Install] Section Options".
+/// The lists of an [Install] section whose words ask for links: systemd.unit(5), "[Install] Section
+/// Options".
 #[derive(Clone, Copy, Debug, PartialEq, Eq)]
 pub(crate) enum LinkKey {
     WantedBy,

@@ -10,7 +10,7 @@ use install_section::{
 use link_tree::{Entry, Scope, Tree, push_decimal};
 use load_path::{Cells, End, Found, find_into, follow_entry_into, follow_into};
 use preset_rules::{Instances, Policy, Rule, Rules, Verdict};
-use sample_rows::{Row, unlike};
+use sample_rows::{Row, assert_rows, is};
 use sample_values::{name, path};
 use std::alloc::{AllocError, Global};
 use std::test::Fail;
@@ -63,10 +63,6 @@ const ROWS: &[u8] = b"\
         enable x y +0\n\
     verdict\t/etc/systemd/system-preset/1.preset enable a@.service x y\\nignore b*\\n\tb.service\t\
         ignore +0\n";
-
-fn is(row: &Row, kind: &[u8]) -> bool {
-    row.kind.as_slice() == kind
-}
 
 /// Adds a word and a space.
 fn push_word(out: &mut Vec<u8>, word: &[u8]) -> Result<(), AllocError> {
@@ -428,7 +424,5 @@ fn answer(alloc: Global, row: &Row) -> Result<Vec<u8>, AllocError> {
 
 #[test]
 fn what_is_looked_up_is_as_it_was_without_memory(rt: HostRuntime) -> Result<(), Fail> {
-    let found = unlike(rt.alloc(), ROWS, answer)?;
-    assert_eq!(rt; found.as_slice(), b"".as_slice());
-    Ok(())
+    assert_rows(&rt, rt.alloc(), ROWS, answer)
 }

@@ -7,7 +7,7 @@ use root_json::{
     ErrorPlace, Summary, push_change, push_error, push_maker, push_state, push_summary, push_unit,
     push_unit_file, push_unit_status, push_warning,
 };
-use sample_rows::{Row, unlike};
+use sample_rows::{Row, assert_rows};
 use sample_values::{file, link, name, path, tree};
 use std::alloc::{AllocError, Global};
 use std::str;
@@ -231,7 +231,5 @@ fn answer(alloc: Global, row: &Row) -> Result<Vec<u8>, AllocError> {
 
 #[test]
 fn lines_have_their_members(rt: HostRuntime) -> Result<(), Fail> {
-    let found = unlike(rt.alloc(), ROWS, answer)?;
-    assert!(rt; found.is_empty(), "{:?}", str::from_utf8(&found));
-    Ok(())
+    assert_rows(&rt, rt.alloc(), ROWS, answer)
 }

@@ -6,10 +6,9 @@ use footprint::{Changes, Key, Keys, Reading};
 use history::{History, Operator, Request, Row as HistoryRow, RowReply, UndoRefusal};
 use link_tree::Scope;
 use root_json::{KeptCall, push_log_row, push_shown_row};
-use sample_rows::{Row, unlike};
+use sample_rows::{Row, assert_rows};
 use sample_values::name;
 use std::alloc::{AllocError, Global};
-use std::str;
 use std::test::Fail;
 use unit_script::Action;
 
@@ -144,7 +143,5 @@ fn answer(alloc: Global, row: &Row) -> Result<Vec<u8>, AllocError> {
 
 #[test]
 fn rows_of_histories_have_their_members(rt: HostRuntime) -> Result<(), Fail> {
-    let found = unlike(rt.alloc(), ROWS, answer)?;
-    assert!(rt; found.is_empty(), "{:?}", str::from_utf8(&found));
-    Ok(())
+    assert_rows(&rt, rt.alloc(), ROWS, answer)
 }

@@ -5,9 +5,8 @@ use crate::refusals::{is, refusal};
 use footprint::{Answer, Changes, Reading};
 use history::{Operator, Request, Row as HistoryRow, RowReply};
 use root_json::CallPlace;
-use sample_rows::{Row, unlike};
+use sample_rows::{Row, assert_rows};
 use std::alloc::{AllocError, Global};
-use std::str;
 use std::test::Fail;
 use unit_script::Action;
 
@@ -178,7 +177,5 @@ fn answer(alloc: Global, row: &Row) -> Result<Vec<u8>, AllocError> {
 
 #[test]
 fn rows_have_their_members(rt: HostRuntime) -> Result<(), Fail> {
-    let found = unlike(rt.alloc(), ROWS, answer)?;
-    assert!(rt; found.is_empty(), "{:?}", str::from_utf8(&found));
-    Ok(())
+    assert_rows(&rt, rt.alloc(), ROWS, answer)
 }

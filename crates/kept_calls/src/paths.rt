@@ -20,7 +20,7 @@ impl Paths {
         }
     }
 
-    /// Adds a path, unless it is a slot. Returns whether it is new.
+    /// Adds a path, unless it is a slot: slots are read anyway. Returns whether it was added.
     pub fn add(&mut self, path: &TreePath) -> Result<bool, AllocError> {
         if Slot::of(path).is_some() || self.set.contains(path) {
             return Ok(false);

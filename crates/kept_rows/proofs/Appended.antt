@@ -10,7 +10,8 @@ use Rattle.unit_script.specs.declared.call.Call.{Call}
 use Rattle.unit_script.specs.declared.reason.ScriptFault.{ScriptFault}
 use Rattle.unit_script.specs.Actions.{asks, meaning}
 use Rattle.unit_script.specs.Machine.{asked, rows_of}
-use Rattle.unit_script.specs.Laws.{calls_of, lines_text}
+use Rattle.script_words.specs.Words.{lines_text}
+use Rattle.unit_script.specs.Laws.{calls_of}
 use Rattle.unit_script.specs.Script.{call_of_line, in_line, with_call, script_of}
 use Rattle.unit_script.specs.Runs.{in_inventory, in_script}
 use Rattle.unit_script.proofs.ScriptLines.{script_is_lines}

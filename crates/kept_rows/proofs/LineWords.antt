@@ -1,12 +1,10 @@
 -- Lines of words are read as these words.
-use Rattle.std.proofs.Common.{◌≡◌, ◌==◌, ◌&&◌, ◌<◌, ◌^◌, ℕ, Bool, true, false, List, [], ◌∷◌, ◌++◌, Some, Ok, codes, length, refl, sym, ap, ◌∙◌, inl, inr, arith}
-use Rattle.std.specs.Prelude.{not, nat_lt, nat_le}
+use Rattle.std.proofs.Common.{◌≡◌, ◌&&◌, ◌<◌, ◌^◌, ℕ, true, false, List, [], ◌∷◌, Some, Ok, codes, length, refl, sym, ap, ◌∙◌, arith}
+use Rattle.std.specs.Prelude.{nat_lt, nat_le}
 use Rattle.std.specs.Char.{is_ascii_digit}
 use Rattle.std.specs.Fmt.{decimal}
-use Rattle.std.specs.Str.Parse.{digits_value}
 use Rattle.std.specs.List.{filter, list_all, slice_split}
-use Rattle.std.proofs.lemmas.Bool.{cases_Bool, and_parts, false≢true}
-use Rattle.std.proofs.lemmas.Bool.Decides.{Decides-eqb}
+use Rattle.std.proofs.lemmas.Bool.{and_parts, false≢true}
 use Rattle.std.proofs.lemmas.Fmt.{decimal_is_IsNumeral}
 use Rattle.std.proofs.lemmas.List.{append-nil}
 use Rattle.link_tree.specs.Inventory.{◌>>=◌}
@@ -15,31 +13,14 @@ use Rattle.history.specs.declared.row.Request.{Request}
 use Rattle.history.specs.declared.row.Request.TheVariants.{Undo, Redo}
 use Rattle.history.specs.Operators.{is_operator, is_operator_byte}
 use Rattle.unit_script.specs.declared.action.Action.{Action}
-use Rattle.unit_script.specs.Laws.{is_word_byte, is_line_byte}
 use Rattle.unit_script.specs.Requests.{request_of_verb}
-use Rattle.unit_script.specs.Script.{is_space, words_of, is_comment, call_if_any, call_of_words, call_of_line}
-use Rattle.unit_script.specs.Words.{is_word, number_of}
-use Rattle.unit_script.proofs.NumberWords.{numbers_are_digits}
+use Rattle.unit_script.specs.Script.{words_of, is_comment, call_if_any, call_of_words, call_of_line}
+use Rattle.script_words.specs.Numbers.{number_of}
+use Rattle.script_words.specs.Words.{is_space, is_word, is_word_byte}
+use Rattle.script_words.proofs.NumberWords.{decimal_is_read}
+use Rattle.script_words.proofs.WordBytes.{split_word, split_last, differs, word_bytes}
 use Rattle.kept_rows.specs.Lines.{can_be_word, line_of}
 use Rattle.kept_rows.specs.Laws.{LinesAreRead, UndoLinesAreRead, RedoLinesAreRead}
-
-no_space : (b : ℕ) (bs : List ℕ) → list_all is_word_byte (b ∷ bs) ≡ true → (is_space b ≡ false) × (list_all is_word_byte bs ≡ true)
-no_space b bs h =
-    let parts = and_parts (is_word_byte b) (list_all is_word_byte bs) h in
-    (of_not (is_space b) _ parts.0, parts.1)
-  where
-    of_not : (s l : Bool) → (not s && l) ≡ true → s ≡ false
-    of_not true l h = absurd (false≢true h)
-    of_not false l h = refl
-
--- a word before a space is the first part
-split_word : (word rest : List ℕ) → list_all is_word_byte word ≡ true → slice_split is_space (word ++ (codes " " ++ rest)) ≡ word ∷ slice_split is_space rest
-split_word [] rest h = refl
-split_word (b ∷ word) rest h = let here = no_space b word h in rw here.0 (rw (split_word word rest here.1) refl)
-
-split_last : (word : List ℕ) → list_all is_word_byte word ≡ true → slice_split is_space word ≡ word ∷ []
-split_last [] h = refl
-split_last (b ∷ word) h = let here = no_space b word h in rw here.0 (rw (split_last word here.1) refl)
 
 -- the bytes of a word
 pub word_bytes_of : (word : List ℕ) → can_be_word word ≡ true → list_all is_word_byte word ≡ true
@@ -62,23 +43,6 @@ all_kept (word ∷ words) all =
 line_words : (b : ℕ) (bs : List ℕ) (words : List (List ℕ)) → list_all is_word_byte (b ∷ bs) ≡ true → list_all can_be_word words ≡ true → words_of (line_of (b ∷ bs) words) ≡ (b ∷ bs) ∷ words
 unfolding words_of
 line_words b bs words h all = ap (filter is_word) (split_line (b ∷ bs) words h all) ∙ ap (λ ws. (b ∷ bs) ∷ ws) (all_kept words all)
-
--- a byte that passes a test is none that doesn't
-differs : (test : ℕ → Bool) (b c : ℕ) → test b ≡ true → test c ≡ false → (b == c) ≡ false
-differs test b c on off = elim (cases_Bool (b == c)) [
-  | inl same ↦ absurd (false≢true (sym off ∙ ap test (sym ((Decides-eqb b c).0 same)) ∙ on))
-  | inr other ↦ other
-]
-
-word_bytes : (test : ℕ → Bool) → test 32 ≡ false → test 10 ≡ false → (bytes : List ℕ) → list_all test bytes ≡ true → list_all is_word_byte bytes ≡ true
-word_bytes test space end [] are = refl
-word_bytes test space end (b ∷ bytes) are =
-    let parts = and_parts (test b) (list_all test bytes) are in
-    let apart : is_space b ≡ false = differs test b 32 parts.0 space in
-    let in_line : is_line_byte b ≡ true = ap not (differs test b 10 parts.0 end) in
-    ap (λ s. (not s && is_line_byte b) && list_all is_word_byte bytes) apart
-    ∙ ap (λ e. e && list_all is_word_byte bytes) in_line
-    ∙ word_bytes test space end bytes parts.1
 
 operator_bytes : (operator : List ℕ) → is_operator operator ≡ true → list_all is_operator_byte operator ≡ true
 unfolding is_operator
@@ -149,17 +113,11 @@ digits_word : (ds : List ℕ) → 0 < length ds → list_all is_ascii_digit ds �
 digits_word [] some all = let none : 0 < 0 = some in absurd (omega (arith, none))
 digits_word (d ∷ ds) some all = word_bytes is_ascii_digit no_digit_space no_digit_end (d ∷ ds) all
 
-none_long : (ds : List ℕ) → ds ≡ [] → 0 < length ds → ⊥
-none_long [] none some = let below : 0 < 0 = some in omega (arith, below)
-none_long (d ∷ ds) none some = absurd (cc)
-
 decimal_word : (n : ℕ) → n < 2 ^ 32 → can_be_word (decimal n) ≡ true
 decimal_word n small = digits_word (decimal n) (some_digit n small) (digits_of n small)
 
 decimal_read : (n : ℕ) → n < 2 ^ 32 → number_of (decimal n) ≡ Some n
-decimal_read n small =
-    let value : digits_value 10 (decimal n) ≡ n = (decimal_is_IsNumeral n (omega (arith, small))).1 in
-    (numbers_are_digits (decimal n) n).1 ((λ none. none_long (decimal n) none (some_digit n small)), digits_of n small, value, small)
+decimal_read n small = decimal_is_read n small (digits_of n small)
 
 pub undo_lines_are_read : UndoLinesAreRead
 undo_lines_are_read operator n is small =

@@ -1,6 +1,6 @@
 -- The lines of what others did are read as their calls.
 use Rattle.std.proofs.Common.{◌≡◌, ◌≤◌, ◌+◌, ◌&&◌, ℕ, suc, true, List, [], ◌∷◌, ◌++◌, length, length-append, Option, Some, None, Result, Ok, codes, refl, ap, ◌∙◌, All, arith}
-use Rattle.std.specs.Prelude.{not, nat_le}
+use Rattle.std.specs.Prelude.{nat_le}
 use Rattle.std.specs.List.{flat_map, list_all}
 use Rattle.std.proofs.lemmas.Bool.{and_parts, and_from, le-leb}
 use Rattle.std.proofs.lemmas.List.Folds.{list_all-append}
@@ -19,12 +19,14 @@ use Rattle.history.specs.Operators.{is_operator}
 use Rattle.unit_script.specs.declared.action.Action.TheVariants.{PlaceEntry, RemoveEntry}
 use Rattle.unit_script.specs.declared.call.Call.{Call}
 use Rattle.unit_script.specs.declared.reason.ScriptFault.{ScriptFault}
-use Rattle.unit_script.specs.Escapes.{escaped, text_of}
-use Rattle.unit_script.specs.Laws.{is_line_byte, is_word_byte, is_line, calls_of}
+use Rattle.script_words.specs.Escapes.{spelled, text_of}
+use Rattle.script_words.specs.Words.{is_line_byte, is_word_byte}
+use Rattle.script_words.proofs.EscapedTexts.{escaped_is_read, escaped_is_word}
+use Rattle.script_words.proofs.WordBytes.{line_bytes}
+use Rattle.unit_script.specs.Laws.{is_line, calls_of}
 use Rattle.unit_script.specs.Requests.{request_of_verb, place_kind, place_entry, place_file}
-use Rattle.unit_script.specs.Script.{is_space, call_of_line, in_line, with_call}
+use Rattle.unit_script.specs.Script.{call_of_line, in_line, with_call}
 use Rattle.unit_script.specs.Words.{path_of, link_of, file_with, file_of}
-use Rattle.unit_script.proofs.EscapedTexts.{escaped_is_read, escaped_is_word}
 use Rattle.kept_rows.specs.Others.{outside, removal, placement, calls_at, calls_of_others}
 use Rattle.kept_rows.specs.Lines.{can_be_word, spaced, line_of, word_if_any, removal_line, placement_line, lines_at, lines_of_others, can_be_placed, is_entry_if_any, CanBeWritten}
 use Rattle.kept_rows.specs.Laws.{LinesOfOthersAreRead}
@@ -74,7 +76,7 @@ link_read path target word is target_word leads =
 file_read : (path contents : List ℕ) → can_be_word path ≡ true → is_path path ≡ true → is_contents contents ≡ true
     → call_of_line (placement_line path (File contents)) ≡ Ok (Some (placement path (File contents)))
 file_read path contents word is small =
-    let text : List ℕ = flat_map escaped contents in
+    let text : List ℕ = spelled contents in
     read_as outside (codes "place") (path ∷ codes "file" ∷ word_if_any text) (Do (PlaceEntry (record { path = path; entry = File contents }))) outside_calls
     (and_from (can_be_word path) _ word (text_words text (escaped_is_word contents)))
     (file_asked path (word_if_any text) contents is (file_given path contents text (escaped_is_read contents) small))
@@ -83,13 +85,6 @@ placement_read : (path : List ℕ) (entry : Entry) → can_be_word path ≡ true
     → call_of_line (placement_line path entry) ≡ Ok (Some (placement path entry))
 placement_read path (Link target) word is placed fits = link_read path target word is placed fits
 placement_read path (File contents) word is placed fits = file_read path contents word is fits
-
--- bytes of words are bytes of lines
-line_bytes : (bytes : List ℕ) → list_all is_word_byte bytes ≡ true → list_all is_line_byte bytes ≡ true
-line_bytes [] are = refl
-line_bytes (b ∷ bytes) are =
-    let parts = and_parts (is_word_byte b) (list_all is_word_byte bytes) are in
-    and_from (is_line_byte b) (list_all is_line_byte bytes) (and_parts (not (is_space b)) (is_line_byte b) parts.0).1 (line_bytes bytes parts.1)
 
 spaced_bytes : (words : List (List ℕ)) → list_all can_be_word words ≡ true → list_all is_line_byte (flat_map spaced words) ≡ true
 spaced_bytes [] all = refl
@@ -129,8 +124,8 @@ placement_line_is : (path : List ℕ) (entry : Entry) → can_be_word path ≡ t
     → is_line (placement_line path entry) ≡ true
 placement_line_is path (Link target) word is placed fits = link_line_is path target word is placed fits
 placement_line_is path (File contents) word is placed fits =
-    one_line (codes "place" ∷ path ∷ codes "file" ∷ word_if_any (flat_map escaped contents))
-    (and_from (can_be_word path) _ word (text_words (flat_map escaped contents) (escaped_is_word contents))) placed
+    one_line (codes "place" ∷ path ∷ codes "file" ∷ word_if_any (spelled contents))
+    (and_from (can_be_word path) _ word (text_words (spelled contents) (escaped_is_word contents))) placed
 
 -- Lines are read as these calls, whatever their numbers are.
 abbrev AreRead : List (List ℕ) → List Call → Type 0

@@ -22,7 +22,8 @@ use Rattle.later_rows.specs.Laws.{NoneLooked}
 use Rattle.unit_script.specs.declared.action.Action.{Action}
 use Rattle.unit_script.specs.declared.call.Call.{Call}
 use Rattle.unit_script.specs.Actions.{asks}
-use Rattle.unit_script.specs.Laws.{is_line, calls_of, lines_text}
+use Rattle.script_words.specs.Words.{lines_text}
+use Rattle.unit_script.specs.Laws.{is_line, calls_of}
 use Rattle.unit_script.specs.Machine.{rows_of, replay}
 use Rattle.unit_script.specs.Runs.{input_of}
 use Rattle.unit_script.specs.Script.{call_of_words, call_of_line}

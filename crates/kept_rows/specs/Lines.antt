@@ -6,9 +6,8 @@ use Rattle.link_tree.specs.Values.{is_entry}
 use Rattle.link_tree.specs.declared.change.Change.{Change}
 use Rattle.link_tree.specs.declared.entry.Entry.{Entry}
 use Rattle.link_tree.specs.declared.entry.Entry.TheVariants.{File, Link}
-use Rattle.unit_script.specs.Escapes.{escaped}
-use Rattle.unit_script.specs.Laws.{is_word_byte}
-use Rattle.unit_script.specs.Words.{is_word}
+use Rattle.script_words.specs.Escapes.{spelled}
+use Rattle.script_words.specs.Words.{is_word, is_word_byte}
 use Rattle.kept_rows.specs.Others.{outside}
 
 -- whether a text can be a word of a line: it isn't empty, and no byte of it is a space or a line
@@ -30,7 +29,7 @@ word_if_any (b ∷ bs) = (b ∷ bs) ∷ []
 
 abbrev pub entry_words : Entry → List (List ℕ)
 entry_words (Link target) = codes "link" ∷ target ∷ []
-entry_words (File contents) = codes "file" ∷ word_if_any (flat_map escaped contents)
+entry_words (File contents) = codes "file" ∷ word_if_any (spelled contents)
 
 abbrev pub removal_line : List ℕ → List ℕ
 removal_line path = line_of outside (codes "remove" ∷ path ∷ [])

@@ -4,7 +4,7 @@ use Rattle.std.specs.FinMap as map
 use Rattle.link_tree.specs.Trees.{Entries, inventory_text}
 use Rattle.unit_script.specs.declared.call.Call.{Call}
 use Rattle.unit_script.specs.declared.run_fault.InputFault.{InputFault}
-use Rattle.unit_script.specs.Laws.{lines_text}
+use Rattle.script_words.specs.Words.{lines_text}
 use Rattle.unit_script.specs.Machine.{rows_of, replay}
 use Rattle.unit_script.specs.Runs.{input_of}
 

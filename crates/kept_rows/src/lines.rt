@@ -1,7 +1,7 @@
 //! Lines of a script.
 ghost use Rattle.std.specs.Prelude.{◌≡◌, ◌++◌, map, codes, OnOk, OnErr};
 ghost use Rattle.std.specs.List.{flat_map, list_all};
-ghost use Rattle.unit_script.specs.Laws.{is_word_byte};
+ghost use Rattle.script_words.specs.Words.{is_word_byte};
 ghost use Rattle.kept_rows.specs.Lines.{can_be_word, spaced, line_of};
 
 use history::Operator;

@@ -1,41 +1,15 @@
 //! What others did to a root, as lines.
 ghost use Rattle.std.specs.Prelude.{◌≡◌, ◌∷◌, ◌++◌, true, nat_le, length, codes, IfOk, OnOk, OnErr};
-ghost use Rattle.std.specs.List.{flat_map};
 ghost use Rattle.link_tree.specs.declared.entry.Entry.TheVariants as entries;
-ghost use Rattle.unit_script.specs.Escapes.{escaped};
-ghost use Rattle.unit_script.specs.Laws.{lines_text};
+ghost use Rattle.script_words.specs.Words.{lines_text};
 ghost use Rattle.kept_rows.specs.Others.{outside};
 ghost use Rattle.kept_rows.specs.Lines.{line_of, word_if_any, removal_line, placement_line, lines_of_change, lines_of_others, can_be_placed, can_be_written, is_entry_if_any, CanBeWritten};
 
 use crate::lines::{can_be_word, push_call};
 use link_tree::{Change, Contents, Entry, TreePath};
+use script_words::push_escaped;
 use std::alloc::{AllocError, Global};
 use unit_script::MAX_LINE;
-
-fn push_escaped_byte(text: &mut Vec<u8>, b: u8) -> Result<(), AllocError>
-    ensures { OnOk result (text.new.items ≡ text.old.items ++ escaped b) }
-{
-    if b == b'\n' {
-        text.extend_from_slice(b"\\n")
-    } else if b == b'\t' {
-        text.extend_from_slice(b"\\t")
-    } else if b == b' ' {
-        text.extend_from_slice(b"\\s")
-    } else if b == b'\\' {
-        text.extend_from_slice(b"\\\\")
-    } else {
-        Ok(text.push(b)?)
-    }
-}
-
-fn push_escaped(text: &mut Vec<u8>, bytes: &[u8]) -> Result<(), AllocError>
-    ensures { OnOk result (text.new.items ≡ text.old.items ++ flat_map escaped bytes.now) }
-{
-    for b in bytes {
-        push_escaped_byte(text, *b)?;
-    }
-    Ok(())
-}
 
 fn push_removal(line: &mut Vec<u8>, path: &TreePath) -> Result<(), AllocError>
     ensures { OnOk result (line.new.items ≡ line.old.items ++ removal_line path.now) }

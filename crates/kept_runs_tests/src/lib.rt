@@ -1,9 +1,14 @@
-//! Tests of `kept_runs`, from outside: with tests of its own it would be proved twice.
+//! Tests of the libraries of histories that last, from outside: with tests of its own a crate would
+//! be proved twice.
 #![tactic(auto)]
 
 #[cfg(test)]
-mod memory_root;
+mod of_kept_log;
 #[cfg(test)]
-mod runs;
+mod of_kept_rows;
 #[cfg(test)]
-mod samples;
+mod of_kept_runs;
+#[cfg(test)]
+mod of_kept_texts;
+#[cfg(test)]
+mod words;

@@ -3,7 +3,7 @@ use Rattle.std.proofs.Common.{◌≡◌, ◌-◌, ◌==◌, ◌&&◌, ◌||◌, 
 use Rattle.std.specs.Prelude.{not, nat_eq}
 use Rattle.std.specs.List.{list_all, list_any, slice_split, onto_first, ends_with}
 use Rattle.std.proofs.lemmas.Bool.{and_parts, cases_Bool, false≢true, eqb-true}
-use Rattle.unit_script.specs.Laws.{is_line_byte, lines_text}
+use Rattle.script_words.specs.Words.{is_line_byte, lines_text}
 use Rattle.kept_texts.specs.Readings.{is_line_end}
 use Rattle.kept_texts.specs.Texts.{begins_comment, are_whole, are_call_lines}
 use Rattle.kept_texts.specs.Laws.{is_call_line, CallLinesAreLines}

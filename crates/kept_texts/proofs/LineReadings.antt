@@ -1,9 +1,8 @@
 -- Reading lines one after another.
 use Rattle.std.proofs.Common.{◌≡◌, ◌≤◌, ◌<◌, ◌+◌, ℕ, true, false, List, Result, Ok, Err, refl, sym, ap, subst, ◌∙◌, length, drop, get_or, map}
 use Rattle.std.specs.Prelude.{is_some}
-use Rattle.std.proofs.lemmas.List.{drop_all}
+use Rattle.std.proofs.lemmas.List.{drop_all, drop_more}
 use Rattle.link_tree.specs.Inventory.{◌>>=◌}
-use Rattle.unit_script.proofs.WordLists.{left_more}
 use Rattle.kept_texts.specs.declared.faults.LineFault.{LineFault}
 use Rattle.kept_texts.specs.declared.faults.LineFault.TheVariants.{CutShort}
 use Rattle.kept_texts.specs.declared.faults.LineError.{LineError}
@@ -31,7 +30,7 @@ module _ {A : Type 0} (f : A → List ℕ) (lines : List A) (i number : ℕ) (re
 
   here : (d : A) → i < length lines → (at_line number (read_line reading number (f (get_or lines i d))) >>= then_rest) ≡ all
   unfolding read_lines then_rest
-  here d within = ap (read_lines reading number) (sym (left_more f lines i d within)) ∙ so_far
+  here d within = ap (read_lines reading number) (sym (ap (map f) (drop_more lines i d within))) ∙ so_far
 
   pub line_fails : (d : A) → i < length lines → (e : LineError) → IsLineError e (read_line reading number (f (get_or lines i d))) → IsTextError (error_at number e) all
   line_fails d within e is =

@@ -5,8 +5,8 @@ use Rattle.std.specs.List.{list_all, filter, slice_split}
 use Rattle.std.proofs.lemmas.Bool.{and_parts, false≢true}
 use Rattle.std.proofs.lemmas.List.{append-nil}
 use Rattle.std.proofs.lemmas.List.Elements.{filter-append}
-use Rattle.unit_script.specs.Laws.{is_word_byte, is_line_byte, lines_text}
-use Rattle.kept_texts.specs.Sayings.{is_space}
+use Rattle.script_words.specs.Words.{is_word_byte, is_line_byte, lines_text}
+use Rattle.script_words.proofs.WordBytes.{line_bytes}
 use Rattle.kept_texts.specs.Readings.{is_line_end, count_lines, lines_of}
 use Rattle.kept_texts.proofs.Parts.{joined, are_parts}
 
@@ -106,14 +106,6 @@ append_are_lines [] those h k = k
 append_are_lines (line ∷ these) those h k =
     let parts = and_parts (list_all is_line_byte line) (are_lines these) h in
     rw parts.0 (append_are_lines these those parts.1 k)
-
--- parts make a line
-line_bytes : (part : List ℕ) → list_all is_word_byte part ≡ true → list_all is_line_byte part ≡ true
-line_bytes [] are = refl
-line_bytes (b ∷ part) are =
-    let parts = and_parts (is_word_byte b) (list_all is_word_byte part) are in
-    let this : is_line_byte b ≡ true = (and_parts (not (is_space b)) (is_line_byte b) parts.0).1 in
-    rw this (line_bytes part parts.1)
 
 append_is_line : (xs ys : List ℕ) → list_all is_line_byte xs ≡ true → list_all is_line_byte ys ≡ true → list_all is_line_byte (xs ++ ys) ≡ true
 append_is_line [] ys these those = those

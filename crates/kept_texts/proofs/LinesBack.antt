@@ -2,25 +2,24 @@
 use Rattle.std.proofs.Common.{◌≡◌, ◌==◌, ◌<◌, ◌^◌, ℕ, Bool, true, false, cond, List, [], ◌∷◌, ◌++◌, codes, length, Option, Some, None, refl, sym, ap, subst, ◌∙◌, arith, append_assoc}
 use Rattle.std.specs.Prelude.{not}
 use Rattle.std.specs.Fmt.{decimal}
-use Rattle.std.specs.Str.Parse.{digits_value}
-use Rattle.std.proofs.lemmas.Fmt.{decimal_is_IsNumeral}
 use Rattle.std.proofs.lemmas.List.{append-nil}
 use Rattle.std.specs.List.{list_all}
 use Rattle.std.specs.Str.{bytes_eq}
 use Rattle.hex.specs.Hex.{encode_lower, IsBytes}
 use Rattle.hex.proofs.HexLemmas.{decode_sized-encode_lower}
-use Rattle.unit_script.specs.Laws.{is_word_byte}
-use Rattle.unit_script.specs.Words.{is_word, number_from, number_of}
-use Rattle.unit_script.proofs.NumberWords.{numbers_are_digits}
+use Rattle.script_words.specs.Escapes.{spelled}
+use Rattle.script_words.specs.Numbers.{number_of}
+use Rattle.script_words.specs.Words.{is_word_byte}
+use Rattle.script_words.proofs.NumberWords.{decimal_is_read}
 use Rattle.link_tree.proofs.Lengths.{decimal_digits}
-use Rattle.unit_script.proofs.EscapedTexts.{escaped_is_read, escaped_is_word}
+use Rattle.script_words.proofs.EscapedTexts.{escaped_is_read, escaped_is_word}
 use Rattle.kept_texts.specs.declared.sums.Sum.{Sum}
 use Rattle.kept_texts.specs.declared.words.RunWords.{RunWords}
 use Rattle.kept_texts.specs.declared.line_words.HeaderLine.{HeaderLine}
 use Rattle.kept_texts.specs.declared.line_words.EndLine.{EndLine}
 use Rattle.kept_texts.specs.Sums.{sum_words}
 use Rattle.kept_texts.specs.Values.{is_label, is_time}
-use Rattle.kept_texts.specs.Lines.{spelled, header_mark, text_sum, header_front, header_line, outside_word, run_line, end_mark, end_front, end_line}
+use Rattle.kept_texts.specs.Lines.{header_mark, text_sum, header_front, header_line, outside_word, run_line, end_mark, end_front, end_line}
 use Rattle.kept_texts.specs.Sayings.{◌>>=◌, parts_of, label_of, label_of_word, time_of, bytes_if_any, bytes_of, header_meant, run_meant, end_meant, if_written, header_said, run_said, end_said}
 use Rattle.kept_texts.specs.Laws.{IsSum, IsHeader, AreWords, HeadersAreRead, RunsAreRead, EndsAreRead}
 use Rattle.kept_texts.proofs.PartBytes.{bytes_same, same_bytes, decimal_is_part, hex_is_part, time_is_part}
@@ -52,21 +51,8 @@ time_said text is = ap (λ (b : Bool). cond b (Some text) None) is
 bytes_said : (bytes : List ℕ) (count : ℕ) → length bytes ≡ count → IsBytes bytes → bytes_of count (encode_lower bytes) ≡ Some bytes
 bytes_said bytes count size are = ap bytes_if_any (decode_sized-encode_lower bytes count size are)
 
-number_if_word : (b : Bool) (n : ℕ) (read : Option ℕ) → cond b read None ≡ Some n → read ≡ Some n
-number_if_word true n read is = is
-number_if_word false n read is = cc
-
-none_long : (ds : List ℕ) → ds ≡ [] → 0 < length ds → ⊥
-none_long [] none some = let below : 0 < 0 = some in omega (arith, below)
-none_long (d ∷ ds) none some = absurd (cc)
-
-number_said : (n : ℕ) → n < 2 ^ 32 → number_from 0 (decimal n) ≡ Some n
-unfolding number_of
-number_said n small =
-    let numeral = decimal_is_IsNumeral n (omega (arith, small)) in
-    let value : digits_value 10 (decimal n) ≡ n = numeral.1 in
-    number_if_word (is_word (decimal n)) n (number_from 0 (decimal n))
-    ((numbers_are_digits (decimal n) n).1 ((λ none. none_long (decimal n) none numeral.0.0), decimal_digits n (omega (arith, small)), value, small))
+number_said : (n : ℕ) → n < 2 ^ 32 → number_of (decimal n) ≡ Some n
+number_said n small = decimal_is_read n small (decimal_digits n (omega (arith, small)))
 
 spelled_is_part : (text : List ℕ) → list_all is_word_byte (spelled text) ≡ true
 spelled_is_part text = escaped_is_word text
@@ -180,7 +166,7 @@ outside_is true = refl
 outside_is false = refl
 
 run_by_parts : (words : RunWords) → run_meant (codes "#" ∷ run_parts words)
-    ≡ run_from (time_of words.time) (number_from 0 (decimal words.rules)) (label_of_word (spelled words.login)) (label_of_word (spelled words.program)) (not (length (outside_parts words.outside) == 0))
+    ≡ run_from (time_of words.time) (number_of (decimal words.rules)) (label_of_word (spelled words.login)) (label_of_word (spelled words.program)) (not (length (outside_parts words.outside) == 0))
 unfolding run_parts run_from
 run_by_parts words = refl
 
@@ -190,7 +176,7 @@ run_is_meant words are =
     ap (λ (l : List ℕ). run_meant (parts_of l)) (run_joined words)
     ∙ ap run_meant (parts_of-joined (codes "#") (run_parts words) (run_are_parts words are))
     ∙ run_by_parts words
-    ∙ ap (λ (o : Option (List ℕ)). run_from o (number_from 0 (decimal words.rules)) (label_of_word (spelled words.login)) (label_of_word (spelled words.program)) (not (length (outside_parts words.outside) == 0))) (time_said words.time are.time)
+    ∙ ap (λ (o : Option (List ℕ)). run_from o (number_of (decimal words.rules)) (label_of_word (spelled words.login)) (label_of_word (spelled words.program)) (not (length (outside_parts words.outside) == 0))) (time_said words.time are.time)
     ∙ ap (λ (o : Option ℕ). run_from (Some words.time) o (label_of_word (spelled words.login)) (label_of_word (spelled words.program)) (not (length (outside_parts words.outside) == 0))) (number_said words.rules are.rules)
     ∙ ap (λ (o : Option (List ℕ)). run_from (Some words.time) (Some words.rules) o (label_of_word (spelled words.program)) (not (length (outside_parts words.outside) == 0))) (label_said words.login are.login)
     ∙ ap (λ (o : Option (List ℕ)). run_from (Some words.time) (Some words.rules) (Some words.login) o (not (length (outside_parts words.outside) == 0))) (label_said words.program are.program)

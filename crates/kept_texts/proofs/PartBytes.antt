@@ -5,10 +5,10 @@ use Rattle.std.specs.Fmt.{decimal}
 use Rattle.std.specs.List.{list_all}
 use Rattle.std.specs.Str.{bytes_eq}
 use Rattle.std.proofs.lemmas.Bool.{cases_Bool, and_parts, false≢true, eqb-true, eq-eqb}
-use Rattle.std.proofs.lemmas.Bool.Decides.{Decides-eqb}
 use Rattle.hex.specs.Hex.{encode_with, encode_lower, lower_digits}
 use Rattle.link_tree.proofs.Lengths.{decimal_digits}
-use Rattle.unit_script.specs.Laws.{is_word_byte}
+use Rattle.script_words.specs.Words.{is_word_byte}
+use Rattle.script_words.proofs.WordBytes.{word_byte, word_bytes}
 use Rattle.kept_texts.specs.Values.{form_of, has_form, is_time}
 
 -- equal bytes pass the test of equality, and only these do
@@ -25,22 +25,6 @@ same_bytes (x ∷ xs) (y ∷ ys) h =
     let first : x ≡ y = eqb-true x y parts.0 in
     let rest : xs ≡ ys = same_bytes xs ys parts.1 in
     cc
-
--- a byte that passes a test is none that doesn't
-differs : (test : ℕ → Bool) (b c : ℕ) → test b ≡ true → test c ≡ false → (b == c) ≡ false
-differs test b c on off = elim (cases_Bool (b == c)) [
-  | inl same ↦ absurd (false≢true (sym off ∙ ap test (sym ((Decides-eqb b c).0 same)) ∙ on))
-  | inr other ↦ other
-]
-
-word_byte : (test : ℕ → Bool) → test 32 ≡ false → test 10 ≡ false → (b : ℕ) → test b ≡ true → is_word_byte b ≡ true
-word_byte test space end b is = rw (differs test b 32 is space) (rw (differs test b 10 is end) refl)
-
-pub word_bytes : (test : ℕ → Bool) → test 32 ≡ false → test 10 ≡ false → (bytes : List ℕ) → list_all test bytes ≡ true → list_all is_word_byte bytes ≡ true
-word_bytes test space end [] are = refl
-word_bytes test space end (b ∷ bytes) are =
-    let parts = and_parts (test b) (list_all test bytes) are in
-    rw (word_byte test space end b parts.0) (word_bytes test space end bytes parts.1)
 
 pub decimal_is_part : (n : ℕ) → n < 2 ^ 32 → list_all is_word_byte (decimal n) ≡ true
 decimal_is_part n small = word_bytes is_ascii_digit refl refl (decimal n) (decimal_digits n (omega (arith, small)))

@@ -12,7 +12,7 @@ use Rattle.link_tree.specs.Inventory.{◌>>=◌, inventory_of}
 use Rattle.link_tree.specs.Shape.{IsTree}
 use Rattle.link_tree.specs.Trees.{Entries, inventory_text}
 use Rattle.link_tree.proofs.Again.{reads_again}
-use Rattle.unit_script.specs.Laws.{is_line_byte, lines_text}
+use Rattle.script_words.specs.Words.{is_line_byte, lines_text}
 use Rattle.kept_texts.specs.declared.faults.LineFault.TheVariants as faults
 use Rattle.kept_texts.specs.declared.sums.Sum.{Sum}
 use Rattle.kept_texts.specs.declared.words.Header.{Header}

@@ -5,7 +5,7 @@ use Rattle.std.specs.FinMap as map
 use Rattle.hex.specs.Hex.{IsBytes}
 use Rattle.link_tree.specs.Shape.{IsTree}
 use Rattle.link_tree.specs.Trees.{Entries}
-use Rattle.unit_script.specs.Laws.{is_line_byte, lines_text}
+use Rattle.script_words.specs.Words.{is_line_byte, lines_text}
 use Rattle.kept_texts.specs.declared.sums.Sum.{Sum}
 use Rattle.kept_texts.specs.declared.words.Header.{Header}
 use Rattle.kept_texts.specs.declared.words.RunWords.{RunWords}

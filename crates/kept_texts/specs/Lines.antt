@@ -1,19 +1,14 @@
 -- The lines of a history that aren't calls, as they are written.
 use Rattle.std.specs.Prelude.{ℕ, Bool, if◌then◌else◌, List, [], ◌++◌, codes}
-use Rattle.std.specs.List.{flat_map}
 use Rattle.std.specs.Fmt.{decimal}
 use Rattle.hex.specs.Hex.{encode_lower}
-use Rattle.unit_script.specs.Escapes.{escaped}
+use Rattle.script_words.specs.Escapes.{spelled}
 use Rattle.kept_texts.specs.declared.sums.Sum.{Sum}
 use Rattle.kept_texts.specs.declared.words.Header.{Header}
 use Rattle.kept_texts.specs.declared.words.RunWords.{RunWords}
 use Rattle.kept_texts.specs.declared.line_words.HeaderLine.{HeaderLine}
 use Rattle.kept_texts.specs.declared.line_words.EndLine.{EndLine}
 use Rattle.kept_texts.specs.Sums.{sum_words}
-
--- a value as a word: spaces, line ends, tabs and backslashes are escaped, as in scripts
-abbrev pub spelled : List ℕ → List ℕ
-spelled text = flat_map escaped text
 
 -- the sum at the end of a line
 unfoldable pub text_sum : Sum → List ℕ

@@ -22,7 +22,8 @@ use Rattle.kept_texts.specs.declared.reading.Reading.{Reading}
 use Rattle.kept_texts.specs.declared.reading.Parts.{Parts}
 use Rattle.kept_texts.specs.Sums.{sum_of, next_sum}
 use Rattle.kept_texts.specs.Lines.{header_front, run_line, end_front}
-use Rattle.kept_texts.specs.Sayings.{is_space, after_key, header_said, run_said, end_said}
+use Rattle.script_words.specs.Words.{is_space}
+use Rattle.kept_texts.specs.Sayings.{after_key, header_said, run_said, end_said}
 use Prim.Native.Char.{code}
 
 abbrev pub is_line_end : ℕ → Bool

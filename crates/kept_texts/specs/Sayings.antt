@@ -6,24 +6,21 @@ use Rattle.std.specs.List.{slice_split, starts_with}
 use Rattle.std.specs.Str.{bytes_eq}
 use Rattle.hex.specs.Hex.{decode_sized}
 use Rattle.hex.specs.declared.error.FromHexError.{FromHexError}
-use Rattle.unit_script.specs.Escapes.{text_of}
-use Rattle.unit_script.specs.Words.{number_from}
+use Rattle.script_words.specs.Escapes.{text_of}
+use Rattle.script_words.specs.Numbers.{number_of}
+use Rattle.script_words.specs.Words.{is_space}
 use Rattle.kept_texts.specs.declared.sums.Sum.{Sum}
 use Rattle.kept_texts.specs.declared.words.RunWords.{RunWords}
 use Rattle.kept_texts.specs.declared.line_words.HeaderLine.{HeaderLine}
 use Rattle.kept_texts.specs.declared.line_words.EndLine.{EndLine}
 use Rattle.kept_texts.specs.Lines.{header_line, run_line, end_line}
 use Rattle.kept_texts.specs.Values.{is_label, is_time}
-use Prim.Native.Char.{code}
 
 -- the ? of the logic
 infixl 10 ◌>>=◌
 abbrev pub ◌>>=◌ : {A B : Type 0} → Option A → (A → Option B) → Option B
 Some x >>= f = f x
 None >>= f = None
-
-abbrev pub is_space : ℕ → Bool
-is_space b = b == code " "
 
 -- the parts of a line before, between and after its spaces
 unfoldable pub parts_of : List ℕ → List (List ℕ)
@@ -55,7 +52,7 @@ abbrev pub label_after : List ℕ → List ℕ → Option (List ℕ)
 label_after key part = after_key key part >>= label_of_word
 
 abbrev pub number_after : List ℕ → List ℕ → Option ℕ
-number_after key part = after_key key part >>= number_from 0
+number_after key part = after_key key part >>= number_of
 
 abbrev pub id_after : List ℕ → List ℕ → Option (List ℕ)
 id_after key part = after_key key part >>= bytes_of 16

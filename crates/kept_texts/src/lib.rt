@@ -3,7 +3,6 @@
 //! refused, with the line at which a sum differs.
 #![tactic(auto)]
 
-mod escapes;
 mod faults;
 mod inventories;
 mod kept_text;

@@ -1,18 +1,17 @@
 //! What the lines of a history that aren't calls say. A line says some words if it is the line
 //! that is written for them: what its parts may mean is found first, and then it is written again.
-ghost use Rattle.std.specs.Prelude.{◌≡◌, ◌+◌, ◌∷◌, [], length, map as list_map, IfOk, IfSome};
+ghost use Rattle.std.specs.Prelude.{◌≡◌, ◌+◌, length, map as list_map, IfOk, IfSome};
 ghost use Rattle.std.specs.Option.{option_map};
 ghost use Rattle.std.specs.Str.{bytes_eq};
-ghost use Rattle.unit_script.specs.Words.{number_from};
 ghost use Rattle.kept_texts.specs.Lines.{header_line, run_line, end_line};
 ghost use Rattle.kept_texts.specs.Sayings.{parts_of, after_key, label_of_word, label_after, number_after, id_after, sum_after, header_of_parts, header_meant, run_of_parts, run_meant, end_of_parts, end_meant, header_said, run_said, end_said};
 
-use crate::escapes::unescaped;
 use crate::label::Label;
 use crate::lines::{push_end, push_header, push_run_line, push_text_sum};
 use crate::sums::{Sum, id_bytes, sum_bytes};
 use crate::time::Time;
 use crate::words::{Header, RunWords};
+use script_words::{number_of, unescaped};
 use std::alloc::{AllocError, Global};
 
 /// A header and the sum at its end.
@@ -27,29 +26,6 @@ pub(crate) struct HeaderLine {
 pub(crate) struct EndLine {
     pub(crate) tree: Sum,
     pub(crate) sum: Sum,
-}
-
-#[tactic(auto, unfolding(unit_script::specs::Words::number_from))]
-fn with_digit(number: u32, b: u8) -> Option<u32>
-    ensures { result ≡ number_from number (b ∷ []) }
-{
-    if !b.is_ascii_digit() {
-        return None;
-    }
-    number.checked_mul(10)?.checked_add(u32::from(b - b'0'))
-}
-
-fn number_of(digits: &[u8]) -> Option<u32>
-    ensures { result ≡ number_from 0 digits.now }
-{
-    let mut number: u32 = 0;
-    for b in digits {
-        match with_digit(number, *b) {
-            Some(next) => number = next,
-            None => return None,
-        }
-    }
-    Some(number)
 }
 
 /// What follows a key.

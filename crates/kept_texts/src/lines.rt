@@ -2,10 +2,10 @@
 ghost use Rattle.std.specs.Prelude.{◌≡◌, ◌++◌, OnOk};
 ghost use Rattle.kept_texts.specs.Lines.{header_mark, header_front, text_sum, outside_word, run_line, end_mark, end_front};
 
-use crate::escapes::push_escaped;
 use crate::sums::{Sum, push_hex, push_sum};
 use crate::words::{Header, RunWords};
 use link_tree::push_decimal;
+use script_words::push_escaped;
 use std::alloc::AllocError;
 
 #[tactic(auto, unfolding(crate::specs::Lines::header_mark))]

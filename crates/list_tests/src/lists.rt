@@ -2,7 +2,7 @@
 use crate::trees::tree;
 use footprint::Units;
 use link_tree::Tree;
-use sample_rows::{Row, unlike};
+use sample_rows::{Row, assert_rows, is};
 use std::alloc::{AllocError, Global};
 use std::test::Fail;
 use unit_file::Word;
@@ -48,10 +48,6 @@ const ROWS: &[u8] = b"\
         c.socket masked enabled\\n\n\
     rows\tS/a.service x\ta\t\n\
     rows\tS/a.service x\t;loaded\t\n";
-
-fn is(row: &Row, kind: &[u8]) -> bool {
-    row.kind.as_slice() == kind
-}
 
 /// The words of the part of a text after this many semicolons.
 fn words(alloc: Global, text: &[u8], part: usize) -> Result<Vec<Word>, AllocError> {
@@ -123,7 +119,5 @@ fn answer(alloc: Global, row: &Row) -> Result<Vec<u8>, AllocError> {
 
 #[test]
 fn unit_files_are_listed(rt: HostRuntime) -> Result<(), Fail> {
-    let found = unlike(rt.alloc(), ROWS, answer)?;
-    assert_eq!(rt; found.as_slice(), b"".as_slice());
-    Ok(())
+    assert_rows(&rt, rt.alloc(), ROWS, answer)
 }

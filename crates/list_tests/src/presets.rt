@@ -3,7 +3,7 @@ use crate::lists::names_text;
 use crate::trees::tree;
 use footprint::Units;
 use link_tree::Tree;
-use sample_rows::{Row, unlike};
+use sample_rows::{Row, assert_rows, is};
 use sample_values::name;
 use std::alloc::{AllocError, Global};
 use std::test::Fail;
@@ -47,16 +47,14 @@ const ROWS: &[u8] = b"\
     most\tS/a.service [Install]\\nAlias=x.service\\n\t65527\ttoo long\n\
     most\t\t65537\t- 0 0 0\n";
 
-fn is(row: &Row, kind: &[u8]) -> bool {
-    row.kind.as_slice() == kind
-}
-
 fn mode(text: &[u8]) -> Mode {
-    match text {
-        b"enable" => Mode::EnableOnly,
-        b"disable" => Mode::DisableOnly,
-        _ => Mode::Full,
+    if text == b"enable".as_slice() {
+        return Mode::EnableOnly;
     }
+    if text == b"disable".as_slice() {
+        return Mode::DisableOnly;
+    }
+    Mode::Full
 }
 
 fn number(text: &[u8]) -> usize {
@@ -116,7 +114,5 @@ fn answer(alloc: Global, row: &Row) -> Result<Vec<u8>, AllocError> {
 
 #[test]
 fn units_are_chosen(rt: HostRuntime) -> Result<(), Fail> {
-    let found = unlike(rt.alloc(), ROWS, answer)?;
-    assert_eq!(rt; found.as_slice(), b"".as_slice());
-    Ok(())
+    assert_rows(&rt, rt.alloc(), ROWS, answer)
 }

@@ -1,7 +1,7 @@
 //! What a tree says about one unit.
 use crate::trees::tree;
 use link_tree::{Tree, TreePath};
-use sample_rows::{Row, unlike};
+use sample_rows::{Row, assert_rows, is};
 use sample_values::{name, path};
 use std::alloc::{AllocError, Global};
 use std::test::Fail;
@@ -63,7 +63,7 @@ fn answer(alloc: Global, row: &Row) -> Result<Vec<u8>, AllocError> {
     let tree = tree(alloc, &row.one)?;
     let status = boxed_status(alloc, &tree, &row.two)?;
     let mut text = Vec::new(alloc);
-    if row.kind.as_slice() == b"noted".as_slice() {
+    if is(row, b"noted") {
         push_noted(alloc, &mut text, &status)?;
     } else {
         push_status(&mut text, &status, &[])?;
@@ -73,7 +73,5 @@ fn answer(alloc: Global, row: &Row) -> Result<Vec<u8>, AllocError> {
 
 #[test]
 fn units_have_a_status(rt: HostRuntime) -> Result<(), Fail> {
-    let found = unlike(rt.alloc(), ROWS, answer)?;
-    assert_eq!(rt; found.as_slice(), b"".as_slice());
-    Ok(())
+    assert_rows(&rt, rt.alloc(), ROWS, answer)
 }

@@ -7,8 +7,8 @@ use Rattle.load_path.specs.Search.{each_once}
 use Rattle.install_section.specs.declared.closed.Closed.{Closed}
 use Rattle.install_section.specs.declared.closed.ClosureFault.{ClosureFault}
 use Rattle.install_section.specs.declared.closed.ClosureFault.TheVariants as closure_faults
-use Rattle.install_section.specs.Closure.{closure}
-use Rattle.install_section.specs.ClosureLaws.{Reached, IsSkipped}
+use Rattle.install_section.specs.Closure.{Reached, closure}
+use Rattle.install_section.specs.ClosureLaws.{IsSkipped}
 use Rattle.install_section.specs.Sections.{identity_in}
 use Rattle.install_commands.specs.Disable.{named_with, units_named, links_removed}
 use Rattle.install_commands.specs.Enable.{unless_too_many}

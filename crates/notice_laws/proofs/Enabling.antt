@@ -17,8 +17,8 @@ use Rattle.install_section.specs.declared.section.Section.{Section}
 use Rattle.install_section.specs.declared.wants.Wanted.{Wanted}
 use Rattle.install_section.specs.declared.wants.WantedFault.{WantedFault}
 use Rattle.install_section.specs.declared.wants.WantedFault.TheVariants as wanted_faults
-use Rattle.install_section.specs.Closure.{closure}
-use Rattle.install_section.specs.ClosureLaws.{Reached, IsNone, IsSkipped as IsSkippedAlso}
+use Rattle.install_section.specs.Closure.{Reached, closure}
+use Rattle.install_section.specs.ClosureLaws.{IsNone, IsSkipped as IsSkippedAlso}
 use Rattle.install_section.specs.Sections.{identity_in}
 use Rattle.install_section.specs.Wanted.{wanted}
 use Rattle.install_section.specs.WantedLaws.{HasWord as Lists, IsSkipped as IsSkippedLink, key_of}

@@ -9,7 +9,7 @@ use Rattle.unit_file.specs.Notices.{NoticeMap}
 use Rattle.link_tree.specs.Trees.{Entries}
 use Rattle.load_path.specs.RealNames.{put_in}
 use Rattle.install_section.specs.declared.section.Section.{Section}
-use Rattle.install_section.specs.ClosureLaws.{Reached}
+use Rattle.install_section.specs.Closure.{Reached}
 use Rattle.install_section.specs.Sections.{identity_in, section_of}
 use Rattle.install_section.specs.Words.{skipped}
 use Rattle.preset_rules.specs.declared.rule.Rule.{Rule}

@@ -35,7 +35,8 @@ fn make_call<O: Operation>(
     }
 }
 
-/// The history of calls on a tree. The calls stay as they are, so that they can be made again.
+/// The history of calls on a tree, at most as many as a history has rows. The calls are borrowed,
+/// since they are made again if the tree turns out to lack a part.
 pub(crate) fn make_calls<O: Operation>(
     alloc: Global,
     tree: Tree,

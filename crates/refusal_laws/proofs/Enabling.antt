@@ -11,8 +11,7 @@ use Rattle.install_section.specs.declared.closed.ClosureFault.TheVariants as clo
 use Rattle.install_section.specs.declared.wants.Wanted.{Wanted}
 use Rattle.install_section.specs.declared.wants.WantedFault.{WantedFault}
 use Rattle.install_section.specs.declared.wants.WantedFault.TheVariants as wanted_faults
-use Rattle.install_section.specs.Closure.{closure}
-use Rattle.install_section.specs.ClosureLaws.{IsUnit, Reached}
+use Rattle.install_section.specs.Closure.{IsUnit, Reached, closure}
 use Rattle.install_section.specs.Wanted.{wanted}
 use Rattle.install_section.specs.WantedLaws.{IsAskedFor, NeedsName, HasTwoTargets, IsLeast}
 use Rattle.install_section.proofs.Least.{some_is, closure_least, refused_exactly}

@@ -4,7 +4,7 @@ use Rattle.std.specs.List.{IsDistinct}
 use Rattle.std.specs.Str.{bytes_eq}
 use Rattle.unit_paths.specs.declared.place.Scope.{Scope}
 use Rattle.link_tree.specs.Trees.{Entries}
-use Rattle.install_section.specs.ClosureLaws.{IsUnit, Reached}
+use Rattle.install_section.specs.Closure.{IsUnit, Reached}
 use Rattle.install_section.specs.WantedLaws.{LacksInstance, IsLeast}
 use Rattle.footprint.specs.declared.answer.Answer.TheVariants.{Refused}
 use Rattle.footprint.specs.declared.refusal.Refusal.{Refusal}

@@ -4,3 +4,5 @@
 
 #[cfg(test)]
 mod of_root_runs;
+#[cfg(test)]
+mod of_root_words;

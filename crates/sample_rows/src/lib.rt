@@ -5,8 +5,10 @@
 //! that begin with `#` aren't rows.
 #![tactic(auto)]
 
+mod answers;
 mod fields;
 mod running;
 
+pub use answers::{is, number_of, yes_or_no};
 pub use fields::Row;
-pub use running::unlike;
+pub use running::{assert_rows, unlike};

@@ -3,11 +3,20 @@ ghost use Rattle.std.specs.Prelude.{◌≡◌};
 
 use crate::fields::Row;
 use std::alloc::{AllocError, Global};
+use std::process::Abort;
+use std::str::from_utf8;
+use std::test::Fail;
 use unit_name::ample;
 
-fn push_line(out: &mut Vec<u8>, line: &[u8]) -> Result<(), AllocError> {
-    out.extend_from_slice(line)?;
-    out.extend_from_slice(b"\n")
+/// Adds a row, and its result, each with a line end: both, or nothing if memory runs out.
+fn push_report(
+    alloc: Global,
+    line: &[u8],
+    answer: &[u8],
+    out: &mut Vec<u8>,
+) -> Result<(), AllocError> {
+    let report = [line, b"\n", answer, b"\n"].concat(alloc)?;
+    out.extend_from_slice(&report)
 }
 
 /// Adds a row whose result isn't its ANSWER, and the result.
@@ -23,11 +32,10 @@ where
 {
     let row = Row::of(alloc, line)?;
     let answer = answer(alloc, &row)?;
-    if answer != row.answer {
-        push_line(out, line)?;
-        push_line(out, &answer)?;
+    if answer == row.answer {
+        return Ok(());
     }
-    Ok(())
+    push_report(alloc, line, &answer, out)
 }
 
 /// The rows of a text whose result isn't their ANSWER, each on a line, and the result on the next
@@ -44,4 +52,15 @@ where
         }
     }
     Ok(out)
+}
+
+/// Each row of a text has the result that it states. Else the test fails, and says which don't.
+pub fn assert_rows<F>(rt: &impl Abort, alloc: Global, rows: &[u8], answer: F) -> Result<(), Fail>
+where
+    F: Fn(Global, &Row) -> Result<Vec<u8>, AllocError>,
+    requires { F.IsAlwaysCallable answer }
+{
+    let found = unlike(alloc, rows, answer)?;
+    assert_eq!(rt; from_utf8(&found).unwrap_or("no text"), "");
+    Ok(())
 }

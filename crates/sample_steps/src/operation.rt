@@ -1,21 +1,19 @@
 //! The operation on one slot.
 ghost use Rattle.std.specs.Prelude.{◌≡◌, ◌∷◌, [], All, true, IfOk};
-ghost use Rattle.std.specs.FinMap as map;
 ghost use Rattle.unit_paths.specs.Slots.{is_slot};
 ghost use Rattle.footprint.specs.declared.answer.Answer.TheVariants.{State};
 ghost use Rattle.footprint.specs.declared.answer.StateWord.TheVariants.{Static};
 ghost use Rattle.footprint.specs.declared.key.Key.TheVariants.{Cell};
-ghost use Rattle.footprint.specs.Edits.{stepped};
 ghost use Rattle.footprint.specs.Operations.{outcome_of};
-ghost use Rattle.footprint.specs.Placing.{ruled_at};
 ghost use Rattle.footprint.specs.Readings.{reading_of};
+ghost use Rattle.footprint.specs.Steps.{ruled};
 ghost use Rattle.sample_steps.specs.Samples.{commanded, left};
+ghost use Rattle.transaction.specs.Runs.{Gives, Runs, taking};
 
-use footprint::{
-    Answer, Changes, Edit, Key, Keys, Notices, Operation, Outcome, Reading, Refusal, StateWord,
-};
+use footprint::{Answer, Operation, Outcome, Refusal, StateWord};
 use link_tree::{Entry, Slot, Tree, TreePath};
 use std::alloc::{AllocError, Global};
+use transaction::{Stop, Transaction};
 
 /// Puts an empty file at an empty slot, or removes the entry there, or only looks there; or is only
 /// a question.
@@ -27,43 +25,31 @@ pub struct Step {
 }
 
 impl Step {
-    /// The one key: the cell of the slot.
-    fn keys(&self, alloc: Global) -> Result<Keys, AllocError>
-        ensures { IfOk result (λ keys. keys ≡ Cell self.now.slot ∷ []) }
+    /// What must be at the slot then, given what is there, or the refusal.
+    fn left(&self, alloc: Global, there: &Option<Entry>) -> Result<Option<Entry>, Stop>
+        ensures { Gives (left self.now.puts self.now.slot there.now) result }
     {
-        let mut keys = Keys::none(alloc);
-        keys.push(Key::Cell(self.slot.copy()?))?;
-        Ok(keys)
-    }
-
-    /// What must be at the slot then, or the refusal.
-    fn left(&self, alloc: Global, tree: &Tree) -> Result<Result<Option<Entry>, Refusal>, AllocError>
-        ensures { IfOk result (λ left_there. left_there ≡ left self.now.puts self.now.slot (map.get tree.now self.now.slot)) }
-    {
-        match (self.puts, tree.get(&self.slot)) {
-            (None, None) => Ok(Ok(None)),
-            (None, Some(entry)) => Ok(Ok(Some(entry.copy()?))),
+        match (self.puts, there) {
+            (None, None) => Ok(None),
+            (None, Some(entry)) => Ok(Some(entry.copy()?)),
             (Some(true), None) => match Entry::file(alloc, b"") {
-                Ok(file) => Ok(Ok(Some(file))),
-                Err(_) => Err(AllocError),
+                Ok(file) => Ok(Some(file)),
+                Err(_) => Err(Stop::OutOfMemory),
             },
-            (Some(true), Some(_)) => Ok(Err(Refusal::Exists(self.slot.copy()?))),
-            (Some(false), None) => Ok(Err(Refusal::Absent(self.slot.copy()?))),
-            (Some(false), Some(_)) => Ok(Ok(None)),
+            (Some(true), Some(_)) => Err(Stop::Refused(Refusal::Exists(self.slot.copy()?))),
+            (Some(false), None) => Err(Stop::Refused(Refusal::Absent(self.slot.copy()?))),
+            (Some(false), Some(_)) => Ok(None),
         }
     }
 
-    /// The tree after the change of the slot, or the refusal.
-    fn edited<'a>(
-        &self,
-        alloc: Global,
-        tree: &'a Tree,
-    ) -> Result<Result<Edit<'a>, Refusal>, AllocError>
+    /// Changes the slot.
+    fn edited(&self, alloc: Global, txn: &mut Transaction<'_>) -> Result<(), Stop>
         requires { is_slot self.now.slot ≡ true }
-        ensures { IfOk result (λ done. done ≡ stepped (ruled_at self.now.slot (left self.now.puts self.now.slot (map.get tree.now self.now.slot))) (tree.now, tree.now)) }
+        ensures { Runs (taking (ruled (left self.now.puts) self.now.slot)) txn.old txn.new result }
     {
-        let left = self.left(alloc, tree)?;
-        Edit::new(alloc, tree)?.ruled(&self.slot, left)
+        let there = txn.get(&self.slot)?;
+        let left = self.left(alloc, &there)?;
+        Ok(txn.put(alloc, &self.slot, left)?)
     }
 
     /// What the command results in.
@@ -72,22 +58,18 @@ impl Step {
         ensures outcome { IfOk result (λ outcome. outcome ≡ outcome_of (λ step. commanded step.puts step.slot) self.now tree.now) }
         ensures slots { IfOk result (λ outcome. All (λ change. is_slot change.path ≡ true) outcome.changes) }
     {
-        let keys = self.keys(alloc)?;
-        let done = self.edited(alloc, tree)?;
-        Outcome::of(alloc, tree, keys, Notices::none(alloc), done)
+        let mut txn = Transaction::new(alloc, tree);
+        let done = self.edited(alloc, &mut txn);
+        txn.outcome_of_steps(alloc, done)
     }
 
     /// What the question results in.
     fn asked(&self, alloc: Global, tree: &Tree) -> Result<Outcome, AllocError>
         ensures { IfOk result (λ outcome. outcome ≡ record { answer = State Static; changes = []; reading = reading_of (Cell self.now.slot ∷ []) tree.now }) }
     {
-        let keys = self.keys(alloc)?;
-        let reading = Reading::of(alloc, tree, keys)?;
-        Ok(Outcome {
-            answer: Answer::State(StateWord::Static),
-            changes: Changes::none(alloc),
-            reading,
-        })
+        let mut txn = Transaction::new(alloc, tree);
+        let _there = txn.get(&self.slot)?;
+        txn.answer(alloc, Answer::State(StateWord::Static))
     }
 }
 

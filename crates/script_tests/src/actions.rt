@@ -3,9 +3,8 @@
 use crate::lines;
 use footprint::{Answer, Operation, Outcome};
 use link_tree::{Tree, push_decimal};
-use sample_rows::{Row, unlike};
+use sample_rows::{Row, assert_rows};
 use std::alloc::{AllocError, Global};
-use std::str;
 use std::test::Fail;
 use unit_script::Action;
 
@@ -81,7 +80,5 @@ fn answer(alloc: Global, row: &Row) -> Result<Vec<u8>, AllocError> {
 
 #[test]
 fn a_copy_does_the_same(rt: HostRuntime) -> Result<(), Fail> {
-    let found = unlike(rt.alloc(), ROWS, answer)?;
-    assert!(rt; found.is_empty(), "{:?}", str::from_utf8(&found));
-    Ok(())
+    assert_rows(&rt, rt.alloc(), ROWS, answer)
 }

@@ -1,8 +1,7 @@
 //! Lines of scripts that are refused.
 
 use crate::verbs::answer;
-use sample_rows::unlike;
-use std::str;
+use sample_rows::assert_rows;
 use std::test::Fail;
 
 /// A line, and why it is refused.
@@ -116,7 +115,5 @@ const ROWS: &[u8] = b"\
 
 #[test]
 fn the_first_fault_of_a_line_is_reported(rt: HostRuntime) -> Result<(), Fail> {
-    let found = unlike(rt.alloc(), ROWS, answer)?;
-    assert!(rt; found.is_empty(), "{:?}", str::from_utf8(&found));
-    Ok(())
+    assert_rows(&rt, rt.alloc(), ROWS, answer)
 }

@@ -20,6 +20,8 @@ mod replies;
 #[cfg(test)]
 mod session_faults;
 #[cfg(test)]
+mod stale_question;
+#[cfg(test)]
 mod streams;
 #[cfg(test)]
 mod verbs;

@@ -6,11 +6,10 @@ use crate::lines::{action, is, whole_call};
 use footprint::Key;
 use history::{History, MAX_ROWS, Operator, Request};
 use link_tree::push_decimal;
-use sample_rows::{Row, unlike};
+use sample_rows::{Row, assert_rows};
 use sample_values::tree;
 use shared_admin::{Event, EventReply, drive};
 use std::alloc::{AllocError, Global};
-use std::str;
 use std::test::Fail;
 use unit_script::{Action, Call, push_rows};
 
@@ -112,7 +111,7 @@ fn add_happening(
         return add(events, Event::Snap(0));
     }
     if is(happening, b"commit") {
-        return add(events, Event::Commit(0, alice()?));
+        return add(events, Event::Commit(0, operator(b"alice")?));
     }
     match happening.strip_prefix(b"plan ") {
         Some(line) => add_plan(alloc, line, events),
@@ -120,9 +119,10 @@ fn add_happening(
     }
 }
 
-fn alice() -> Result<Operator, AllocError> {
-    match Operator::parse(b"alice") {
-        Ok(alice) => Ok(alice),
+/// The operator of this name.
+pub(crate) fn operator(name: &[u8]) -> Result<Operator, AllocError> {
+    match Operator::parse(name) {
+        Ok(operator) => Ok(operator),
         Err(_) => Err(AllocError),
     }
 }
@@ -196,7 +196,17 @@ fn answer(alloc: Global, row: &Row) -> Result<Vec<u8>, AllocError> {
 
 #[test]
 fn an_enable_is_planned_and_committed(rt: HostRuntime) -> Result<(), Fail> {
-    let found = unlike(rt.alloc(), ROWS, answer)?;
-    assert!(rt; found.is_empty(), "{:?}", str::from_utf8(&found));
-    Ok(())
+    assert_rows(&rt, rt.alloc(), ROWS, answer)
+}
+
+/// The unit isn't masked in the snapshot, so that the plan is of a slot without an entry.
+const UNMASK: &[u8] = b"\
+    x.service\tsnapshot; bob mask x.service; plan alice unmask x.service; commit\t\t\
+        taken\\nrow 1\\nplanned\\nstale at /etc/systemd/system/x.service\\n\
+        1 bob ok\\n  + /etc/systemd/system/x.service -> /dev/null\\n\
+        2 entries\n";
+
+#[test]
+fn a_plan_on_a_snapshot_before_a_mask_is_stale(rt: HostRuntime) -> Result<(), Fail> {
+    assert_rows(&rt, rt.alloc(), UNMASK, answer)
 }

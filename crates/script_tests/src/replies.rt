@@ -6,10 +6,9 @@ use crate::lines::{is, whole_call};
 use crate::refusals;
 use history::{History, MAX_ROWS, Operator, Request, Row as HistoryRow};
 use link_tree::Change;
-use sample_rows::{Row, unlike};
+use sample_rows::{Row, assert_rows};
 use sample_values::{file, link, path, tree};
 use std::alloc::{AllocError, Global};
-use std::str;
 use std::test::Fail;
 use unit_script::{Action, Call, push_changes, push_rows};
 
@@ -250,7 +249,5 @@ fn answer(alloc: Global, row: &Row) -> Result<Vec<u8>, AllocError> {
 
 #[test]
 fn rows_changes_and_refusals_have_their_lines(rt: HostRuntime) -> Result<(), Fail> {
-    let found = unlike(rt.alloc(), ROWS, answer)?;
-    assert!(rt; found.is_empty(), "{:?}", str::from_utf8(&found));
-    Ok(())
+    assert_rows(&rt, rt.alloc(), ROWS, answer)
 }

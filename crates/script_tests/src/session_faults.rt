@@ -2,11 +2,10 @@
 
 use crate::lines::is;
 use history::Operator;
-use sample_rows::{Row, unlike};
+use sample_rows::{Row, assert_rows};
 use session_script::SessionsFault;
 use shared_admin::CloseFault;
 use std::alloc::{AllocError, Global};
-use std::str;
 use std::test::Fail;
 use unit_script::RunFault;
 
@@ -73,7 +72,5 @@ fn answer(alloc: Global, row: &Row) -> Result<Vec<u8>, AllocError> {
 
 #[test]
 fn faults_of_sessions_have_their_texts(rt: HostRuntime) -> Result<(), Fail> {
-    let found = unlike(rt.alloc(), ROWS, answer)?;
-    assert!(rt; found.is_empty(), "{:?}", str::from_utf8(&found));
-    Ok(())
+    assert_rows(&rt, rt.alloc(), ROWS, answer)
 }

@@ -5,11 +5,10 @@ use byte_streams::ReadError;
 use footprint::{Operation, Units};
 use history::Request;
 use link_tree::{Entry, Scope, push_decimal};
-use sample_rows::{Row, unlike};
+use sample_rows::{Row, assert_rows};
 use slot_commands::{AddTo, AddedDependency, PlaceEntry};
 use states::Dependencies;
 use std::alloc::{AllocError, Global};
-use std::str;
 use std::test::Fail;
 use unit_script::{Action, Call, ScriptFault};
 
@@ -206,7 +205,5 @@ pub(crate) fn answer(alloc: Global, row: &Row) -> Result<Vec<u8>, AllocError> {
 
 #[test]
 fn each_verb_is_read(rt: HostRuntime) -> Result<(), Fail> {
-    let found = unlike(rt.alloc(), ROWS, answer)?;
-    assert!(rt; found.is_empty(), "{:?}", str::from_utf8(&found));
-    Ok(())
+    assert_rows(&rt, rt.alloc(), ROWS, answer)
 }

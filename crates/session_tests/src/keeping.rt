@@ -12,12 +12,11 @@ use crate::scripts::{Ran, push_error};
 use crate::serving::{Watcher, closed, opened, push_entry, shared};
 use history::{CallError, Operator, Request, RowReply};
 use link_tree::Tree;
-use sample_rows::{Row, unlike};
+use sample_rows::{Row, assert_rows};
 use sample_steps::{Step, begin_word, is, operator, push_numbered, push_pair, push_reply, request};
 use sessions::{Answered, Desk, Gate, IssueError, Job, RunError, Session, Unissued, Unserved};
 use shared_admin::{LogEntry, SessionLog, SharedAdmin};
 use std::alloc::{AllocError, Global};
-use std::str;
 use std::sync::Wait;
 use std::sync::atomic::{AtomicU64, Ordering};
 use std::test::Fail;
@@ -486,22 +485,20 @@ fn answer_of_run<R: Threads + Wait + Sync>(
 
 #[test]
 fn a_call_without_memory_leaves_all_as_it_was(rt: HostRuntime) -> Result<(), Fail> {
-    let found = unlike(
+    assert_rows(
+        &rt,
         rt.alloc(),
         CALLS,
         |alloc, row| answer_of_call(&rt, alloc, row),
-    )?;
-    assert!(rt; found.is_empty(), "{:?}", str::from_utf8(&found));
-    Ok(())
+    )
 }
 
 #[test]
 fn a_run_without_memory_comes_to_an_end(rt: HostRuntime) -> Result<(), Fail> {
-    let found = unlike(
+    assert_rows(
+        &rt,
         rt.alloc(),
         RUNS,
         |alloc, row| answer_of_run(&rt, alloc, row),
-    )?;
-    assert!(rt; found.is_empty(), "{:?}", str::from_utf8(&found));
-    Ok(())
+    )
 }

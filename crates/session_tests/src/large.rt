@@ -4,9 +4,11 @@
 use crate::running::{text_of_feed, text_of_run};
 use crate::scripts::Open;
 use history::Operator;
+use sample_steps::is;
 use sessions::Gate;
 use std::alloc::{AllocError, Global};
 use std::process::Abort;
+use std::str::from_utf8;
 use std::sync::Wait;
 use std::sync::atomic::{AtomicU64, Ordering};
 use std::test::Fail;
@@ -44,16 +46,14 @@ pub(crate) fn wait_for<R: Clock>(rt: &R, came: &AtomicU64, most: u32) {
 
 impl<'a, R: Clock> Gate for Meeting<'a, R> {
     fn between(&self, operator: Operator, call: u64, _attempt: u8) {
-        match (operator.text(), call) {
-            (b"alice", 1) => {
-                self.alice_came.fetch_add(1, Ordering::SeqCst);
-                wait_for(self.rt, self.bob_came, LONGEST);
-            }
-            (b"bob", 1) => wait_for(self.rt, self.alice_came, LONGEST),
-            (b"bob", call) if call == self.until => {
-                self.bob_came.fetch_add(1, Ordering::SeqCst);
-            }
-            _ => {}
+        let is_alice = is(operator.text(), b"alice");
+        if is_alice && call == 1 {
+            self.alice_came.fetch_add(1, Ordering::SeqCst);
+            wait_for(self.rt, self.bob_came, LONGEST);
+        } else if !is_alice && call == 1 {
+            wait_for(self.rt, self.alice_came, LONGEST);
+        } else if !is_alice && call == self.until {
+            self.bob_came.fetch_add(1, Ordering::SeqCst);
         }
     }
 }
@@ -120,6 +120,13 @@ fn script_of_many(alloc: Global) -> Result<Vec<u8>, AllocError> {
         }
     }
     Ok(script)
+}
+
+pub(crate) fn assert_text(rt: &impl Abort, text: &[u8], wanted: &[u8]) {
+    assert_eq!(rt;
+        from_utf8(text).unwrap_or("no text"),
+        from_utf8(wanted).unwrap_or("no text")
+    );
 }
 
 /// The text begins with these logs, and has a word for each of this many rows after them.

@@ -2,11 +2,10 @@
 
 use crate::scripts::{Open, Ran, asks, operators, push_run, works};
 use link_tree::Tree;
-use sample_rows::{Row, unlike};
+use sample_rows::{Row, assert_rows};
 use sample_steps::is;
 use sessions::{Gate, run_desk, run_sessions};
 use std::alloc::{AllocError, Global};
-use std::str;
 use std::sync::Wait;
 use std::test::Fail;
 use std::thread::Threads;
@@ -98,7 +97,5 @@ fn answer<R: Threads + Wait + Sync>(
 
 #[test]
 fn sessions_run_side_by_side(rt: HostRuntime) -> Result<(), Fail> {
-    let found = unlike(rt.alloc(), ROWS, |alloc, row| answer(&rt, alloc, row))?;
-    assert!(rt; found.is_empty(), "{:?}", str::from_utf8(&found));
-    Ok(())
+    assert_rows(&rt, rt.alloc(), ROWS, |alloc, row| answer(&rt, alloc, row))
 }

@@ -5,12 +5,11 @@ use crate::desk;
 use crate::scripts::{Open, operators};
 use history::{CallError, MAX_ROWS, Operator, Request};
 use link_tree::{Tree, push_decimal};
-use sample_rows::{Row, unlike};
+use sample_rows::{Row, assert_rows};
 use sample_steps::{Step, is, number, operator, parts, push_numbered, push_reply, request, step};
 use sessions::{Gate, Session, Unserved};
 use shared_admin::{LogEntry, SessionLogs, SharedAdmin};
 use std::alloc::{AllocError, Global};
-use std::str;
 use std::sync::Wait;
 use std::sync::atomic::{AtomicU64, Ordering};
 use std::test::Fail;
@@ -460,7 +459,5 @@ fn answer(rt: &impl Wait, alloc: Global, row: &Row) -> Result<Vec<u8>, AllocErro
 
 #[test]
 fn requests_are_served_once_and_in_order(rt: HostRuntime) -> Result<(), Fail> {
-    let found = unlike(rt.alloc(), ROWS, |alloc, row| answer(&rt, alloc, row))?;
-    assert!(rt; found.is_empty(), "{:?}", str::from_utf8(&found));
-    Ok(())
+    assert_rows(&rt, rt.alloc(), ROWS, |alloc, row| answer(&rt, alloc, row))
 }

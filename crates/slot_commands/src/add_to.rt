@@ -6,10 +6,10 @@ ghost use Rattle.unit_paths.specs.Places.{scope_place};
 ghost use Rattle.slot_commands.specs.AddTo.{as_dependency, default_of, name_listed, add_file, add_unit, add_units, add_steps};
 ghost use Rattle.transaction.specs.Runs.{Runs, taking};
 
-use footprint::{Operation, Outcome, Refusal, Units, link_at};
+use footprint::{Operation, Outcome, Refusal, Units};
 use link_tree::{Contents, Dependency, Entry, Scope, Tree, TreePath};
 use std::alloc::{AllocError, Global};
-use transaction::{Stop, Transaction};
+use transaction::{Stop, Transaction, link_at};
 use unit_file::{
     InstallError, InstallFault, InstallText, identity, install_of, is_template, listed_name,
 };
@@ -116,10 +116,8 @@ impl AddTo {
         let place = self.scope.place();
         let slot = place.dependency_slot(alloc, self.dependency.as_dependency(), by, &name)?;
         let there = txn.get(&slot)?;
-        match link_at(alloc, file, &slot, there.as_ref())? {
-            Ok(entry) => Ok(txn.put(alloc, &slot, entry)?),
-            Err(refusal) => Err(Stop::Refused(refusal)),
-        }
+        let entry = link_at(alloc, file, &slot, there.as_ref())?;
+        Ok(txn.put(alloc, &slot, entry)?)
     }
 
     /// One unit is listed by another.
@@ -154,7 +152,7 @@ impl AddTo {
         Ok(())
     }
 
-    fn added(&self, alloc: Global, txn: &mut Transaction<'_>) -> Result<(), Stop>
+    fn add(&self, alloc: Global, txn: &mut Transaction<'_>) -> Result<(), Stop>
         ensures { Runs (taking (add_steps self.now)) txn.old txn.new result }
     {
         let (by, _file) = txn.unit(alloc, &self.target)?;
@@ -173,7 +171,7 @@ impl Operation for AddTo {
 
     fn run(&self, alloc: Global, tree: &Tree) -> Result<Outcome, AllocError> {
         let mut txn = Transaction::new(alloc, tree);
-        let done = self.added(alloc, &mut txn);
+        let done = self.add(alloc, &mut txn);
         txn.outcome_of_steps(alloc, done)
     }
 

@@ -23,7 +23,7 @@ pub struct RemoveEntry {
 }
 
 impl PlaceEntry {
-    fn placed(&self, alloc: Global, txn: &mut Transaction<'_>) -> Result<(), Stop>
+    fn place(&self, alloc: Global, txn: &mut Transaction<'_>) -> Result<(), Stop>
         ensures { Runs (taking (place_steps self.now)) txn.old txn.new result }
     {
         if Slot::of(&self.path).is_none() {
@@ -48,7 +48,7 @@ impl Operation for PlaceEntry {
 
     fn run(&self, alloc: Global, tree: &Tree) -> Result<Outcome, AllocError> {
         let mut txn = Transaction::new(alloc, tree);
-        let done = self.placed(alloc, &mut txn);
+        let done = self.place(alloc, &mut txn);
         txn.outcome_of_steps(alloc, done)
     }
 
@@ -71,7 +71,7 @@ impl Operation for PlaceEntry {
 }
 
 impl RemoveEntry {
-    fn removed(&self, alloc: Global, txn: &mut Transaction<'_>) -> Result<(), Stop>
+    fn remove(&self, alloc: Global, txn: &mut Transaction<'_>) -> Result<(), Stop>
         ensures { Runs (taking (remove_steps self.now)) txn.old txn.new result }
     {
         if Slot::of(&self.path).is_none() {
@@ -96,7 +96,7 @@ impl Operation for RemoveEntry {
 
     fn run(&self, alloc: Global, tree: &Tree) -> Result<Outcome, AllocError> {
         let mut txn = Transaction::new(alloc, tree);
-        let done = self.removed(alloc, &mut txn);
+        let done = self.remove(alloc, &mut txn);
         txn.outcome_of_steps(alloc, done)
     }
 

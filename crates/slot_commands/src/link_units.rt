@@ -7,11 +7,11 @@ ghost use Rattle.slot_commands.specs.LinkUnits.{link_file, link_unit};
 ghost use Rattle.transaction.specs.Runs.{Runs, taking};
 
 use crate::paths::Paths;
-use footprint::{Operation, Outcome, Refusal, Subject, link_at};
+use footprint::{Operation, Outcome, Refusal, Subject};
 use link_tree::{Place, Scope, Slot, Tree, TreePath};
 use load_path::End;
 use std::alloc::{AllocError, Global};
-use transaction::{Stop, Transaction};
+use transaction::{Stop, Transaction, link_at};
 use unit_name::{NameError, UnitName};
 
 /// systemctl(1), `link`: links each unit file that is given by its path into the directory of the
@@ -28,7 +28,7 @@ pub struct LinkUnits {
 }
 
 /// The file name of a path, if it is the name of a unit.
-fn unit_named(alloc: Global, path: &TreePath) -> Result<Option<UnitName>, AllocError>
+fn parse_file_name(alloc: Global, path: &TreePath) -> Result<Option<UnitName>, AllocError>
     ensures { IfOk result (λ name. name ≡ named (name_at path.now)) }
 {
     match UnitName::parse(alloc, path.file_name()) {
@@ -47,7 +47,7 @@ fn link_file(
 ) -> Result<(), Stop>
     ensures { Runs (taking (link_file place path.now)) txn.old txn.new result }
 {
-    let Some(name) = unit_named(alloc, path)? else {
+    let Some(name) = parse_file_name(alloc, path)? else {
         return Err(Stop::Refused(Refusal::BadType(Subject::Path(path.copy()?))));
     };
     if Slot::is_of_unit(path) {
@@ -55,10 +55,8 @@ fn link_file(
     }
     let slot = place.slot(alloc, &name)?;
     let there = txn.get(&slot)?;
-    match link_at(alloc, path, &slot, there.as_ref())? {
-        Ok(entry) => Ok(txn.put(alloc, &slot, entry)?),
-        Err(refusal) => Err(Stop::Refused(refusal)),
-    }
+    let entry = link_at(alloc, path, &slot, there.as_ref())?;
+    Ok(txn.put(alloc, &slot, entry)?)
 }
 
 /// Links one path.

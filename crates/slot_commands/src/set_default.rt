@@ -5,10 +5,10 @@ ghost use Rattle.unit_paths.specs.Slots.{is_slot};
 ghost use Rattle.slot_commands.specs.SetDefault.{default_slot, is_target_type, default_file, default_steps};
 ghost use Rattle.transaction.specs.Runs.{Runs, taking};
 
-use footprint::{Operation, Outcome, Refusal, Subject, relink_at};
+use footprint::{Operation, Outcome, Refusal, Subject};
 use link_tree::{PathError, Tree, TreePath};
 use std::alloc::{AllocError, Global};
-use transaction::{Stop, Transaction};
+use transaction::{Stop, Transaction, relink_at};
 use unit_file::is_template;
 use unit_name::{UnitName, UnitType};
 
@@ -62,13 +62,11 @@ impl SetDefault {
         }
         let slot = default_slot(alloc)?;
         let there = txn.get(&slot)?;
-        match relink_at(alloc, file, &slot, there.as_ref())? {
-            Ok(entry) => Ok(txn.put(alloc, &slot, entry)?),
-            Err(refusal) => Err(Stop::Refused(refusal)),
-        }
+        let entry = relink_at(alloc, file, &slot, there.as_ref())?;
+        Ok(txn.put(alloc, &slot, entry)?)
     }
 
-    fn made(&self, alloc: Global, txn: &mut Transaction<'_>) -> Result<(), Stop>
+    fn set(&self, alloc: Global, txn: &mut Transaction<'_>) -> Result<(), Stop>
         ensures { Runs (taking (default_steps self.now)) txn.old txn.new result }
     {
         let (real, file) = txn.unit(alloc, &self.unit)?;
@@ -87,7 +85,7 @@ impl Operation for SetDefault {
 
     fn run(&self, alloc: Global, tree: &Tree) -> Result<Outcome, AllocError> {
         let mut txn = Transaction::new(alloc, tree);
-        let done = self.made(alloc, &mut txn);
+        let done = self.set(alloc, &mut txn);
         txn.outcome_of_steps(alloc, done)
     }
 

@@ -17,8 +17,8 @@ use Rattle.load_path.specs.Find.{find}
 use Rattle.load_path.specs.RealNames.{is_same_type, by_kinds, real_name}
 use Rattle.load_path.proofs.Files.{find-file}
 use Rattle.install_section.specs.declared.section.Section.{Section}
-use Rattle.install_section.specs.ClosureLaws.{IsUnit, Reached}
-use Rattle.install_section.specs.ClosureLaws.Reached.{Given, Named}
+use Rattle.install_section.specs.Closure.{IsUnit, Reached}
+use Rattle.install_section.specs.Closure.Reached.{Given, Named}
 use Rattle.install_section.specs.Sections.{section_by, section_of}
 use Rattle.install_section.proofs.Least.{some_is}
 use Rattle.state_laws.proofs.NotNull.{file_path}

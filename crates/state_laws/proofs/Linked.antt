@@ -30,7 +30,7 @@ use Rattle.link_tree.specs.Links.{is_of_scope, is_instance, is_named, belongs}
 use Rattle.link_tree.specs.Trees.{Entries}
 use Rattle.load_path.proofs.Units.{unit_is_like_name}
 use Rattle.install_section.specs.declared.section.Section.{Section}
-use Rattle.install_section.specs.ClosureLaws.{IsUnit, Reached}
+use Rattle.install_section.specs.Closure.{IsUnit, Reached}
 use Rattle.install_section.specs.Sections.{section_of, identity_in}
 use Rattle.install_section.specs.WantedLaws.{IsListed, HasInstanceListed, HasAlias, AsksFor}
 use Rattle.install_section.specs.Wishes.{alias_by, alias_meant, has_aliases, are_alike, may_have}

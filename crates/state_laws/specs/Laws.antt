@@ -12,7 +12,7 @@ use Rattle.unit_paths.specs.declared.place.Scope.TheVariants.{Etc, Run}
 use Rattle.unit_paths.specs.Places.{scope_place}
 use Rattle.unit_paths.specs.Slots.{unit_slot}
 use Rattle.link_tree.specs.Trees.{Entries}
-use Rattle.install_section.specs.ClosureLaws.{IsUnit, Reached}
+use Rattle.install_section.specs.Closure.{IsUnit, Reached}
 use Rattle.install_section.specs.WantedLaws.{IsListed, HasInstanceListed, HasAlias}
 use Rattle.footprint.specs.declared.answer.StateWord.{StateWord}
 use Rattle.footprint.specs.declared.answer.StateWord.TheVariants.{Masked, MaskedRuntime, Enabled, EnabledRuntime}

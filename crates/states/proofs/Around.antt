@@ -16,9 +16,8 @@ use Rattle.load_path.specs.RealNames.{named, put_in}
 use Rattle.load_path.proofs.Units.{is-name}
 use Rattle.install_section.proofs.Least.{some_is, is_first, is_later}
 use Rattle.states.specs.declared.step.Step.{Step}
-use Rattle.states.specs.Dependencies.{named_step, step_at, turned, steps_of, ends_of, end_for, ends_for, next_names, within, names_around, reached_names}
-use Rattle.states.specs.DependencyLaws.{Reached}
-use Rattle.states.specs.DependencyLaws.Reached.{Next, Further}
+use Rattle.states.specs.Dependencies.{Reached, named_step, step_at, turned, steps_of, ends_of, end_for, ends_for, next_names, within, names_around, reached_names}
+use Rattle.states.specs.Dependencies.Reached.{Next, Further}
 use Rattle.states.specs.Reaching.{AreSame, AreReached}
 use Rattle.states.proofs.Linked.{step_link}
 use Rattle.states.proofs.Members.{none_in, in_either, in_flat_map, of_flat_map, in_filter_map, of_filter_map, in_map}

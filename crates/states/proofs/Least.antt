@@ -1,5 +1,6 @@
 -- Dependencies are the least set, and reversing them swaps the two units.
-use Rattle.std.proofs.Common.{◌≡◌, ◌≢◌, ℕ, Bool, true, false, List, [], Some, Contains, refl, sym, ap, subst, ◌∙◌, inl, inr}
+use Rattle.std.proofs.Common.{◌≡◌, ◌≢◌, ℕ, Bool, true, false, List, [], Some, None, if◌then◌else◌, Contains, refl, sym, ap, subst, ◌∙◌}
+use Rattle.std.proofs.lemmas.Bool.{true≢false}
 use Rattle.std.specs.FinMap as map
 use Rattle.std.proofs.lemmas.List.Elements.{All-contains}
 use Rattle.unit_name.specs.declared.kind.Kind.{Kind}
@@ -22,14 +23,21 @@ use Rattle.footprint.specs.Keys.{part}
 use Rattle.unit_paths.specs.Kinds.{is_dependency}
 use Rattle.footprint.proofs.Parts.{part_selected, part_stands, stands_in_part}
 use Rattle.states.specs.declared.step.Step.{Step}
-use Rattle.states.specs.Dependencies.{turned, steps_of, ends_of, end_for, next_names, reached_names, dependencies}
-use Rattle.states.specs.DependencyLaws.{HasLink, IsLinked, IsLinkedBy, Leads, Reached, DependenciesAreLeast, DependenciesTurnRound}
-use Rattle.states.specs.DependencyLaws.Reached.{Next, Further}
+use Rattle.states.specs.Dependencies.{HasLink, IsLinked, IsLinkedBy, Leads, Reached, turned, steps_of, ends_of, end_for, next_names, reached_names, dependencies}
+use Rattle.states.specs.Dependencies.Leads.{OwnLink, LinkOfTemplate, BetweenTemplates}
+use Rattle.states.specs.Dependencies.Reached.{Next, Further}
+use Rattle.states.specs.DependencyLaws.{DependenciesAreLeast, DependenciesTurnRound}
 use Rattle.states.proofs.Linked.{link_step, step_link}
 use Rattle.states.proofs.Around.{Comes, of_next, in_next, of_ends, in_ends, of_steps, in_steps, steps_named, are_all, same_reached}
 use Rattle.states.proofs.Around.Comes.{Own, Shared}
 use Rattle.states.proofs.Ordered.{Contains-names_but}
 use Rattle.states.proofs.Reaches.{Name}
+
+plain_template : Plain ≡ Template → ⊥
+plain_template h = cc
+
+instance_template : Instance ≡ Template → ⊥
+instance_template h = cc
 
 module _ (t : Entries) where
   abbrev links : Entries
@@ -72,12 +80,35 @@ module _ (t : Entries) where
   linked_end false from to linked = in_ends (steps_of false all) (record { from = from; to = to }) (step_there false from to linked)
 
   comes_leads : (reverse : Bool) (from to : Name) → Comes reverse (ends_of (steps_of reverse all)) from to → Leads reverse t from to
-  comes_leads reverse from to (Own here) = inl (end_linked reverse from to here)
-  comes_leads reverse from to (Shared end is here leads) = inr (is, (end, end_linked reverse (template_of from) end here, leads))
+  comes_leads reverse from to (Own here) = OwnLink to (end_linked reverse from to here)
+  comes_leads reverse from to (Shared end is here leads) = by_kind (kind_of (instance_of end)) refl leads
+    where
+      linked : IsLinkedBy reverse t (template_of from) end
+      linked = end_linked reverse (template_of from) end here
+
+      -- a link to a unit that is no template
+      as_it_is : (way : Bool) → reverse ≡ way → kind_of (instance_of end) ≢ Template → (if way then None else Some end) ≡ Some to → Leads reverse t from to
+      as_it_is true back other h = absurd (cc)
+      as_it_is false forth other h =
+          let same : end ≡ to = cc in
+          subst (Leads reverse t from) same (LinkOfTemplate end forth is (subst (λ way. IsLinkedBy way t (template_of from) end) forth linked) other)
+
+      by_kind : (kind : Kind) → kind_of (instance_of end) ≡ kind → end_for reverse (instance_of from) end kind ≡ Some to → Leads reverse t from to
+      by_kind Template kind h = BetweenTemplates end to is linked kind h
+      by_kind Plain kind h = as_it_is reverse refl (λ template. plain_template (sym kind ∙ template)) h
+      by_kind Instance kind h = as_it_is reverse refl (λ template. instance_template (sym kind ∙ template)) h
 
   leads_comes : (reverse : Bool) (from to : Name) → Leads reverse t from to → Comes reverse (ends_of (steps_of reverse all)) from to
-  leads_comes reverse from to (inl linked) = Own (linked_end reverse from to linked)
-  leads_comes reverse from to (inr (is, takes)) = Shared takes.0 is (linked_end reverse (template_of from) takes.0 takes.1) takes.2
+  leads_comes reverse from to (OwnLink _ linked) = Own (linked_end reverse from to linked)
+  leads_comes reverse from to (BetweenTemplates end _ is linked template put) =
+      Shared end is (linked_end reverse (template_of from) end linked) (ap (end_for reverse (instance_of from) end) template ∙ put)
+  leads_comes reverse from to (LinkOfTemplate _ forth is linked other) =
+      Shared to is (linked_end reverse (template_of from) to (subst (λ way. IsLinkedBy way t (template_of from) to) (sym forth) linked)) (by_kind (kind_of (instance_of to)) refl)
+    where
+      by_kind : (kind : Kind) → kind_of (instance_of to) ≡ kind → end_for reverse (instance_of from) to kind ≡ Some to
+      by_kind Template kind = absurd (other kind)
+      by_kind Plain kind = ap (λ way. if way then None else Some to) forth
+      by_kind Instance kind = ap (λ way. if way then None else Some to) forth
 
 pub dependencies_are_least : DependenciesAreLeast
 unfolding dependencies
@@ -102,29 +133,26 @@ module _ (t : Entries) (none : (of to : Name) → IsLinked t of to → kind_of (
 
   -- a forward step is a link, since no template has one
   forward : (from to : Name) → is_unit_name from ≡ true → Leads false t from to → IsLinked t from to
-  forward from to good (inl linked) = linked
-  forward from to good (inr (is, takes)) = absurd (none (template_of from) takes.0 takes.1 (template_kind from good))
+  forward from to good (OwnLink _ linked) = linked
+  forward from to good (LinkOfTemplate _ forth is linked other) = absurd (none (template_of from) to linked (template_kind from good))
+  forward from to good (BetweenTemplates end _ is linked template put) = absurd (none (template_of from) end linked (template_kind from good))
 
   backward : (from to : Name) → Leads true t from to → IsLinked t to from
-  backward from to (inl linked) = linked
-  backward from to (inr (is, takes)) = absurd (of_end takes.0 (kind_of (instance_of takes.0)) refl takes.1 takes.2)
-    where
-      of_end : (end : Name) (kind : Kind) → kind_of (instance_of end) ≡ kind → IsLinked t end (template_of from) → end_for true (instance_of from) end kind ≡ Some to → ⊥
-      of_end end Template is linked leads = none end (template_of from) linked is
-      of_end end Plain is linked leads = absurd (cc)
-      of_end end Instance is linked leads = absurd (cc)
+  backward from to (OwnLink _ linked) = linked
+  backward from to (LinkOfTemplate _ forth is linked other) = absurd (true≢false forth)
+  backward from to (BetweenTemplates end _ is linked template put) = absurd (none end (template_of from) linked template)
 
   forward_named : (from to : Name) → is_unit_name from ≡ true → Reached (Leads false t) from to → is_unit_name to ≡ true
   forward_named from to good (Next _ leads) = (forward from to good leads).1
   forward_named from to good (Further by _ r leads) = (forward by to (forward_named from by good r) leads).1
 
   turn_back : (from to : Name) → is_unit_name from ≡ true → Reached (Leads false t) from to → Reached (Leads true t) to from
-  turn_back from to good (Next _ leads) = Next from (inl (forward from to good leads))
-  turn_back from to good (Further by _ r leads) = before (Leads true t) to by from (inl (forward by to (forward_named from by good r) leads)) (turn_back from by good r)
+  turn_back from to good (Next _ leads) = Next from (OwnLink from (forward from to good leads))
+  turn_back from to good (Further by _ r leads) = before (Leads true t) to by from (OwnLink by (forward by to (forward_named from by good r) leads)) (turn_back from by good r)
 
   turn_forth : (from to : Name) → Reached (Leads true t) from to → Reached (Leads false t) to from
-  turn_forth from to (Next _ leads) = Next from (inl (backward from to leads))
-  turn_forth from to (Further by _ r leads) = before (Leads false t) to by from (inl (backward by to leads)) (turn_forth from by r)
+  turn_forth from to (Next _ leads) = Next from (OwnLink from (backward from to leads))
+  turn_forth from to (Further by _ r leads) = before (Leads false t) to by from (OwnLink by (backward by to leads)) (turn_forth from by r)
 
 pub dependencies_turn_round : DependenciesTurnRound
 dependencies_turn_round unit name t unit_good name_good none =

@@ -10,10 +10,9 @@ use Rattle.std.proofs.lemmas.Map.Views.{Contains-from_any, list_any-from_Contain
 use Rattle.std.proofs.lemmas.Map.Made.{length-le_from_is_member}
 use Rattle.link_tree.proofs.Changed.{same_bytes}
 use Rattle.install_section.proofs.Least.{first_or_later, is_first, is_later}
-use Rattle.states.specs.Dependencies.{within}
-use Rattle.states.specs.DependencyLaws.{Reached}
+use Rattle.states.specs.Dependencies.{Reached, within}
 use Rattle.states.specs.Reaching.{AreReached}
-use Rattle.states.specs.DependencyLaws.Reached.{Next, Further}
+use Rattle.states.specs.Dependencies.Reached.{Next, Further}
 use Rattle.states.proofs.Members.{none_in, in_either, in_flat_map, of_flat_map}
 
 abbrev pub Name : Type 0

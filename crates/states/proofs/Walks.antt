@@ -9,9 +9,9 @@ use Rattle.std.proofs.lemmas.Map.Views.{Contains-from_any}
 use Rattle.std.proofs.lemmas.Option.{slice_get_cases}
 use Rattle.link_tree.proofs.Changed.{same_bytes}
 use Rattle.install_section.proofs.Least.{some_is, first_or_later, is_first, is_later}
-use Rattle.states.specs.DependencyLaws.{Reached}
+use Rattle.states.specs.Dependencies.{Reached}
 use Rattle.states.specs.Reaching.{with_name, with_names, AreReached}
-use Rattle.states.specs.DependencyLaws.Reached.{Next, Further}
+use Rattle.states.specs.Dependencies.Reached.{Next, Further}
 use Rattle.states.proofs.Members.{none_in, in_either}
 use Rattle.states.proofs.Reaches.{Name, Within, IsClosed, reached_in}
 

@@ -1,6 +1,7 @@
 -- The units on which units depend, by links: systemctl(1), "list-dependencies"; systemd.unit(5),
--- "Description", on .wants/, .requires/ and .upholds/.
-use Rattle.std.specs.Prelude.{ℕ, zero, suc, ◌-◌, Bool, false, not, ◌&&◌, if◌then◌else◌, List, [], ◌∷◌, ◌++◌, length, take, map as list_map, filter_map, flat_map, Option, Some, None}
+-- "Description", on .wants/, .requires/ and .upholds/. First they are a set, by its rules; the walk
+-- that lists them follows. `dependencies_are_least` says that both are the same.
+use Rattle.std.specs.Prelude.{◌≡◌, ◌≢◌, ℕ, zero, suc, ◌-◌, Bool, true, false, not, ◌&&◌, if◌then◌else◌, List, [], ◌∷◌, ◌++◌, length, take, map as list_map, filter_map, flat_map, Option, Some, None}
 use Rattle.std.specs.Option.{option_map}
 use Rattle.std.specs.Str.{bytes_eq}
 use Rattle.std.specs.FinMap as map
@@ -8,15 +9,18 @@ use Rattle.unit_name.specs.declared.kind.Kind.{Kind}
 use Rattle.unit_name.specs.declared.kind.Kind.TheVariants.{Template, Instance}
 use Rattle.unit_name.specs.Parts.{kind_of}
 use Rattle.unit_name.specs.Name.{is_unit_name, instance_of, template_of}
+use Rattle.unit_paths.specs.declared.place.Place.{Place}
+use Rattle.unit_paths.specs.declared.slot.Dependency.{Dependency}
 use Rattle.unit_paths.specs.declared.slot.Slot.{Slot}
 use Rattle.unit_paths.specs.Canonical.{is_null_target}
 use Rattle.unit_paths.specs.Paths.{name_at, parent_of}
-use Rattle.unit_paths.specs.Slots.{slot_of, dependency_ending}
+use Rattle.unit_paths.specs.Slots.{slot_of, dependency_ending, dependency_slot}
 use Rattle.unit_paths.specs.Kinds.{dependency_of}
 use Rattle.link_tree.specs.declared.entry.Entry.{Entry}
 use Rattle.link_tree.specs.declared.entry.Entry.TheVariants.{File, Link}
 use Rattle.link_tree.specs.Trees.{Entries, path_cmp}
 use Rattle.load_path.specs.RealNames.{put_in}
+use Rattle.footprint.specs.declared.answer.Answer.{Answer}
 use Rattle.footprint.specs.declared.answer.Answer.TheVariants.{Names}
 use Rattle.footprint.specs.declared.key.Key.TheVariants.{Links}
 use Rattle.footprint.specs.Inquiry.{Inquiry, entries_seen, giving}
@@ -25,8 +29,41 @@ use Rattle.states.specs.declared.step.Step.{Step}
 use Rattle.states.specs.declared.dependencies.Dependencies.{Dependencies}
 use Rattle.states.specs.Questions.{asked}
 
--- the ending of the name of the directory that contains a path, if the path is the slot of a
--- dependency
+-- A link that isn't to /dev/null exists at this path.
+abbrev pub HasLink : Entries → (path : List ℕ) → Type 0
+HasLink t path = (target : List ℕ) × (map.get t path ≡ Some (Link target)) × (is_null_target path target ≡ false)
+
+-- A unit is linked to another: at DIR/OF.wants/NAME, DIR/OF.requires/NAME or DIR/OF.upholds/NAME,
+-- in one of the four directories.
+abbrev pub IsLinked : Entries → (of name : List ℕ) → Type 0
+IsLinked t of name =
+    (is_unit_name of ≡ true) × (is_unit_name name ≡ true) × (place : Place) × (dependency : Dependency) × HasLink t (dependency_slot place dependency of name)
+
+-- in reverse, the opposite
+abbrev pub IsLinkedBy : (reverse : Bool) → Entries → (from to : List ℕ) → Type 0
+IsLinkedBy false t from to = IsLinked t from to
+IsLinkedBy true t from to = IsLinked t to from
+
+-- Where one step leads from a unit: along its own links; and for an instance along those of its
+-- template too. A link from a template to a unit that is no template leads to that unit, but not in
+-- reverse, since that unit depends on the template alone. A link between two templates leads to the
+-- other template's instance with the same instance name, if that is a valid name.
+pub data Leads (reverse : Bool) (t : Entries) (from : List ℕ) : List ℕ → Type 0 where
+  OwnLink : (to : List ℕ) → IsLinkedBy reverse t from to → Leads reverse t from to
+  LinkOfTemplate : (to : List ℕ) → reverse ≡ false → kind_of (instance_of from) ≡ Instance → IsLinked t (template_of from) to → kind_of (instance_of to) ≢ Template → Leads reverse t from to
+  BetweenTemplates : (end to : List ℕ) → kind_of (instance_of from) ≡ Instance → IsLinkedBy reverse t (template_of from) end → kind_of (instance_of end) ≡ Template → put_in end (instance_of from) ≡ Some to → Leads reverse t from to
+
+-- The names that are reached from one name by one step or more.
+pub data Reached (Leads : (from to : List ℕ) → Type 0) (from : List ℕ) : List ℕ → Type 0 where
+  Next : (to : List ℕ) → Leads from to → Reached Leads from to
+  Further : (by to : List ℕ) → Reached Leads from by → Leads by to → Reached Leads from to
+
+-- A unit depends on all that it reaches, except itself. In reverse these depend on it.
+abbrev pub IsDependency : (reverse : Bool) → Entries → (unit name : List ℕ) → Type 0
+IsDependency reverse t unit name = Reached (Leads reverse t) unit name × (name ≢ unit)
+
+-- From here on the walk: the ending of the name of the directory that contains a path, if the path
+-- is the slot of a dependency
 abbrev pub ending_of : Option Slot → Option (List ℕ)
 ending_of slot = option_map dependency_ending (dependency_of slot)
 
@@ -108,5 +145,8 @@ unfoldable pub dependencies : (reverse : Bool) → (unit : List ℕ) → (links 
 dependencies reverse unit links = map.remove (set_of (reached_names reverse (steps_of reverse (map.entries links)) unit)) unit
 
 -- What the question looks up in a tree, and what it answers: the names, in byte order.
+abbrev pub dependencies_answer : Dependencies → Inquiry Answer
+dependencies_answer c = giving (entries_seen Links) (λ links. Names (map.keys (dependencies c.reverse c.unit links)))
+
 abbrev pub dependencies_meaning : Dependencies → Inquiry Effect
-dependencies_meaning c = asked (giving (entries_seen Links) (λ links. Names (map.keys (dependencies c.reverse c.unit links))))
+dependencies_meaning c = asked (dependencies_answer c)

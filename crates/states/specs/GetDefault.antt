@@ -19,5 +19,8 @@ abbrev pub default_target : List ℕ
 default_target = codes "default.target"
 
 -- What the question looks up in a tree, and what it answers.
+abbrev pub get_default_answer : GetDefault → Inquiry Answer
+get_default_answer c = giving (giving (by_cells (find default_target)) (found_unit default_target)) named_by
+
 abbrev pub get_default_meaning : GetDefault → Inquiry Effect
-get_default_meaning c = asked (giving (giving (by_cells (find default_target)) (found_unit default_target)) named_by)
+get_default_meaning c = asked (get_default_answer c)

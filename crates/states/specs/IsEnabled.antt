@@ -16,6 +16,7 @@ use Rattle.load_path.specs.declared.finding.Found.TheVariants as founds
 use Rattle.load_path.specs.Find.{find}
 use Rattle.install_section.specs.declared.section.Section.{Section}
 use Rattle.install_section.specs.Sections.{section_of, is_empty}
+use Rattle.footprint.specs.declared.answer.Answer.{Answer}
 use Rattle.footprint.specs.declared.answer.Answer.TheVariants.{State}
 use Rattle.footprint.specs.declared.answer.StateWord.{StateWord}
 use Rattle.footprint.specs.declared.answer.StateWord.TheVariants.{NotFound, Masked, MaskedRuntime, Alias, Enabled, EnabledRuntime, Linked, LinkedRuntime, Static, Indirect, Disabled}
@@ -86,5 +87,8 @@ state_word name = do
   found_word name found
 
 -- What the question looks up in a tree, and what it answers.
+abbrev pub is_enabled_answer : IsEnabled → Inquiry Answer
+is_enabled_answer c = giving (state_word c.unit) (λ word. State word)
+
 abbrev pub is_enabled_meaning : IsEnabled → Inquiry Effect
-is_enabled_meaning c = asked (giving (state_word c.unit) (λ word. State word))
+is_enabled_meaning c = asked (is_enabled_answer c)

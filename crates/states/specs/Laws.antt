@@ -15,7 +15,7 @@ use Rattle.load_path.specs.declared.finding.Found.{Found}
 use Rattle.load_path.specs.declared.finding.Found.TheVariants as founds
 use Rattle.load_path.specs.Find.{find}
 use Rattle.install_section.specs.declared.section.Section.{Section}
-use Rattle.install_section.specs.ClosureLaws.{IsUnit}
+use Rattle.install_section.specs.Closure.{IsUnit}
 use Rattle.install_section.specs.Sections.{section_of, is_empty}
 use Rattle.footprint.specs.declared.answer.StateWord.{StateWord}
 use Rattle.footprint.specs.declared.answer.StateWord.TheVariants as words

@@ -2,7 +2,6 @@ pub mod Questions
 pub mod IsEnabled
 pub mod GetDefault
 pub mod Dependencies
-pub mod QuestionLaws
 pub mod Laws
 pub mod DependencyLaws
 pub mod Reaching

@@ -5,8 +5,7 @@ use Rattle.std.specs.Str.{bytes_eq}
 use Rattle.std.specs.FinMap as map
 use Rattle.link_tree.specs.Trees.{path_cmp}
 use Rattle.states.specs.declared.step.Step.{Step}
-use Rattle.states.specs.Dependencies.{ends_of, set_of}
-use Rattle.states.specs.DependencyLaws.{Reached}
+use Rattle.states.specs.Dependencies.{Reached, ends_of, set_of}
 
 -- the ends of steps, by the names from which they lead
 abbrev pub EndMap : Type 0

@@ -12,7 +12,7 @@ use std::alloc::{AllocError, Global};
 
 /// The result of a question that looked at one key: an answer and no change, given the entries at
 /// which the key looks. Fails only if memory runs out.
-pub(crate) fn answered_by(
+pub(crate) fn answer_by(
     alloc: Global,
     key: Key,
     entries: TreePart,

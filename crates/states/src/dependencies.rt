@@ -1,5 +1,5 @@
 //! list-dependencies.
-use crate::answering::answered_by;
+use crate::answering::answer_by;
 use crate::reaching::dependencies;
 use footprint::{Answer, Key, Operation, Outcome};
 use link_tree::Tree;
@@ -11,10 +11,10 @@ use unit_name::UnitName;
 /// depend on it. It is a question, changes nothing and refuses nothing.
 ///
 /// A unit depends on another if a link that doesn't lead to `/dev/null` exists at
-/// `DIR/UNIT.wants/OTHER` or `DIR/UNIT.requires/OTHER`, in any of the four directories, whether the
-/// two are found or not. An instance also has each link of its template; if such a link is to
-/// another template, it leads the instance to that template's instance with the same instance name.
-/// A name of over 255 bytes is not valid.
+/// `DIR/UNIT.wants/OTHER`, `DIR/UNIT.requires/OTHER` or `DIR/UNIT.upholds/OTHER`, in any of the
+/// four directories, whether the two are found or not. An instance also has each link of its
+/// template; if such a link is to another template, it leads the instance to that template's
+/// instance with the same instance name. A name of over 255 bytes is not valid.
 #[derive(Debug, Drop)]
 pub struct Dependencies {
     pub unit: UnitName,
@@ -23,8 +23,8 @@ pub struct Dependencies {
 
 impl Operation for Dependencies {
     ghost use Rattle.std.specs.Prelude.{true};
-    ghost use Rattle.states.specs.Dependencies.{dependencies_meaning};
-    ghost use Rattle.states.specs.QuestionLaws.{dependencies_laws};
+    ghost use Rattle.footprint.proofs.Asking.{laws_of_questions};
+    ghost use Rattle.states.specs.Dependencies.{dependencies_answer, dependencies_meaning};
 
     ghost meaning = { dependencies_meaning };
 
@@ -33,7 +33,7 @@ impl Operation for Dependencies {
     fn run(&self, alloc: Global, tree: &Tree) -> Result<Outcome, AllocError> {
         let links = Key::Links.entries(alloc, tree)?;
         let names = dependencies(alloc, self.reverse, &self.unit, &links)?;
-        answered_by(alloc, Key::Links, links, Answer::Names(names))
+        answer_by(alloc, Key::Links, links, Answer::Names(names))
     }
 
     fn asks_only(&self) -> bool {
@@ -51,5 +51,5 @@ impl Operation for Dependencies {
         self.reverse == other.reverse && self.unit == other.unit
     }
 
-    ghost laws = { dependencies_laws };
+    ghost laws = { laws_of_questions dependencies_answer };
 }

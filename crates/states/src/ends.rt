@@ -82,7 +82,7 @@ impl Ends {
         let mut ends = Ends::none(alloc);
         for (path, entry) in links.iter() {
             if let Some(step) = Step::at(alloc, path, entry)? {
-                ends.add(alloc, step.turned(reverse))?;
+                ends.add(alloc, step.turn(reverse))?;
             }
         }
         Ok(ends)

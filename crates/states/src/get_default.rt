@@ -27,8 +27,8 @@ fn default_target(alloc: Global) -> Result<UnitName, AllocError>
 
 impl Operation for GetDefault {
     ghost use Rattle.std.specs.Prelude.{true};
-    ghost use Rattle.states.specs.GetDefault.{get_default_meaning};
-    ghost use Rattle.states.specs.QuestionLaws.{get_default_laws};
+    ghost use Rattle.footprint.proofs.Asking.{laws_of_questions};
+    ghost use Rattle.states.specs.GetDefault.{get_default_answer, get_default_meaning};
 
     ghost meaning = { get_default_meaning };
 
@@ -55,5 +55,5 @@ impl Operation for GetDefault {
         true
     }
 
-    ghost laws = { get_default_laws };
+    ghost laws = { laws_of_questions get_default_answer };
 }

@@ -129,7 +129,7 @@ fn by_links(
 }
 
 /// The section of a unit's file.
-fn section_asked(
+fn ask_section(
     alloc: Global,
     unit: &UnitName,
     txn: &mut Transaction<'_>,
@@ -168,7 +168,7 @@ fn unit_word(
 ) -> Result<StateWord, AllocError>
     ensures { IfOk result (λ word. Runs (asking (states.unit_word unit.now file.now place)) txn.old txn.new (Ok word)) }
 {
-    let section = section_asked(alloc, unit, txn)?;
+    let section = ask_section(alloc, unit, txn)?;
     linked_word(alloc, unit, file, place, section.as_ref(), txn)
 }
 
@@ -208,8 +208,8 @@ impl IsEnabled {
 
 impl Operation for IsEnabled {
     ghost use Rattle.std.specs.Prelude.{true};
-    ghost use Rattle.states.specs.IsEnabled.{is_enabled_meaning};
-    ghost use Rattle.states.specs.QuestionLaws.{is_enabled_laws};
+    ghost use Rattle.footprint.proofs.Asking.{laws_of_questions};
+    ghost use Rattle.states.specs.IsEnabled.{is_enabled_answer, is_enabled_meaning};
 
     ghost meaning = { is_enabled_meaning };
 
@@ -235,5 +235,5 @@ impl Operation for IsEnabled {
         self.unit == other.unit
     }
 
-    ghost laws = { is_enabled_laws };
+    ghost laws = { laws_of_questions is_enabled_answer };
 }

@@ -1,4 +1,5 @@
-//! Questions that a tree answers: systemctl(1), `is-enabled`, `get-default` and `list-dependencies`.
+//! Questions that a tree answers: systemctl(1), `is-enabled`, `get-default` and
+//! `list-dependencies`.
 #![tactic(auto)]
 
 mod answering;

@@ -166,7 +166,7 @@ fn end_for(
 }
 
 /// The names that are reached from one name by one step or more.
-fn reached(alloc: Global, reverse: bool, from: &UnitName, ends: &Ends) -> Result<Names, AllocError>
+fn reach(alloc: Global, reverse: bool, from: &UnitName, ends: &Ends) -> Result<Names, AllocError>
     ensures { IfOk result (AreReached (next_names reverse (ends_at ends.now)) from.now) }
 {
     let mut found = Names::none(alloc);
@@ -192,6 +192,6 @@ pub(crate) fn dependencies(
     ensures { IfOk result (λ names. names ≡ map.keys (dependencies reverse unit.now links.now)) }
 {
     let ends = Ends::of(alloc, reverse, links)?;
-    let found = reached(alloc, reverse, unit, &ends)?;
+    let found = reach(alloc, reverse, unit, &ends)?;
     found.in_order_without(alloc, unit)
 }

@@ -30,7 +30,7 @@ fn ending_of(path: &TreePath) -> Option<&'static [u8]>
 }
 
 /// The text as a name, if it is one.
-fn named(alloc: Global, text: &[u8]) -> Result<Option<UnitName>, AllocError>
+fn parse_name(alloc: Global, text: &[u8]) -> Result<Option<UnitName>, AllocError>
     ensures { IfOk result (λ name. name ≡ named text.now) }
 {
     match UnitName::parse(alloc, text) {
@@ -44,10 +44,10 @@ fn named(alloc: Global, text: &[u8]) -> Result<Option<UnitName>, AllocError>
 fn named_step(alloc: Global, from: &[u8], to: &[u8]) -> Result<Option<Step>, AllocError>
     ensures { IfOk result (λ step. step ≡ named_step from.now to.now) }
 {
-    let Some(from) = named(alloc, from)? else {
+    let Some(from) = parse_name(alloc, from)? else {
         return Ok(None);
     };
-    let Some(to) = named(alloc, to)? else {
+    let Some(to) = parse_name(alloc, to)? else {
         return Ok(None);
     };
     Ok(Some(Step { from, to }))
@@ -101,7 +101,7 @@ impl Step {
     }
 
     /// The same step; in reverse, the opposite one.
-    pub(crate) fn turned(self, reverse: bool) -> Step
+    pub(crate) fn turn(self, reverse: bool) -> Step
         ensures { result ≡ turned reverse self }
     {
         if reverse {

@@ -1,8 +1,7 @@
 //! Calls on names, words, files and paths. Each is made once. If memory runs out for it, all that
 //! it was given is as it was, and it is made again.
 use crate::of_unit_file::{push_lines, read};
-use crate::texts::{assert_rows, is};
-use sample_rows::Row;
+use sample_rows::{Row, assert_rows, is};
 use sample_values::{name, path};
 use std::alloc::{AllocError, Global};
 use std::test::Fail;

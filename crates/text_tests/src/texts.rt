@@ -1,35 +1,5 @@
 //! Texts that rows are given, and texts of their answers.
-ghost use Rattle.std.specs.Prelude.{◌≡◌};
-
-use sample_rows::{Row, unlike};
 use std::alloc::{AllocError, Global};
-use std::process::Abort;
-use std::test::Fail;
-
-/// Every row of a text gets the answer that it states.
-pub(crate) fn assert_rows<F>(
-    rt: &impl Abort,
-    alloc: Global,
-    rows: &[u8],
-    answer: F,
-) -> Result<(), Fail>
-where
-    F: Fn(Global, &Row) -> Result<Vec<u8>, AllocError>,
-    requires { F.IsAlwaysCallable answer }
-{
-    let found = unlike(alloc, rows, answer)?;
-    assert_eq!(rt; found.as_slice(), b"".as_slice());
-    Ok(())
-}
-
-/// Whether a row is of this kind.
-pub(crate) fn is(row: &Row, kind: &[u8]) -> bool {
-    row.kind.as_slice() == kind
-}
-
-pub(crate) fn yes_or_no(alloc: Global, is_so: bool) -> Result<Vec<u8>, AllocError> {
-    Vec::from_slice(alloc, if is_so { b"yes" } else { b"no".as_slice() })
-}
 
 /// A text, or how long it is if it has over a hundred bytes.
 pub(crate) fn in_short(alloc: Global, text: &[u8]) -> Result<Vec<u8>, AllocError> {
@@ -53,10 +23,6 @@ fn first_number(text: &[u8]) -> (usize, &[u8]) {
         rest = rest.get(1..).unwrap_or(b"");
     }
     (number, rest)
-}
-
-pub(crate) fn number_of(text: &[u8]) -> usize {
-    first_number(text).0
 }
 
 /// The numbers of a text, separated by spaces.

@@ -1,6 +1,5 @@
 -- Commands that have ended: their outcomes are those of what they mean.
 use Rattle.std.proofs.Common.{◌≡◌, List, [], Result, Ok, Err, refl, sym, ap, ◌∙◌, subst}
-use Rattle.std.specs.FinMap as map
 use Rattle.unit_file.specs.Notices.{NoticeMap}
 use Rattle.link_tree.specs.Differences.{changes_between}
 use Rattle.link_tree.specs.Trees.{Entries}
@@ -9,7 +8,6 @@ use Rattle.footprint.specs.declared.key.Key.{Key}
 use Rattle.footprint.specs.declared.outcome.Outcome.{Outcome}
 use Rattle.footprint.specs.declared.refusal.Refusal.{Refusal}
 use Rattle.footprint.specs.Commands.{Command, carried_out}
-use Rattle.footprint.specs.Edits.{ended}
 use Rattle.footprint.specs.Inquiry.{Inquiry}
 use Rattle.footprint.specs.Operations.{Effect}
 use Rattle.footprint.specs.Placing.{Ruling, effect}
@@ -44,9 +42,9 @@ module _ (run : Run NoticeMap) (meaning : Inquiry Effect) (t : Entries) (means :
   from_begun : (new : Transacted) (done : Result NoticeMap Stop) → Runs run (begun t) new done → (outcome : Outcome) → Closes new done outcome
       → outcome ≡ outcome_by (meaning.conclusion t) (meaning.keys t) t
   from_begun new (Ok notices) runs outcome closes =
-      closes ∙ (λ i. ended (runs.2 i) (runs.1 i) notices (Ok (runs.2 i, new.tree))) ∙ ap (λ done. outcome_by (effect_of t done) (run.keys t) t) (sym runs.0) ∙ as_meant
+      closes ∙ (λ i. outcome_by (effect_of (runs.2 i) (Ok (notices, new.tree))) (runs.1 i) (runs.2 i)) ∙ ap (λ done. outcome_by (effect_of t done) (run.keys t) t) (sym runs.0) ∙ as_meant
   from_begun new (Err (Refused refusal)) runs outcome closes =
-      closes ∙ (λ i. ended (runs.2 i) (runs.1 i) map.empty (Err refusal)) ∙ ap (λ done. outcome_by (effect_of t done) (run.keys t) t) (sym runs.0) ∙ as_meant
+      closes ∙ (λ i. outcome_by (effect_of (runs.2 i) (Err refusal)) (runs.1 i) (runs.2 i)) ∙ ap (λ done. outcome_by (effect_of t done) (run.keys t) t) (sym runs.0) ∙ as_meant
   from_begun new (Err OutOfMemory) runs outcome closes = absurd closes
 
   pub comes_to : (old new : Transacted) (done : Result NoticeMap Stop) → old ≡ begun t → Runs run old new done → (outcome : Outcome) → Closes new done outcome

@@ -31,7 +31,7 @@ looked step (a ∷ rest) t = (step a).keys t ++ looked_on (looked step rest) (pl
 abbrev pub turns : {A : Type 0} → (A → Step) → List A → Run (Unit {0})
 turns step args = record { conclusion = concluded step args; keys = looked step args }
 
-placed_more : (placed : List Placed) (ruling : Ruling) (t : Entries) → placed_by (placed_before placed ruling) t ≡ placed_by ruling (placed_in placed t)
+pub placed_more : (placed : List Placed) (ruling : Ruling) (t : Entries) → placed_by (placed_before placed ruling) t ≡ placed_by ruling (placed_in placed t)
 placed_more placed (Ok more) t = ap alone (left_more placed (Ok more) t)
   where
     alone : Result Entries Refusal → Result (Unit {0} × Entries) Refusal

@@ -3,14 +3,18 @@ use Rattle.std.specs.Prelude.{◌≡◌, ℕ, List, [], ◌++◌, Option, Result
 use Rattle.std.specs.FinMap as map
 use Rattle.unit_file.specs.Notices.{NoticeMap, joined}
 use Rattle.link_tree.specs.Trees.{Entries, set_entry}
+use Rattle.link_tree.specs.declared.change.Change.{Change}
 use Rattle.link_tree.specs.declared.entry.Entry.{Entry}
+use Rattle.link_tree.specs.Differences.{changes_between}
+use Rattle.footprint.specs.declared.answer.Answer.{Answer}
+use Rattle.footprint.specs.declared.answer.Answer.TheVariants as answers
 use Rattle.footprint.specs.declared.key.Key.{Key}
 use Rattle.footprint.specs.declared.outcome.Outcome.{Outcome}
 use Rattle.footprint.specs.declared.refusal.Refusal.{Refusal}
 use Rattle.footprint.specs.Commands.{Command}
-use Rattle.footprint.specs.Edits.{ended}
 use Rattle.footprint.specs.Inquiry.{Inquiry}
 use Rattle.footprint.specs.Placing.{Ruling, placed_in}
+use Rattle.footprint.specs.Readings.{reading_of}
 use Rattle.footprint.specs.Steps.{Step}
 use Rattle.transaction.specs.declared.stop.Stop.{Stop}
 use Rattle.transaction.specs.declared.stop.Stop.TheVariants.{Refused, OutOfMemory}
@@ -105,11 +109,15 @@ Gives decided (Err OutOfMemory) = Unit {0}
 abbrev pub put : List ℕ → Option Entry → Transacted → Transacted
 put slot entry old = record old { tree = set_entry old.tree slot entry }
 
+-- the outcome with this answer and these changes, and the reading of the first tree
+abbrev pub ended : Transacted → Answer → List Change → Outcome
+ended txn answer changes = record { answer = answer; changes = changes; reading = reading_of txn.keys txn.first }
+
 -- The outcome of a command that has ended. Its changes lead from the first tree to the last one; a
 -- refusal has none. There is no outcome if memory ran out.
 abbrev pub Closes : Transacted → Result NoticeMap Stop → Outcome → Type 0
-Closes txn (Ok notices) outcome = outcome ≡ ended txn.first txn.keys notices (Ok (txn.first, txn.tree))
-Closes txn (Err (Refused refusal)) outcome = outcome ≡ ended txn.first txn.keys map.empty (Err refusal)
+Closes txn (Ok notices) outcome = outcome ≡ ended txn (answers.Done notices) (changes_between txn.first txn.tree)
+Closes txn (Err (Refused refusal)) outcome = outcome ≡ ended txn (answers.Refused refusal) []
 Closes txn (Err OutOfMemory) outcome = ⊥
 
 -- the same for a command that reports nothing

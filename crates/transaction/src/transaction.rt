@@ -1,23 +1,23 @@
 //! Trees that a command reads and edits.
-ghost use Rattle.std.specs.Prelude.{◌≡◌, ◌++◌, [], true, Ok, All, map as list_map, IfOk, OnOk, OnErr};
+ghost use Rattle.std.specs.Prelude.{◌≡◌, ◌++◌, [], true, false, Ok, All, map as list_map, IfOk, OnOk, OnErr};
 ghost use Rattle.unit_paths.specs.Slots.{is_slot};
 ghost use Rattle.load_path.specs.Find.{find};
 ghost use Rattle.load_path.specs.Follow.{follow};
 ghost use Rattle.footprint.specs.declared.key.Key.TheVariants.{Cell, Marked, Presets};
 ghost use Rattle.footprint.specs.Inquiry.{by_cells, entries_of_all, entries_seen, giving, stands_at};
-ghost use Rattle.footprint.specs.Keys.{StandAtSlots};
+ghost use Rattle.footprint.specs.Keys.{is_cell, StandAtSlots};
 ghost use Rattle.footprint.specs.Readings.{reading_of};
 ghost use Rattle.footprint.specs.Steps.{all_at_once};
 ghost use Rattle.footprint.specs.Units.{found_unit};
 ghost use Rattle.transaction.specs.Seen.{tree_of, StartsAt};
 ghost use Rattle.transaction.specs.Runs.{asking, asking_for, put, silently, taking, Runs, Closes};
 
+use crate::edit::Edit;
 use crate::stop::Stop;
-use footprint::{
-    Answer, Changes, Edit, Key, Keys, Notices, Outcome, Reading, Refusal, Subject, WantedLinks,
-};
+use crate::wanted::WantedLinks;
+use footprint::{Answer, Changes, Key, Keys, Notices, Outcome, Reading, Refusal, Subject};
 use link_tree::{Entry, Scope, Tree, TreePart, TreePath};
-use load_path::{Cells, End, Found};
+use load_path::{Cells, End, Found, find_into, follow_into};
 use std::alloc::{AllocError, Global};
 use std::marker::Model;
 use unit_name::UnitName;
@@ -128,8 +128,10 @@ impl<'t> Transaction<'t> {
         ensures ok { IfOk result (λ found. Runs (asking (by_cells (find name.now))) self.old self.new (Ok found)) }
         ensures err { OnErr result (self.new.first ≡ self.old.first) }
     {
-        let tree = current(self.first, &self.edit);
-        self.keys.find(alloc, tree, name)
+        let mut cells = Cells::new(alloc);
+        let found = find_into(alloc, self.tree(), name, &mut cells)?;
+        self.note(cells)?;
+        Ok(found)
     }
 
     /// Follows links from a path to their end. Notes each path that was looked at. Fails only if
@@ -138,8 +140,10 @@ impl<'t> Transaction<'t> {
         ensures ok { IfOk result (λ end. Runs (asking (by_cells (follow path.now))) self.old self.new (Ok end)) }
         ensures err { OnErr result (self.new.first ≡ self.old.first) }
     {
-        let tree = current(self.first, &self.edit);
-        self.keys.follow(alloc, tree, path)
+        let mut cells = Cells::new(alloc);
+        let end = follow_into(alloc, self.tree(), path, &mut cells)?;
+        self.note(cells)?;
+        Ok(end)
     }
 
     /// The links of a scope that belong to a unit's name now, after all edits so far. Notes that
@@ -153,9 +157,7 @@ impl<'t> Transaction<'t> {
         ensures ok { IfOk result (λ links. Runs (asking (entries_seen (Marked scope name.now))) self.old self.new (Ok links)) }
         ensures err { OnErr result (self.new.first ≡ self.old.first) }
     {
-        let tree = current(self.first, &self.edit);
-        self.keys
-            .entries(alloc, tree, Key::Marked(scope, name.copy()?))
+        self.entries(alloc, Key::Marked(scope, name.copy()?))
     }
 
     /// The links of a scope that belong to at least one of these names now, all of them at slots.
@@ -171,8 +173,9 @@ impl<'t> Transaction<'t> {
         ensures err { OnErr result (self.new.first ≡ self.old.first) }
     {
         let marks = marks(alloc, scope, names)?;
-        let tree = current(self.first, &self.edit);
-        self.keys.entries_of_all(alloc, tree, marks)
+        let links = marks.entries_of(alloc, self.tree())?;
+        self.keys.append(marks)?;
+        Ok(links)
     }
 
     /// The entries at the slots of preset files now. Notes that these slots were looked at. Fails
@@ -181,8 +184,19 @@ impl<'t> Transaction<'t> {
         ensures ok { IfOk result (λ presets. Runs (asking (entries_seen Presets)) self.old self.new (Ok presets)) }
         ensures err { OnErr result (self.new.first ≡ self.old.first) }
     {
-        let tree = current(self.first, &self.edit);
-        self.keys.entries(alloc, tree, Key::Presets)
+        self.entries(alloc, Key::Presets)
+    }
+
+    /// The entries at which a key looks now, which can't be a cell. Notes the key. Fails only if
+    /// memory runs out.
+    pub fn entries(&mut self, alloc: Global, key: Key) -> Result<TreePart, AllocError>
+        requires { is_cell key ≡ false }
+        ensures ok { IfOk result (λ entries. Runs (asking (entries_seen key)) self.old self.new (Ok entries)) }
+        ensures err { OnErr result (self.new.first ≡ self.old.first) }
+    {
+        let entries = key.entries(alloc, self.tree())?;
+        self.keys.push(key)?;
+        Ok(entries)
     }
 
     /// The whole tree as it is now. If you look things up in it by other calls than those of a
@@ -225,14 +239,10 @@ impl<'t> Transaction<'t> {
     pub fn all_at_once(&mut self, alloc: Global, wanted: &WantedLinks) -> Result<(), Stop>
         ensures { Runs (taking (all_at_once wanted.now)) self.old self.new result }
     {
+        wanted.push_cells(&mut self.keys)?;
         let edit = begun(alloc, self.first, self.edit.take())?;
-        match edit.all_at_once(alloc, wanted, &mut self.keys)? {
-            Ok(edit) => {
-                self.edit = Some(edit);
-                Ok(())
-            }
-            Err(refusal) => Err(Stop::Refused(refusal)),
-        }
+        self.edit = Some(edit.with_all(alloc, wanted)?);
+        Ok(())
     }
 
     /// Ends the command: makes the outcome of what it did, with the notices that it reports. After
@@ -241,17 +251,26 @@ impl<'t> Transaction<'t> {
         ensures outcome { IfOk result (Closes self.entry done) }
         ensures slots { IfOk result (λ outcome. All (λ change. is_slot change.path ≡ true) outcome.changes) }
     {
-        let Transaction { first, edit, keys } = self;
         match done {
-            Ok(notices) => {
-                let edit = begun(alloc, first, edit)?;
-                Outcome::of(alloc, first, keys, notices, Ok(edit))
-            }
-            Err(Stop::Refused(refusal)) => {
-                Outcome::of(alloc, first, keys, Notices::none(alloc), Err(refusal))
-            }
+            Ok(notices) => self.carried_out(alloc, notices),
+            Err(Stop::Refused(refusal)) => self.answer(alloc, Answer::Refused(refusal)),
             Err(Stop::OutOfMemory) => Err(AllocError),
         }
+    }
+
+    /// The outcome of a command that was carried out.
+    fn carried_out(self, alloc: Global, notices: Notices) -> Result<Outcome, AllocError>
+        ensures outcome { IfOk result (Closes self.entry (Ok notices)) }
+        ensures slots { IfOk result (λ outcome. All (λ change. is_slot change.path ≡ true) outcome.changes) }
+    {
+        let Transaction { first, edit, keys } = self;
+        let changes = begun(alloc, first, edit)?.into_changes(alloc)?;
+        let reading = Reading::of(alloc, first, keys)?;
+        Ok(Outcome {
+            answer: Answer::Done(notices),
+            changes,
+            reading,
+        })
     }
 
     /// Ends a question: its outcome has this answer, no change, and what was looked at. Edits, if

@@ -1,9 +1,9 @@
 //! Lists of paths by names. If memory runs out for a call, each list is as it was, and the call is
 //! made again.
-use crate::rows::{assert_rows, is, texts_of};
+use crate::rows::texts_of;
 use link_tree::TreePath;
 use name_lists::{Listing, NameLists, relisted};
-use sample_rows::Row;
+use sample_rows::{Row, assert_rows, is};
 use sample_values::path;
 use std::alloc::{AllocError, Global};
 use std::test::Fail;

@@ -1,9 +1,8 @@
 //! Which rows must be undone, and why none can be.
 use crate::histories::{order, played};
 use link_tree::push_decimal;
-use sample_rows::{Row, unlike};
+use sample_rows::{Row, assert_rows};
 use std::alloc::{AllocError, Global};
-use std::str;
 use std::test::Fail;
 use undo_orders::ToUndoError;
 
@@ -111,7 +110,5 @@ fn answer(alloc: Global, row: &Row) -> Result<Vec<u8>, AllocError> {
 
 #[test]
 fn these_rows_must_be_undone(rt: HostRuntime) -> Result<(), Fail> {
-    let found = unlike(rt.alloc(), ROWS, answer)?;
-    assert!(rt; found.is_empty(), "{:?}", str::from_utf8(&found));
-    Ok(())
+    assert_rows(&rt, rt.alloc(), ROWS, answer)
 }

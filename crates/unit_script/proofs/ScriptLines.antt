@@ -16,7 +16,8 @@ use Rattle.unit_script.specs.declared.reason.Reason.TheVariants.{LineTooLong, To
 use Rattle.unit_script.specs.declared.reason.ScriptFault.{ScriptFault}
 use Rattle.unit_script.specs.declared.reason.ScriptFault.TheVariants.{Bad}
 use Rattle.unit_script.specs.Script.{words_of, call_of_line, call_of_front, in_line, with_call, is_no_line, calls_at, at_limit, after_calls_line, script_of}
-use Rattle.unit_script.specs.Laws.{is_line_byte, is_line, lines_text, calls_of, ScriptIsLines, LastLineNeedsNoEnd, LongLineIsTold, OneLineMoreIsTold}
+use Rattle.script_words.specs.Words.{is_line_byte, lines_text}
+use Rattle.unit_script.specs.Laws.{is_line, calls_of, ScriptIsLines, LastLineNeedsNoEnd, LongLineIsTold, OneLineMoreIsTold}
 use Rattle.unit_script.proofs.Calls.{calls_at-bad, calls_at-end, calls_at-limit, calls_at-step}
 
 -- the bytes of a line, none of which is a line end

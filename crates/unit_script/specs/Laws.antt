@@ -1,27 +1,17 @@
 -- Laws of scripts; each is the contract of a public function.
-use Rattle.std.specs.Prelude.{◌≡◌, ◌≢◌, ◌↔◌, ◌^◌, ◌<◌, ◌≤◌, ◌+◌, ℕ, Bool, true, not, ◌&&◌, ◌==◌, nat_le, List, [], ◌∷◌, ◌++◌, length, Some, Result, Ok, Err, codes}
-use Rattle.std.specs.List.{flat_map, list_all}
+use Rattle.std.specs.Prelude.{◌≡◌, ◌≢◌, ◌<◌, ◌≤◌, ◌+◌, ℕ, Bool, true, ◌&&◌, nat_le, List, [], ◌∷◌, ◌++◌, length, Result, Ok, Err, codes}
+use Rattle.std.specs.List.{list_all}
 use Rattle.link_tree.specs.Inventory.{◌>>=◌}
 use Rattle.unit_script.specs.declared.call.Call.{Call}
 use Rattle.unit_script.specs.declared.reason.ScriptFault.{ScriptFault}
 use Rattle.unit_script.specs.declared.reason.Reason.TheVariants.{LineTooLong, TooManyLines}
 use Rattle.unit_script.specs.declared.reason.ScriptFault.TheVariants.{Bad}
-use Rattle.std.specs.Char.{is_ascii_digit}
-use Rattle.std.specs.Str.Parse.{digits_value}
-use Rattle.unit_script.specs.Words.{number_of}
-use Rattle.unit_script.specs.Escapes.{text_of, escaped}
-use Rattle.unit_script.specs.Script.{is_space, call_of_line, in_line, with_call, script_of}
-use Prim.Native.Char.{code}
-
-abbrev pub is_line_byte : ℕ → Bool
-is_line_byte b = not (b == code "\n")
+use Rattle.script_words.specs.Words.{is_line_byte, lines_text}
+use Rattle.unit_script.specs.Script.{call_of_line, in_line, with_call, script_of}
 
 -- a line contains no line end, and isn't too long
 abbrev pub is_line : List ℕ → Bool
 is_line text = list_all is_line_byte text && nat_le (length text) 65536
-
-abbrev pub lines_text : List (List ℕ) → List ℕ
-lines_text lines = flat_map (λ line. line ++ codes "\n") lines
 
 -- the calls of lines from this number on, or the first bad line
 abbrev pub calls_of : ℕ → List (List ℕ) → Result (List Call) ScriptFault
@@ -49,20 +39,3 @@ LongLineIsTold = (lines : List (List ℕ)) (long rest : List ℕ) → list_all i
 abbrev pub OneLineMoreIsTold : Type 0
 OneLineMoreIsTold = (lines : List (List ℕ)) (rest : List ℕ) → list_all is_line lines ≡ true → length lines ≡ 2000000 → rest ≢ []
     → script_of (codes "== calls\n" ++ (lines_text lines ++ rest)) ≡ (calls_of 1 lines >>= λ calls. Err (Bad 2000001 TooManyLines))
-
--- no space and no line end, so that the byte can be part of a word of a line
-abbrev pub is_word_byte : ℕ → Bool
-is_word_byte b = not (is_space b) && is_line_byte b
-
--- If any bytes are escaped, reading the word returns them,
-abbrev pub EscapedIsRead : Type 0
-EscapedIsRead = (bytes : List ℕ) → text_of (flat_map escaped bytes) ≡ Some bytes
-
--- and the escaped bytes can be one word.
-abbrev pub EscapedIsWord : Type 0
-EscapedIsWord = (bytes : List ℕ) → list_all is_word_byte (flat_map escaped bytes) ≡ true
-
--- A word is the number of a row exactly if all its bytes are digits, at least one, and their value
--- is the number, below 2^32.
-abbrev pub NumbersAreDigits : Type 0
-NumbersAreDigits = (word : List ℕ) (n : ℕ) → (number_of word ≡ Some n) ↔ ((word ≢ []) × (list_all is_ascii_digit word ≡ true) × (digits_value 10 word ≡ n) × (n < 2 ^ 32))

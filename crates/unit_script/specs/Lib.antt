@@ -1,6 +1,5 @@
 pub mod Actions
 pub mod ActionLaws
-pub mod Escapes
 pub mod Laws
 pub mod Machine
 pub mod Requests

@@ -13,8 +13,10 @@ use Rattle.history.specs.declared.row.Request.{Request}
 use Rattle.history.specs.declared.row.Request.TheVariants.{Do, Undo, Redo}
 use Rattle.unit_script.specs.declared.action.Action.{Action}
 use Rattle.unit_script.specs.declared.reason.Reason.{Reason}
+use Rattle.unit_script.specs.declared.requests.UnitsInScope.{UnitsInScope}
 use Rattle.unit_script.specs.declared.reason.Reason.TheVariants.{UnknownVerb, WrongArguments, BadNumber}
-use Rattle.unit_script.specs.Words.{number_of, name_of, names_of, units_of, path_of, given_paths, link_of, file_of}
+use Rattle.script_words.specs.Numbers.{number_of}
+use Rattle.unit_script.specs.Words.{name_of, names_of, units_of, path_of, given_paths, link_of, file_of}
 
 -- the request of a verb that takes one word
 abbrev pub of_one : (List ℕ → Result (Request Action) Reason) → List (List ℕ) → Result (Request Action) Reason
@@ -35,23 +37,27 @@ abbrev pub arguments_of : List (List ℕ) → List (List ℕ)
 arguments_of [] = []
 arguments_of (word ∷ words) = if is_runtime word then words else word ∷ words
 
+-- the scope and the units that the words after six of the verbs specify
+abbrev pub units_in_scope : List (List ℕ) → Result UnitsInScope Reason
+units_in_scope words = units_of (arguments_of words) >>= λ units. Ok (record { scope = scope_of words; units = units })
+
 abbrev pub enable_of : List (List ℕ) → Result (Request Action) Reason
-enable_of words = units_of (arguments_of words) >>= λ units. Ok (Do (actions.Enable (record { scope = scope_of words; units = units })))
+enable_of words = units_in_scope words >>= λ given. Ok (Do (actions.Enable (record { scope = given.scope; units = given.units })))
 
 abbrev pub disable_of : List (List ℕ) → Result (Request Action) Reason
-disable_of words = units_of (arguments_of words) >>= λ units. Ok (Do (actions.Disable (record { scope = scope_of words; units = units })))
+disable_of words = units_in_scope words >>= λ given. Ok (Do (actions.Disable (record { scope = given.scope; units = given.units })))
 
 abbrev pub reenable_of : List (List ℕ) → Result (Request Action) Reason
-reenable_of words = units_of (arguments_of words) >>= λ units. Ok (Do (actions.Reenable (record { scope = scope_of words; units = units })))
+reenable_of words = units_in_scope words >>= λ given. Ok (Do (actions.Reenable (record { scope = given.scope; units = given.units })))
 
 abbrev pub preset_of : List (List ℕ) → Result (Request Action) Reason
-preset_of words = units_of (arguments_of words) >>= λ units. Ok (Do (actions.Preset (record { scope = scope_of words; units = units })))
+preset_of words = units_in_scope words >>= λ given. Ok (Do (actions.Preset (record { scope = given.scope; units = given.units })))
 
 abbrev pub mask_of : List (List ℕ) → Result (Request Action) Reason
-mask_of words = units_of (arguments_of words) >>= λ units. Ok (Do (actions.Mask (record { scope = scope_of words; units = units })))
+mask_of words = units_in_scope words >>= λ given. Ok (Do (actions.Mask (record { scope = given.scope; units = given.units })))
 
 abbrev pub unmask_of : List (List ℕ) → Result (Request Action) Reason
-unmask_of words = units_of (arguments_of words) >>= λ units. Ok (Do (actions.Unmask (record { scope = scope_of words; units = units })))
+unmask_of words = units_in_scope words >>= λ given. Ok (Do (actions.Unmask (record { scope = given.scope; units = given.units })))
 
 abbrev pub link_units_of : List (List ℕ) → Result (Request Action) Reason
 link_units_of words = given_paths (arguments_of words) >>= λ paths. Ok (Do (actions.LinkUnits (record { scope = scope_of words; paths = paths })))

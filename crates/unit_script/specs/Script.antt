@@ -12,12 +12,9 @@ use Rattle.unit_script.specs.declared.reason.Reason.{Reason}
 use Rattle.unit_script.specs.declared.reason.Reason.TheVariants.{TooManyLines, LineTooLong, BadOperator}
 use Rattle.unit_script.specs.declared.reason.ScriptFault.{ScriptFault}
 use Rattle.unit_script.specs.declared.reason.ScriptFault.TheVariants.{NoCalls, Bad}
-use Rattle.unit_script.specs.Words.{is_word}
+use Rattle.script_words.specs.Words.{is_space, is_word}
 use Rattle.unit_script.specs.Requests.{request_of}
 use Prim.Native.Char.{code}
-
-abbrev pub is_space : ℕ → Bool
-is_space b = b == code " "
 
 -- the words of a line, separated by spaces
 unfoldable pub words_of : List ℕ → List (List ℕ)

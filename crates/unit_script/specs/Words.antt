@@ -1,5 +1,5 @@
--- Single words of a script, and lists of them: numbers, names of units, paths, and entries.
-use Rattle.std.specs.Prelude.{ℕ, ◌+◌, ◌*◌, ◌-◌, ◌^◌, Bool, true, false, ◌&&◌, nat_lt, nat_le, if◌then◌else◌, List, [], ◌∷◌, Option, Some, None, Result, Ok, Err}
+-- Single words of a script, and lists of them: names of units, paths, and entries.
+use Rattle.std.specs.Prelude.{ℕ, if◌then◌else◌, List, [], ◌∷◌, Result, Ok, Err}
 use Rattle.std.specs.List.{list_all}
 use Rattle.std.specs.Option.{option_map_or}
 use Rattle.unit_name.specs.Name.{is_unit_name}
@@ -9,24 +9,7 @@ use Rattle.link_tree.specs.Files.{is_contents}
 use Rattle.unit_paths.specs.Paths.{is_path, is_target}
 use Rattle.unit_script.specs.declared.reason.Reason.{Reason}
 use Rattle.unit_script.specs.declared.reason.Reason.TheVariants.{WrongArguments, BadName, BadPath, BadTarget, BadText}
-use Rattle.unit_script.specs.Escapes.{text_of}
-use Prim.Native.Char.{code}
-
-abbrev pub is_word : List ℕ → Bool
-is_word [] = false
-is_word (b ∷ bs) = true
-
-abbrev pub is_digit : ℕ → Bool
-is_digit b = nat_le (code "0") b && nat_le b (code "9")
-
--- the number whose decimal digits are those of n followed by these, if it is below 2^32
-unfoldable pub number_from : ℕ → List ℕ → Option ℕ
-number_from n [] = Some n
-number_from n (b ∷ bs) = if is_digit b && nat_lt (n * 10 + (b - code "0")) (2 ^ 32) then number_from (n * 10 + (b - code "0")) bs else None
-
--- the number that a word of digits represents
-unfoldable pub number_of : List ℕ → Option ℕ
-number_of word = if is_word word then number_from 0 word else None
+use Rattle.script_words.specs.Escapes.{text_of}
 
 unfoldable pub name_of : List ℕ → Result (List ℕ) Reason
 name_of word = if is_unit_name word then Ok word else Err BadName

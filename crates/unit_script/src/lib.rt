@@ -4,7 +4,6 @@
 
 mod action;
 mod call;
-mod escapes;
 mod laws;
 mod lines;
 mod reason;
@@ -17,7 +16,7 @@ mod words;
 
 pub use action::Action;
 pub use call::Call;
-pub use laws::{a_script_is_its_lines, any_text_is_a_word, numbers_are_digits};
+pub use laws::a_script_is_its_lines;
 pub use lines::{call_of_line, call_of_words, words_of};
 pub use reason::{Reason, ScriptFault};
 pub use reply::{

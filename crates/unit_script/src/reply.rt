@@ -85,7 +85,8 @@ fn push_each_change(out: &mut Vec<u8>, changes: &[Change]) -> Result<(), AllocEr
     Ok(())
 }
 
-/// The lines of the changes that revert these.
+/// Appends the lines of the changes that revert these, in the same order: each path has at most one
+/// change, so the order doesn't matter.
 fn push_inverse(out: &mut Vec<u8>, changes: &[Change]) -> Result<(), AllocError>
     ensures { OnOk result (out.new.items ≡ out.old.items ++ flat_map change_text (inverse_of changes.now)) }
 {

@@ -1,50 +1,16 @@
 //! Single words of a script, and lists of them.
-ghost use Rattle.std.specs.Prelude.{◌≡◌, ◌∷◌, [], map};
-ghost use Rattle.unit_script.specs.Words.{number_from, number_of, name_of, names_of, units_of, path_of, paths_of, given_paths, link_of, file_with, file_of};
+ghost use Rattle.std.specs.Prelude.{map};
+ghost use Rattle.unit_script.specs.Words.{name_of, names_of, units_of, path_of, paths_of, given_paths, link_of, file_with, file_of};
 ghost use Rattle.byte_streams.specs.Reads.{Gives};
 
-use crate::escapes::unescaped;
 use crate::reason::Reason;
 use byte_streams::ReadError;
 use footprint::Units;
 use link_tree::{Entry, FileError, PathError, TargetError, TreePath};
+use script_words::unescaped;
 use slot_commands::Paths;
 use std::alloc::Global;
 use unit_name::{NameError, UnitName};
-
-#[tactic(auto, unfolding(crate::specs::Words::number_from))]
-fn with_digit(number: u32, b: u8) -> Option<u32>
-    ensures { result ≡ number_from number (b ∷ []) }
-{
-    if !b.is_ascii_digit() {
-        return None;
-    }
-    number.checked_mul(10)?.checked_add(u32::from(b - b'0'))
-}
-
-fn number_of_digits(word: &[u8]) -> Option<u32>
-    ensures { result ≡ number_from 0 word.now }
-{
-    let mut number: u32 = 0;
-    for b in word {
-        match with_digit(number, *b) {
-            Some(next) => number = next,
-            None => return None,
-        }
-    }
-    Some(number)
-}
-
-/// The number that a word of digits represents, if it is below 2^32.
-#[tactic(auto, unfolding(crate::specs::Words::number_of))]
-pub(crate) fn number_of(word: &[u8]) -> Option<u32>
-    ensures { result ≡ number_of word.now }
-{
-    match word {
-        [] => None,
-        _ => number_of_digits(word),
-    }
-}
 
 /// The name of a unit.
 pub(crate) fn name_of(alloc: Global, word: &[u8]) -> Result<UnitName, ReadError<Reason>>

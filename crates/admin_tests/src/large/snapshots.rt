@@ -47,6 +47,12 @@ fn shared(alloc: Global, tree: Box<Tree>) -> Result<Box<SharedAdmin<Step>>, Allo
     }
 }
 
+/// Takes a snapshot, and leaves it.
+fn take(rt: &impl Wait, admin: &SharedAdmin<Step>) -> Result<(), AllocError> {
+    admin.snapshot(rt)?;
+    Ok(())
+}
+
 /// Whether `SNAPSHOTS` snapshots are taken within a time.
 fn are_taken_within<R: Clock + Wait>(
     rt: &R,
@@ -55,7 +61,7 @@ fn are_taken_within<R: Clock + Wait>(
 ) -> Result<bool, Fail> {
     let start = Instant::now(rt)?;
     for _ in 0..SNAPSHOTS {
-        let _snapshot = admin.snapshot(rt)?;
+        take(rt, admin)?;
         if start.elapsed(rt)? > time {
             return Ok(false);
         }

@@ -1,7 +1,6 @@
 //! Commands that follow one another.
 use super::commands::answer_in;
-use crate::questions::assert_rows;
-use sample_rows::Row;
+use sample_rows::{Row, assert_rows};
 use std::alloc::{AllocError, Global};
 use std::test::Fail;
 

@@ -1,10 +1,10 @@
 //! The commands that install units, from their lines.
 use crate::lines::{arguments, has_verb, have_verbs, scope_and_units, units};
 use crate::questions::{OfLine, asked, no_such_verb};
-use footprint::Then;
 use install_commands::{Check, Disable, Enable, Preset, Reenable};
 use sample_rows::Row;
 use std::alloc::{AllocError, Global};
+use two_operations::Then;
 
 impl OfLine for Check {
     fn of_line(alloc: Global, line: &[u8]) -> Result<Check, AllocError> {

@@ -1,9 +1,9 @@
 //! The maximum number of units, and one more.
-use crate::questions::{assert_rows, checked_result};
+use crate::questions::checked_result;
 use footprint::{Operation, Units};
 use install_commands::{Disable, Enable};
 use link_tree::Scope;
-use sample_rows::Row;
+use sample_rows::{Row, assert_rows, is, number_of};
 use sample_values::{name, tree};
 use std::alloc::{AllocError, Global};
 use std::test::Fail;
@@ -51,11 +51,7 @@ const ROWS: &[u8] = b"\
 
 fn row_units(alloc: Global, row: &Row) -> Result<Units, AllocError> {
     let prefix = row.one.first().copied().unwrap_or(b' ');
-    match row.two.as_slice() {
-        b"1024" => numbered(alloc, prefix, 1024),
-        b"1025" => numbered(alloc, prefix, 1025),
-        _ => Err(AllocError),
-    }
+    numbered(alloc, prefix, number_of(&row.two))
 }
 
 fn result_of<O: Operation>(alloc: Global, command: &O) -> Result<Vec<u8>, AllocError> {
@@ -66,7 +62,7 @@ fn result_of<O: Operation>(alloc: Global, command: &O) -> Result<Vec<u8>, AllocE
 fn answer(alloc: Global, row: &Row) -> Result<Vec<u8>, AllocError> {
     let units = row_units(alloc, row)?;
     let scope = Scope::Etc;
-    if row.kind.as_slice() == b"enable".as_slice() {
+    if is(row, b"enable") {
         result_of(alloc, &Enable { scope, units })
     } else {
         result_of(alloc, &Disable { scope, units })

@@ -1,7 +1,7 @@
 //! add-wants and add-requires.
 use crate::lines::{arguments, first_word, has_verb, scope_of, units};
-use crate::questions::{OfLine, asked, assert_rows};
-use sample_rows::Row;
+use crate::questions::{OfLine, asked};
+use sample_rows::{Row, assert_rows};
 use sample_values::name;
 use slot_commands::{AddTo, AddedDependency};
 use std::alloc::{AllocError, Global};

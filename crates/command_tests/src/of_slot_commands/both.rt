@@ -1,11 +1,11 @@
 //! Two commands, one after the other.
 use crate::lines::have_verbs;
-use crate::questions::{asked, assert_rows, no_such_verb};
-use footprint::Then;
-use sample_rows::Row;
+use crate::questions::{asked, no_such_verb};
+use sample_rows::{Row, assert_rows};
 use slot_commands::{AddTo, LinkUnits, Mask, PlaceEntry, Unmask};
 use std::alloc::{AllocError, Global};
 use std::test::Fail;
+use two_operations::Then;
 
 const EMPTY: &[u8] = b"unitadm-inventory 1\nend\n";
 

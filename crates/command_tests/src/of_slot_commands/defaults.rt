@@ -1,7 +1,7 @@
 //! set-default.
 use crate::lines::arguments;
-use crate::questions::{OfLine, asked, assert_rows};
-use sample_rows::Row;
+use crate::questions::{OfLine, asked};
+use sample_rows::{Row, assert_rows};
 use sample_values::name;
 use slot_commands::SetDefault;
 use std::alloc::{AllocError, Global};

@@ -1,8 +1,8 @@
 //! Entries that are placed and removed by hand.
 use crate::lines::{arguments, first_word, has_verb};
-use crate::questions::{OfLine, asked, assert_rows};
+use crate::questions::{OfLine, asked};
 use link_tree::Entry;
-use sample_rows::Row;
+use sample_rows::{Row, assert_rows};
 use sample_values::{file, link, path};
 use slot_commands::{PlaceEntry, RemoveEntry};
 use std::alloc::{AllocError, Global};
@@ -43,10 +43,10 @@ const ROWS: &[u8] = b"\
 /// `link TARGET`, or `file` and its bytes.
 fn entry_of(alloc: Global, words: &[u8]) -> Result<Entry, AllocError> {
     let (kind, text) = first_word(words);
-    match kind {
-        b"link" => link(alloc, text),
-        _ => file(alloc, text),
+    if kind == b"link".as_slice() {
+        return link(alloc, text);
     }
+    file(alloc, text)
 }
 
 impl OfLine for PlaceEntry {

@@ -1,7 +1,7 @@
 //! link.
 use crate::lines::{arguments, scope_of};
-use crate::questions::{OfLine, asked, assert_rows};
-use sample_rows::Row;
+use crate::questions::{OfLine, asked};
+use sample_rows::{Row, assert_rows};
 use sample_values::path;
 use slot_commands::{LinkUnits, Paths};
 use std::alloc::{AllocError, Global};

@@ -1,10 +1,10 @@
 //! mask and unmask.
 use crate::lines::{arguments, has_verb, scope_and_units, without_last_end};
-use crate::questions::{OfLine, asked, assert_rows, outcome};
+use crate::questions::{OfLine, asked, outcome};
 use crate::readings::push_key;
 use footprint::{Key, Outcome, agrees, touches};
 use link_tree::{Change, Scope, Tree};
-use sample_rows::Row;
+use sample_rows::{Row, assert_rows, is};
 use sample_values::{name, path, tree};
 use slot_commands::{Mask, Unmask};
 use std::alloc::{AllocError, Global};
@@ -152,9 +152,9 @@ fn touches_at(alloc: Global, row: &Row) -> Result<Vec<u8>, AllocError> {
 }
 
 fn answer(alloc: Global, row: &Row) -> Result<Vec<u8>, AllocError> {
-    if row.kind.as_slice() == b"agrees".as_slice() {
+    if is(row, b"agrees") {
         agrees_in(alloc, row)
-    } else if row.kind.as_slice() == b"touches".as_slice() {
+    } else if is(row, b"touches") {
         touches_at(alloc, row)
     } else if has_verb(&row.one, b"mask") {
         asked::<Mask>(alloc, row, inventory(&row.two))

@@ -1,7 +1,7 @@
 //! is-enabled and get-default.
 use crate::lines::{arguments, has_verb};
-use crate::questions::{OfLine, asked, assert_rows};
-use sample_rows::Row;
+use crate::questions::{OfLine, asked};
+use sample_rows::{Row, assert_rows};
 use sample_values::name;
 use states::{GetDefault, IsEnabled};
 use std::alloc::{AllocError, Global};

@@ -1,7 +1,7 @@
 //! Dependencies, in both directions.
 use crate::lines::arguments;
-use crate::questions::{OfLine, asked, assert_rows};
-use sample_rows::Row;
+use crate::questions::{OfLine, asked};
+use sample_rows::{Row, assert_rows};
 use sample_values::name;
 use states::Dependencies;
 use std::alloc::{AllocError, Global};

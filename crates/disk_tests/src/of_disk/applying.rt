@@ -2,7 +2,7 @@
 use super::fake::{Failing, Fake};
 use disk::{ApplyError, Oddity, StepError, apply};
 use link_tree::{Change, Tree};
-use sample_rows::{Row, unlike};
+use sample_rows::{Row, assert_rows};
 use sample_values::tree;
 use std::alloc::{AllocError, Global};
 use std::test::Fail;
@@ -62,7 +62,7 @@ const ROWS: &[u8] = b"\
         step 0: neither a file nor a link; old tree, failed calls 0, changes 0\n";
 
 /// What steps resulted in.
-#[derive(Clone, Copy, Debug)]
+#[derive(Clone, Copy)]
 struct Outcome {
     applied: Result<(), ApplyError>,
     is_old: bool,
@@ -87,7 +87,7 @@ fn is_memory_gone(applied: Result<(), ApplyError>) -> bool {
 }
 
 /// Inventories: of the tree that the disk holds, and of the two trees between which the steps are.
-#[derive(Clone, Copy, Debug)]
+#[derive(Clone, Copy)]
 struct Way {
     held: &'static [u8],
     old: &'static [u8],
@@ -243,9 +243,7 @@ fn answer(alloc: Global, row: &Row) -> Result<Vec<u8>, AllocError> {
 
 #[test]
 fn steps_are_made_or_taken_back(rt: HostRuntime) -> Result<(), Fail> {
-    let found = unlike(rt.alloc(), ROWS, answer)?;
-    assert_eq!(rt; found.as_slice(), b"".as_slice());
-    Ok(())
+    assert_rows(&rt, rt.alloc(), ROWS, answer)
 }
 
 const HALF_DONE: &[u8] = b"\
@@ -285,7 +283,5 @@ const HALF_DONE: &[u8] = b"\
 
 #[test]
 fn half_done_is_reported(rt: HostRuntime) -> Result<(), Fail> {
-    let found = unlike(rt.alloc(), HALF_DONE, answer)?;
-    assert_eq!(rt; found.as_slice(), b"".as_slice());
-    Ok(())
+    assert_rows(&rt, rt.alloc(), HALF_DONE, answer)
 }

@@ -3,7 +3,7 @@ use super::fake::Failing;
 use super::root::Root;
 use disk::{CaptureError, Oddity, capture};
 use link_tree::{Tree, TreePath};
-use sample_rows::{Row, unlike};
+use sample_rows::{Row, assert_rows, is};
 use sample_values::{path, tree};
 use std::alloc::{AllocError, Global};
 use std::test::Fail;
@@ -140,7 +140,7 @@ fn read_trees(alloc: Global) -> Result<Trees, AllocError> {
 }
 
 /// What a capture resulted in.
-#[derive(Clone, Copy, Debug, PartialEq, Eq)]
+#[derive(Clone, Copy)]
 pub(crate) enum Came {
     Equal,
     Other(usize),
@@ -222,7 +222,7 @@ fn push_path(alloc: Global, paths: &mut Vec<TreePath>, text: &[u8]) -> Result<()
 
 fn asked_for(alloc: Global, row: &Row) -> Result<Vec<TreePath>, AllocError> {
     let mut paths = Vec::new(alloc);
-    if row.kind.as_slice() == b"asked for".as_slice() {
+    if is(row, b"asked for") {
         for text in row.two.split(|b| *b == b' ') {
             push_path(alloc, &mut paths, text)?;
         }
@@ -263,9 +263,12 @@ fn answer(alloc: Global, trees: &Trees, row: &Row) -> Result<Vec<u8>, AllocError
 #[test]
 fn slots_and_what_links_lead_to(rt: HostRuntime) -> Result<(), Fail> {
     let trees = ample!(read_trees(rt.alloc()), AllocError)?;
-    let found = unlike(rt.alloc(), ROWS, |alloc, row| answer(alloc, &trees, row))?;
-    assert_eq!(rt; found.as_slice(), b"".as_slice());
-    Ok(())
+    assert_rows(
+        &rt,
+        rt.alloc(),
+        ROWS,
+        |alloc, row| answer(alloc, &trees, row),
+    )
 }
 
 /// Whether a capture in which one call fails reports that, and the root counts one failure; or if
@@ -274,12 +277,12 @@ fn is_reported(alloc: Global, trees: &Trees, call: u32) -> Result<bool, AllocErr
     let mut root = shared_root(alloc, &trees.whole, Failing::once(call))?;
     let came = capture_on(alloc, &mut root, &[], &trees.captured)?;
     let has_failed = call < root.calls;
-    let expected = if has_failed {
-        Came::Failed
-    } else {
-        Came::Equal
+    let is_right = match came {
+        Came::Failed => has_failed,
+        Came::Equal => !has_failed,
+        _ => false,
     };
-    Ok(came == expected && root.failures == u64::from(has_failed))
+    Ok(is_right && root.failures == u64::from(has_failed))
 }
 
 /// The first of this number of calls whose failure isn't reported, if there is one.

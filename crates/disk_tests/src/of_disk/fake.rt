@@ -7,7 +7,7 @@ use link_tree::{Entry, Slot, Tree, TreePath};
 use std::alloc::Global;
 
 /// Which calls fail, counted from 0.
-#[derive(Clone, Copy, Debug)]
+#[derive(Clone, Copy)]
 pub(crate) struct Failing {
     first: u32,
     last: u32,

@@ -1,6 +1,6 @@
 //! Changes and steps between small trees.
 use link_tree::{Change, Entry, Tree};
-use sample_rows::{Row, unlike};
+use sample_rows::{Row, assert_rows, is};
 use sample_values::tree;
 use std::alloc::{AllocError, Global};
 use std::test::Fail;
@@ -110,14 +110,13 @@ fn same(alloc: Global, old: &Tree, new: &Tree) -> Result<Vec<u8>, AllocError> {
 fn answer(alloc: Global, row: &Row) -> Result<Vec<u8>, AllocError> {
     let old = tree_named(alloc, &row.one)?;
     let new = tree_named(alloc, &row.two)?;
-    let kind = row.kind.as_slice();
-    if kind == b"changes".as_slice() {
+    if is(row, b"changes") {
         return changes(alloc, &old, &new);
     }
-    if kind == b"steps".as_slice() {
+    if is(row, b"steps") {
         return steps(alloc, &old, &new);
     }
-    if kind == b"same".as_slice() {
+    if is(row, b"same") {
         return same(alloc, &old, &new);
     }
     Vec::from_slice(alloc, b"unknown kind")
@@ -125,7 +124,5 @@ fn answer(alloc: Global, row: &Row) -> Result<Vec<u8>, AllocError> {
 
 #[test]
 fn files_come_first_and_go_last(rt: HostRuntime) -> Result<(), Fail> {
-    let found = unlike(rt.alloc(), ROWS, answer)?;
-    assert_eq!(rt; found.as_slice(), b"".as_slice());
-    Ok(())
+    assert_rows(&rt, rt.alloc(), ROWS, answer)
 }

@@ -1,12 +1,13 @@
 //! Links that are made all at once, and what is looked at.
 use super::texts::{push_key, read_as};
-use footprint::{Answer, Edit, Key, Keys, Notices, Outcome, Refusal, WantedLinks};
-use link_tree::{Change, Entry, Scope, Slot, Tree, TreePath};
+use footprint::{Answer, Key, Outcome, Refusal, StateWord};
+use link_tree::{Change, Entry, Scope, Slot, TreePath};
 use load_path::{End, Found};
-use sample_rows::{Row, unlike};
+use sample_rows::{Row, assert_rows, is};
 use sample_values::{name, path, tree};
 use std::alloc::{AllocError, Global};
 use std::test::Fail;
+use transaction::{Transaction, WantedLinks};
 
 /// `b` leads to its file in another spelling, `c` elsewhere, and a file is at `d`.
 const TREE: &[u8] = b"unitadm-inventory 1
@@ -46,11 +47,11 @@ const ROWS: &[u8] = b"\
         /etc/systemd/system/c.service\\n\
         1\\n\
         /etc/systemd/system/a.service\\n\
-        /run/systemd/system/a.service\\n\
-        /usr/local/lib/systemd/system/a.service\\n\
-        /usr/lib/systemd/system/a.service\\n\
         /etc/systemd/system/c.service\\n\
         /opt/c.service\\n\
+        /run/systemd/system/a.service\\n\
+        /usr/lib/systemd/system/a.service\\n\
+        /usr/local/lib/systemd/system/a.service\\n\
         links\\n\n\
     # reads: what the keys ONE read. No presets are an empty set.\n\
     reads\tpresets\t\tpresets\\nunitadm-inventory 1\\nend\\n\n";
@@ -144,18 +145,15 @@ fn text_of(alloc: Global, outcome: &Outcome) -> Result<Vec<u8>, AllocError> {
     Ok(text)
 }
 
-/// What is reported about links that are wanted, if these keys were looked at before.
+/// What is reported about links that are wanted.
 fn made(
     alloc: Global,
-    tree: &Tree,
-    mut keys: Keys,
+    transaction: Transaction<'_>,
     wanted: &WantedLinks,
 ) -> Result<Vec<u8>, AllocError> {
-    let done = Edit::new(alloc, tree)?.all_at_once(alloc, wanted, &mut keys)?;
-    let outcome = Box::new(
-        alloc,
-        Outcome::of(alloc, tree, keys, Notices::none(alloc), done)?,
-    )?;
+    let mut txn = transaction;
+    let done = txn.all_at_once(alloc, wanted);
+    let outcome = Box::new(alloc, txn.outcome_of_steps(alloc, done)?)?;
     text_of(alloc, &outcome)
 }
 
@@ -163,7 +161,7 @@ fn made(
 fn told(alloc: Global, words: &[u8]) -> Result<Vec<u8>, AllocError> {
     let tree = tree(alloc, TREE)?;
     let wanted = wanted(alloc, words)?;
-    made(alloc, &tree, Keys::none(alloc), &wanted)
+    made(alloc, Transaction::new(alloc, &tree), &wanted)
 }
 
 fn push_line(text: &mut Vec<u8>, line: &[u8]) -> Result<(), AllocError> {
@@ -187,9 +185,16 @@ fn push_end(text: &mut Vec<u8>, end: &End) -> Result<(), AllocError> {
     }
 }
 
-fn push_keys(text: &mut Vec<u8>, keys: &Keys) -> Result<(), AllocError> {
-    for key in keys.as_slice() {
-        push_key(text, key)?;
+/// The keys of all that a transaction looked at.
+fn push_keys(
+    alloc: Global,
+    transaction: Transaction<'_>,
+    text: &mut Vec<u8>,
+) -> Result<(), AllocError> {
+    let answered = transaction.answer(alloc, Answer::State(StateWord::Static))?;
+    let outcome = Box::new(alloc, answered)?;
+    for observation in outcome.reading.as_slice() {
+        push_key(text, &observation.key)?;
         text.push(b'\n')?;
     }
     Ok(())
@@ -197,35 +202,32 @@ fn push_keys(text: &mut Vec<u8>, keys: &Keys) -> Result<(), AllocError> {
 
 fn find(
     alloc: Global,
-    tree: &Tree,
     unit: &[u8],
-    keys: &mut Keys,
+    txn: &mut Transaction<'_>,
     text: &mut Vec<u8>,
 ) -> Result<(), AllocError> {
     let unit = name(alloc, unit)?;
-    let found = keys.find(alloc, tree, &unit)?;
+    let found = txn.find(alloc, &unit)?;
     push_found(text, &found)
 }
 
 fn follow(
     alloc: Global,
-    tree: &Tree,
     link: &[u8],
-    keys: &mut Keys,
+    txn: &mut Transaction<'_>,
     text: &mut Vec<u8>,
 ) -> Result<(), AllocError> {
     let link = path(alloc, link)?;
-    let end = keys.follow(alloc, tree, &link)?;
+    let end = txn.follow(alloc, &link)?;
     push_end(text, &end)
 }
 
 fn count_links(
     alloc: Global,
-    tree: &Tree,
-    keys: &mut Keys,
+    txn: &mut Transaction<'_>,
     text: &mut Vec<u8>,
 ) -> Result<(), AllocError> {
-    let count = keys.entries(alloc, tree, Key::Links)?.len();
+    let count = txn.entries(alloc, Key::Links)?.len();
     let line = format!(in alloc; "{count}\n")?;
     text.extend_from_slice(line.as_bytes())
 }
@@ -233,27 +235,26 @@ fn count_links(
 /// Looks a unit up, follows a link, or counts the links of dependencies.
 fn look(
     alloc: Global,
-    tree: &Tree,
     word: &[u8],
-    keys: &mut Keys,
+    txn: &mut Transaction<'_>,
     text: &mut Vec<u8>,
 ) -> Result<(), AllocError> {
     if word == b"links".as_slice() {
-        return count_links(alloc, tree, keys, text);
+        return count_links(alloc, txn, text);
     }
     if word.starts_with(b"/") {
-        return follow(alloc, tree, word, keys, text);
+        return follow(alloc, word, txn, text);
     }
-    find(alloc, tree, word, keys, text)
+    find(alloc, word, txn, text)
 }
 
 fn push_looks(alloc: Global, words: &[u8], text: &mut Vec<u8>) -> Result<(), AllocError> {
     let tree = tree(alloc, TREE)?;
-    let mut keys = Keys::none(alloc);
+    let mut txn = Transaction::new(alloc, &tree);
     for word in words.split(|b| *b == b' ') {
-        look(alloc, &tree, word, &mut keys, text)?;
+        look(alloc, word, &mut txn, text)?;
     }
-    push_keys(text, &keys)
+    push_keys(alloc, txn, text)
 }
 
 /// What is found, a line for each, and the keys of all that.
@@ -266,38 +267,34 @@ fn looks(alloc: Global, words: &[u8]) -> Result<Vec<u8>, AllocError> {
 /// Wants none of the links in `/etc` that belong to one of two names.
 fn wanted_away(
     alloc: Global,
-    tree: &Tree,
     one: &[u8],
     other: &[u8],
-    keys: &mut Keys,
+    txn: &mut Transaction<'_>,
 ) -> Result<WantedLinks, AllocError> {
-    let mut looked = Keys::none(alloc);
-    looked.push(Key::Marked(Scope::Etc, name(alloc, one)?))?;
-    looked.push(Key::Marked(Scope::Etc, name(alloc, other)?))?;
-    let links = keys.entries_of_all(alloc, tree, looked)?;
+    let names = [name(alloc, one)?, name(alloc, other)?];
+    let links = txn.links_of_all(alloc, Scope::Etc, &names)?;
     WantedLinks::cleared(alloc, &links)
 }
 
 /// What is made if the links in `/etc` are cleared that belong to one of two names.
 fn cleared(alloc: Global, one: &[u8], other: &[u8]) -> Result<Vec<u8>, AllocError> {
     let tree = tree(alloc, TREE)?;
-    let mut keys = Keys::none(alloc);
-    let wanted = wanted_away(alloc, &tree, one, other, &mut keys)?;
-    made(alloc, &tree, keys, &wanted)
+    let mut txn = Transaction::new(alloc, &tree);
+    let wanted = wanted_away(alloc, one, other, &mut txn)?;
+    made(alloc, txn, &wanted)
 }
 
 fn answer(alloc: Global, row: &Row) -> Result<Vec<u8>, AllocError> {
-    let kind = row.kind.as_slice();
-    if kind == b"wanted".as_slice() {
+    if is(row, b"wanted") {
         return told(alloc, &row.one);
     }
-    if kind == b"cleared".as_slice() {
+    if is(row, b"cleared") {
         return cleared(alloc, &row.one, &row.two);
     }
-    if kind == b"looks".as_slice() {
+    if is(row, b"looks") {
         return looks(alloc, &row.one);
     }
-    if kind == b"reads".as_slice() {
+    if is(row, b"reads") {
         return read_as(alloc, TREE, &row.one);
     }
     Vec::from_slice(alloc, b"unknown kind")
@@ -305,7 +302,5 @@ fn answer(alloc: Global, row: &Row) -> Result<Vec<u8>, AllocError> {
 
 #[test]
 fn links_are_made_and_cleared_all_at_once(rt: HostRuntime) -> Result<(), Fail> {
-    let found = unlike(rt.alloc(), ROWS, answer)?;
-    assert_eq!(rt; found.as_slice(), b"".as_slice());
-    Ok(())
+    assert_rows(&rt, rt.alloc(), ROWS, answer)
 }

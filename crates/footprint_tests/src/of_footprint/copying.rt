@@ -3,15 +3,16 @@ use super::at_once::push_change;
 use super::texts::inventory_of;
 use crate::keys::{key, keys, reading};
 use footprint::{
-    Answer, Changes, Edit, Key, Notice, NoticeKey, Notices, Reading, Reason, Refusal, StateWord,
-    Units, agrees,
+    Answer, Changes, Key, Notice, NoticeKey, Notices, Reading, Reason, Refusal, StateWord, Units,
+    agrees,
 };
 use link_tree::{Slot, Tree, TreePath};
-use sample_rows::{Row, unlike};
+use sample_rows::{Row, assert_rows, is};
 use sample_values::{link, name, path, tree};
 use std::alloc::{AllocError, Global};
 use std::fmt::Debug;
 use std::test::Fail;
+use transaction::Transaction;
 use unit_file::Word;
 
 const TREE: &[u8] = b"unitadm-inventory 1
@@ -157,8 +158,10 @@ fn edited(
     if Slot::of(relinked).is_none() || Slot::of(cleared).is_none() {
         return Err(AllocError);
     }
-    let edit = Edit::new(alloc, tree)?.with(relinked, Some(link))?;
-    edit.with(cleared, None)?.into_changes(alloc)
+    let mut txn = Transaction::new(alloc, tree);
+    txn.put(alloc, relinked, Some(link))?;
+    txn.put(alloc, cleared, None)?;
+    Ok(txn.outcome_of_steps(alloc, Ok(()))?.changes)
 }
 
 fn changes(alloc: Global, relinked: &[u8], cleared: &[u8]) -> Result<Changes, AllocError> {
@@ -241,15 +244,24 @@ fn names(alloc: Global) -> Result<Units, AllocError> {
     Ok(names)
 }
 
+fn answer_of(alloc: Global, word: &[u8]) -> Result<Answer, AllocError> {
+    if word == b"done".as_slice() {
+        return Ok(Answer::Done(notices(alloc)?));
+    }
+    if word == b"state".as_slice() {
+        return Ok(Answer::State(StateWord::LinkedRuntime));
+    }
+    if word == b"name".as_slice() {
+        return Ok(Answer::Name(name(alloc, b"a.target")?));
+    }
+    if word == b"names".as_slice() {
+        return Ok(Answer::Names(names(alloc)?));
+    }
+    Ok(Answer::Refused(Refusal::Clash(path(alloc, b"/b")?)))
+}
+
 fn answer_named(alloc: Global, word: &[u8]) -> Result<Box<Answer>, AllocError> {
-    let answer = match word {
-        b"done" => Answer::Done(notices(alloc)?),
-        b"state" => Answer::State(StateWord::LinkedRuntime),
-        b"name" => Answer::Name(name(alloc, b"a.target")?),
-        b"names" => Answer::Names(names(alloc)?),
-        _ => Answer::Refused(Refusal::Clash(path(alloc, b"/b")?)),
-    };
-    Ok(Box::new(alloc, answer)?)
+    Ok(Box::new(alloc, answer_of(alloc, word)?)?)
 }
 
 /// A copy of an answer.
@@ -283,23 +295,22 @@ fn answer_copied(alloc: Global, word: &[u8]) -> Result<Vec<u8>, AllocError> {
 }
 
 fn answer(alloc: Global, row: &Row) -> Result<Vec<u8>, AllocError> {
-    let kind = row.kind.as_slice();
-    if kind == b"key".as_slice() {
+    if is(row, b"key") {
         return key_copied(alloc, &row.one);
     }
-    if kind == b"observed".as_slice() {
+    if is(row, b"observed") {
         return observed(alloc, TREE, &row.one);
     }
-    if kind == b"reading".as_slice() {
+    if is(row, b"reading") {
         return reading_copied(alloc, &row.one);
     }
-    if kind == b"changes".as_slice() {
+    if is(row, b"changes") {
         return changes_copied(alloc, &row.one, &row.two);
     }
-    if kind == b"inverse".as_slice() {
+    if is(row, b"inverse") {
         return inverse_text(alloc, &row.one, &row.two);
     }
-    if kind == b"answer".as_slice() {
+    if is(row, b"answer") {
         return answer_copied(alloc, &row.one);
     }
     Vec::from_slice(alloc, b"unknown kind")
@@ -307,7 +318,5 @@ fn answer(alloc: Global, row: &Row) -> Result<Vec<u8>, AllocError> {
 
 #[test]
 fn copies_are_the_same_and_shown_alike(rt: HostRuntime) -> Result<(), Fail> {
-    let found = unlike(rt.alloc(), ROWS, answer)?;
-    assert_eq!(rt; found.as_slice(), b"".as_slice());
-    Ok(())
+    assert_rows(&rt, rt.alloc(), ROWS, answer)
 }

@@ -3,7 +3,7 @@ use super::texts::{push_key, read_as};
 use crate::keys::{EMPTY, reading};
 use footprint::agrees;
 use link_tree::Tree;
-use sample_rows::{Row, unlike};
+use sample_rows::{Row, assert_rows, is};
 use sample_values::tree;
 use std::alloc::{AllocError, Global};
 use std::test::Fail;
@@ -147,14 +147,13 @@ fn conflict(
 }
 
 fn answer(alloc: Global, row: &Row) -> Result<Vec<u8>, AllocError> {
-    let kind = row.kind.as_slice();
-    if kind == b"reads".as_slice() {
+    if is(row, b"reads") {
         return read_as(alloc, SMALL, &row.one);
     }
-    if kind == b"conflict".as_slice() {
+    if is(row, b"conflict") {
         return conflict(alloc, SMALL, &row.one, &row.two);
     }
-    if kind == b"conflict with nothing".as_slice() {
+    if is(row, b"conflict with nothing") {
         return conflict(alloc, EMPTY, &row.one, &row.two);
     }
     Vec::from_slice(alloc, b"unknown kind")
@@ -162,7 +161,5 @@ fn answer(alloc: Global, row: &Row) -> Result<Vec<u8>, AllocError> {
 
 #[test]
 fn sets_of_links_are_read_and_compared_whole(rt: HostRuntime) -> Result<(), Fail> {
-    let found = unlike(rt.alloc(), ROWS, answer)?;
-    assert_eq!(rt; found.as_slice(), b"".as_slice());
-    Ok(())
+    assert_rows(&rt, rt.alloc(), ROWS, answer)
 }

@@ -3,7 +3,7 @@ use crate::changes::change;
 use crate::keys::key;
 use footprint::touches;
 use link_tree::Change;
-use sample_rows::{Row, unlike};
+use sample_rows::{Row, assert_rows, is};
 use std::alloc::{AllocError, Global};
 use std::test::Fail;
 
@@ -63,7 +63,7 @@ fn touched(alloc: Global, change: &Change, keys: &[u8]) -> Result<Vec<u8>, Alloc
 }
 
 fn answer(alloc: Global, row: &Row) -> Result<Vec<u8>, AllocError> {
-    if row.kind.as_slice() != b"touches".as_slice() {
+    if !is(row, b"touches") {
         return Vec::from_slice(alloc, b"unknown kind");
     }
     let change = change(alloc, &row.one)?;
@@ -72,7 +72,5 @@ fn answer(alloc: Global, row: &Row) -> Result<Vec<u8>, AllocError> {
 
 #[test]
 fn links_belong_to_names(rt: HostRuntime) -> Result<(), Fail> {
-    let found = unlike(rt.alloc(), ROWS, answer)?;
-    assert_eq!(rt; found.as_slice(), b"".as_slice());
-    Ok(())
+    assert_rows(&rt, rt.alloc(), ROWS, answer)
 }

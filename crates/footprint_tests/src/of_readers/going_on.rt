@@ -2,7 +2,7 @@
 use super::indexes::listed;
 use crate::changes::change;
 use link_tree::Change;
-use sample_rows::{Row, unlike};
+use sample_rows::{Row, assert_rows, is};
 use std::alloc::{AllocError, Global};
 use std::test::Fail;
 
@@ -63,11 +63,10 @@ fn first_after(alloc: Global, texts: &[u8], n: u32) -> Result<Vec<u8>, AllocErro
 }
 
 fn answer(alloc: Global, row: &Row) -> Result<Vec<u8>, AllocError> {
-    let kind = row.kind.as_slice();
-    if kind == b"after".as_slice() {
+    if is(row, b"after") {
         return after(alloc, &row.one, row_of(&row.two));
     }
-    if kind == b"first after".as_slice() {
+    if is(row, b"first after") {
         return first_after(alloc, &row.one, row_of(&row.two));
     }
     Vec::from_slice(alloc, b"unknown kind")
@@ -75,7 +74,5 @@ fn answer(alloc: Global, row: &Row) -> Result<Vec<u8>, AllocError> {
 
 #[test]
 fn rows_are_found_after_a_row(rt: HostRuntime) -> Result<(), Fail> {
-    let found = unlike(rt.alloc(), ROWS, answer)?;
-    assert_eq!(rt; found.as_slice(), b"".as_slice());
-    Ok(())
+    assert_rows(&rt, rt.alloc(), ROWS, answer)
 }

@@ -5,7 +5,7 @@ use crate::keys::{EMPTY, reading};
 use footprint::Reading;
 use link_tree::Change;
 use readers::Readers;
-use sample_rows::{Row, unlike};
+use sample_rows::{Row, assert_rows, is};
 use std::alloc::{AllocError, Global};
 use std::process::Abort;
 use std::test::Fail;
@@ -54,7 +54,7 @@ fn relisted(alloc: Global, texts: &[u8]) -> Result<Box<Readers>, AllocError> {
 }
 
 fn answer(alloc: Global, row: &Row) -> Result<Vec<u8>, AllocError> {
-    if row.kind.as_slice() != b"found".as_slice() {
+    if !is(row, b"found") {
         return Vec::from_slice(alloc, b"unknown kind");
     }
     let readers = relisted(alloc, &row.one)?;
@@ -64,9 +64,7 @@ fn answer(alloc: Global, row: &Row) -> Result<Vec<u8>, AllocError> {
 
 #[test]
 fn a_row_is_listed_under_its_own_keys_alone(rt: HostRuntime) -> Result<(), Fail> {
-    let found = unlike(rt.alloc(), ROWS, answer)?;
-    assert_eq!(rt; found.as_slice(), b"".as_slice());
-    Ok(())
+    assert_rows(&rt, rt.alloc(), ROWS, answer)
 }
 
 fn assert_found(

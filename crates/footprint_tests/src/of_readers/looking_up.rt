@@ -3,7 +3,7 @@ use super::indexes::{found, listed};
 use crate::changes::change;
 use link_tree::Change;
 use readers::Readers;
-use sample_rows::{Row, unlike};
+use sample_rows::{Row, assert_rows, is};
 use std::alloc::{AllocError, Global};
 use std::test::Fail;
 
@@ -32,7 +32,7 @@ const ROWS: &[u8] = b"\
     found\t/etc/systemd/system-preset/1.preset||:\t\t26\n";
 
 fn answer(alloc: Global, row: &Row) -> Result<Vec<u8>, AllocError> {
-    if row.kind.as_slice() != b"found".as_slice() {
+    if !is(row, b"found") {
         return Vec::from_slice(alloc, b"unknown kind");
     }
     let readers = listed(alloc)?;
@@ -42,7 +42,5 @@ fn answer(alloc: Global, row: &Row) -> Result<Vec<u8>, AllocError> {
 
 #[test]
 fn rows_are_found_by_each_kind_of_key(rt: HostRuntime) -> Result<(), Fail> {
-    let found = unlike(rt.alloc(), ROWS, answer)?;
-    assert_eq!(rt; found.as_slice(), b"".as_slice());
-    Ok(())
+    assert_rows(&rt, rt.alloc(), ROWS, answer)
 }

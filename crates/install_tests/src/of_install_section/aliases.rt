@@ -1,7 +1,7 @@
 //! Which aliases units may have.
 use crate::of_install_section::units::wanted_text;
 use link_tree::Scope;
-use sample_rows::{Row, unlike};
+use sample_rows::{Row, assert_rows, is};
 use std::alloc::{AllocError, Global};
 use std::test::Fail;
 
@@ -53,11 +53,10 @@ fn alias(alloc: Global, file: &[u8], unit: &[u8], words: &[u8]) -> Result<Vec<u8
 }
 
 fn answer(alloc: Global, row: &Row) -> Result<Vec<u8>, AllocError> {
-    let kind = row.kind.as_slice();
-    if kind == b"alias".as_slice() {
+    if is(row, b"alias") {
         return alias(alloc, &row.one, &row.one, &row.two);
     }
-    if kind == b"alias in a@.service".as_slice() {
+    if is(row, b"alias in a@.service") {
         return alias(alloc, b"a@.service", &row.one, &row.two);
     }
     Vec::from_slice(alloc, b"unknown kind")
@@ -65,7 +64,5 @@ fn answer(alloc: Global, row: &Row) -> Result<Vec<u8>, AllocError> {
 
 #[test]
 fn aliases_are_of_type_and_kind_of_the_unit(rt: HostRuntime) -> Result<(), Fail> {
-    let found = unlike(rt.alloc(), ROWS, answer)?;
-    assert_eq!(rt; found.as_slice(), b"".as_slice());
-    Ok(())
+    assert_rows(&rt, rt.alloc(), ROWS, answer)
 }

@@ -4,7 +4,7 @@ use crate::trees::tree;
 use install_section::{Closed, Closure, ClosureFault, Members, closure, closure_into};
 use link_tree::Tree;
 use load_path::Cells;
-use sample_rows::{Row, unlike};
+use sample_rows::{Row, assert_rows, is};
 use sample_values::name;
 use std::alloc::{AllocError, Global};
 use std::test::Fail;
@@ -163,23 +163,22 @@ fn unit_at(alloc: Global, given: &[u8], place: &[u8]) -> Result<Vec<u8>, AllocEr
 
 fn answer(alloc: Global, row: &Row) -> Result<Vec<u8>, AllocError> {
     let tree = tree_named(&row.one);
-    let kind = row.kind.as_slice();
-    if kind == b"together".as_slice() {
+    if is(row, b"together") {
         return closure_text(alloc, tree, &row.two);
     }
-    if kind == b"paths looked at".as_slice() {
+    if is(row, b"paths looked at") {
         return paths_looked_at(alloc, tree, &row.two);
     }
-    if kind == b"paths".as_slice() {
+    if is(row, b"paths") {
         return paths(alloc, tree, &row.two);
     }
-    if kind == b"how many".as_slice() {
+    if is(row, b"how many") {
         return how_many(alloc, &row.one);
     }
-    if kind == b"contains".as_slice() {
+    if is(row, b"contains") {
         return contains(alloc, &row.one, &row.two);
     }
-    if kind == b"unit".as_slice() {
+    if is(row, b"unit") {
         return unit_at(alloc, &row.one, &row.two);
     }
     Vec::from_slice(alloc, b"unknown kind")
@@ -187,7 +186,5 @@ fn answer(alloc: Global, row: &Row) -> Result<Vec<u8>, AllocError> {
 
 #[test]
 fn units_that_name_one_another_are_enabled_together(rt: HostRuntime) -> Result<(), Fail> {
-    let found = unlike(rt.alloc(), ROWS, answer)?;
-    assert_eq!(rt; found.as_slice(), b"".as_slice());
-    Ok(())
+    assert_rows(&rt, rt.alloc(), ROWS, answer)
 }

@@ -4,7 +4,7 @@ use crate::trees::tree;
 use install_section::{Links, Wanted, wanted, wanted_into};
 use link_tree::{Scope, Tree};
 use load_path::Cells;
-use sample_rows::{Row, unlike};
+use sample_rows::{Row, assert_rows, is};
 use sample_values::path;
 use std::alloc::{AllocError, Global};
 use std::test::Fail;
@@ -133,23 +133,22 @@ fn paths_looked_at(alloc: Global, units: &[u8]) -> Result<Vec<u8>, AllocError> {
 
 fn answer(alloc: Global, row: &Row) -> Result<Vec<u8>, AllocError> {
     let tree = tree_named(&row.one);
-    let kind = row.kind.as_slice();
-    if kind == b"wanted".as_slice() {
+    if is(row, b"wanted") {
         return wanted_text(alloc, tree, &row.two, Scope::Etc, false);
     }
-    if kind == b"wanted --runtime".as_slice() {
+    if is(row, b"wanted --runtime") {
         return wanted_text(alloc, tree, &row.two, Scope::Run, false);
     }
-    if kind == b"wanted, skipping".as_slice() {
+    if is(row, b"wanted, skipping") {
         return wanted_text(alloc, tree, &row.two, Scope::Etc, true);
     }
-    if kind == b"how many links".as_slice() {
+    if is(row, b"how many links") {
         return how_many(alloc, &row.one);
     }
-    if kind == b"link at".as_slice() {
+    if is(row, b"link at") {
         return link_at(alloc, &row.one, &row.two);
     }
-    if kind == b"paths looked at".as_slice() {
+    if is(row, b"paths looked at") {
         return paths_looked_at(alloc, &row.one);
     }
     Vec::from_slice(alloc, b"unknown kind")
@@ -157,7 +156,5 @@ fn answer(alloc: Global, row: &Row) -> Result<Vec<u8>, AllocError> {
 
 #[test]
 fn links_are_wanted_by_the_words_of_units(rt: HostRuntime) -> Result<(), Fail> {
-    let found = unlike(rt.alloc(), ROWS, answer)?;
-    assert_eq!(rt; found.as_slice(), b"".as_slice());
-    Ok(())
+    assert_rows(&rt, rt.alloc(), ROWS, answer)
 }

@@ -4,7 +4,7 @@ use crate::trees::tree;
 use link_tree::Tree;
 use load_path::Cells;
 use preset_rules::{Rules, Verdict};
-use sample_rows::{Row, unlike};
+use sample_rows::{Row, assert_rows, is};
 use sample_values::name;
 use std::alloc::{AllocError, Global};
 use std::test::Fail;
@@ -233,20 +233,19 @@ fn behind_links(alloc: Global, presets: &[u8]) -> Result<Vec<u8>, AllocError> {
 }
 
 fn answer(alloc: Global, row: &Row) -> Result<Vec<u8>, AllocError> {
-    let kind = row.kind.as_slice();
-    if kind == b"preset".as_slice() {
+    if is(row, b"preset") {
         return preset(alloc, &row.one, &row.two);
     }
-    if kind == b"read".as_slice() {
+    if is(row, b"read") {
         return read(alloc, &row.one);
     }
-    if kind == b"in another tree".as_slice() {
+    if is(row, b"in another tree") {
         return in_another_tree(alloc, &row.one, &row.two);
     }
-    if kind == b"behind links".as_slice() {
+    if is(row, b"behind links") {
         return behind_links(alloc, &row.one);
     }
-    if kind == b"debian".as_slice() {
+    if is(row, b"debian") {
         return debian(alloc, &row.one);
     }
     Vec::from_slice(alloc, b"unknown kind")
@@ -254,7 +253,5 @@ fn answer(alloc: Global, row: &Row) -> Result<Vec<u8>, AllocError> {
 
 #[test]
 fn files_are_chosen_by_their_names(rt: HostRuntime) -> Result<(), Fail> {
-    let found = unlike(rt.alloc(), ROWS, answer)?;
-    assert_eq!(rt; found.as_slice(), b"".as_slice());
-    Ok(())
+    assert_rows(&rt, rt.alloc(), ROWS, answer)
 }

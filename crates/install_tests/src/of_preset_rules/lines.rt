@@ -1,7 +1,7 @@
 //! Lines of preset files.
 use super::verdicts::{enabled, policy_of_file, verdict, verdict_text};
 use preset_rules::{Instances, Verdict};
-use sample_rows::{Row, unlike};
+use sample_rows::{Row, assert_rows, is};
 use std::alloc::{AllocError, Global};
 use std::test::Fail;
 
@@ -83,11 +83,10 @@ fn copy(alloc: Global, lines: &[u8], unit: &[u8]) -> Result<Vec<u8>, AllocError>
 }
 
 fn answer(alloc: Global, row: &Row) -> Result<Vec<u8>, AllocError> {
-    let kind = row.kind.as_slice();
-    if kind == b"preset".as_slice() {
+    if is(row, b"preset") {
         return preset(alloc, &row.one, &row.two);
     }
-    if kind == b"copy".as_slice() {
+    if is(row, b"copy") {
         return copy(alloc, &row.one, &row.two);
     }
     Vec::from_slice(alloc, b"unknown kind")
@@ -95,7 +94,5 @@ fn answer(alloc: Global, row: &Row) -> Result<Vec<u8>, AllocError> {
 
 #[test]
 fn lines_are_read_by_words(rt: HostRuntime) -> Result<(), Fail> {
-    let found = unlike(rt.alloc(), ROWS, answer)?;
-    assert_eq!(rt; found.as_slice(), b"".as_slice());
-    Ok(())
+    assert_rows(&rt, rt.alloc(), ROWS, answer)
 }

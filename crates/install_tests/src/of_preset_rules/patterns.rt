@@ -1,6 +1,6 @@
 //! Which texts patterns match.
 use preset_rules::pattern_matches;
-use sample_rows::{Row, unlike};
+use sample_rows::{Row, assert_rows, is};
 use std::alloc::{AllocError, Global};
 use std::test::Fail;
 
@@ -85,7 +85,7 @@ const ROWS: &[u8] = b"\
         yes\n";
 
 fn answer(alloc: Global, row: &Row) -> Result<Vec<u8>, AllocError> {
-    if row.kind.as_slice() != b"matches".as_slice() {
+    if !is(row, b"matches") {
         return Vec::from_slice(alloc, b"unknown kind");
     }
     let matches = pattern_matches(&row.one, &row.two);
@@ -94,7 +94,5 @@ fn answer(alloc: Global, row: &Row) -> Result<Vec<u8>, AllocError> {
 
 #[test]
 fn patterns_match_whole_texts(rt: HostRuntime) -> Result<(), Fail> {
-    let found = unlike(rt.alloc(), ROWS, answer)?;
-    assert_eq!(rt; found.as_slice(), b"".as_slice());
-    Ok(())
+    assert_rows(&rt, rt.alloc(), ROWS, answer)
 }

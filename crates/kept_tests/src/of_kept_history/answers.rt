@@ -56,7 +56,7 @@ pub(crate) fn push_steps(text: &mut Vec<u8>, steps: &[Change]) -> Result<(), All
 }
 
 /// How a history and its root ended.
-#[derive(Clone, Copy, Debug, PartialEq, Eq)]
+#[derive(Clone, Copy, PartialEq, Eq)]
 pub(crate) enum End {
     Old,
     New,

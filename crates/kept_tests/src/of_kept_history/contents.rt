@@ -4,7 +4,7 @@ use link_tree::{Entry, Slot, Tree, TreePath, copy_of};
 use std::alloc::AllocError;
 
 /// A directory, which is synced by itself.
-#[derive(Clone, Copy, Debug, PartialEq, Eq)]
+#[derive(Clone, Copy, PartialEq, Eq)]
 pub(crate) enum Directory {
     History,
     Units,

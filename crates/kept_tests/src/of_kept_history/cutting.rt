@@ -13,7 +13,7 @@ use link_tree::Tree;
 use std::alloc::{AllocError, Global};
 
 /// What a failure leaves of what was not synced.
-#[derive(Clone, Copy, Debug, PartialEq, Eq)]
+#[derive(Clone, Copy)]
 pub(crate) enum Loss {
     /// The program is killed: nothing is lost.
     Killed,
@@ -22,7 +22,7 @@ pub(crate) enum Loss {
 }
 
 /// At which system call a program is cut short, and what is lost then.
-#[derive(Clone, Copy, Debug)]
+#[derive(Clone, Copy)]
 pub(crate) struct Cut {
     pub(crate) call: u32,
     pub(crate) loss: Loss,
@@ -36,7 +36,7 @@ impl Cut {
 }
 
 /// A run that is cut short.
-#[derive(Clone, Copy, Debug)]
+#[derive(Clone, Copy)]
 pub(crate) struct Way {
     /// Whether the root is already as the new history says, so that the run only writes.
     pub(crate) is_write: bool,
@@ -47,7 +47,7 @@ pub(crate) struct Way {
 }
 
 /// What became of a program that was cut short.
-#[derive(Clone, Copy, Debug)]
+#[derive(Clone, Copy)]
 pub(crate) struct Stopped {
     /// Whether it was still running.
     pub(crate) was_running: bool,

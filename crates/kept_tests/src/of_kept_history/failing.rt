@@ -2,7 +2,7 @@
 
 /// Which calls fail, counted from 0: one, and another one and all after it. A program whose calls
 /// all fail from one on does what a program that is killed there does: nothing.
-#[derive(Clone, Copy, Debug)]
+#[derive(Clone, Copy)]
 pub(crate) struct Failing {
     pub(crate) once: u32,
     pub(crate) from: u32,

@@ -3,7 +3,7 @@ use super::answers::End;
 use super::cutting::{Cut, Loss, Stopped, Way, end_after, recover_cut, run_cut};
 use super::failing::failing_calls;
 use super::trees::Trees;
-use sample_rows::{Row, unlike};
+use sample_rows::{Row, assert_rows, is};
 use std::alloc::{AllocError, Global};
 use std::test::Fail;
 
@@ -26,7 +26,7 @@ const ROWS: &[u8] = b"\
     run\t8\ttwice\t461 kills, 803 power failures: 79 old, 1185 new, 0 half\n";
 
 /// What became of what was tried.
-#[derive(Clone, Copy, Debug)]
+#[derive(Clone, Copy)]
 struct Tally {
     killed: u64,
     powerless: u64,
@@ -141,7 +141,7 @@ fn try_all(alloc: Global, way: Way, is_twice: bool) -> Result<Tally, AllocError>
 fn answer(alloc: Global, row: &Row) -> Result<Vec<u8>, AllocError> {
     let is_twice = row.two.as_slice() == b"twice".as_slice();
     let way = Way {
-        is_write: row.kind.as_slice() == b"write".as_slice(),
+        is_write: is(row, b"write"),
         fails: failing_calls(&row.one).once,
         most_ways: if is_twice { 2 } else { 16 },
     };
@@ -156,7 +156,5 @@ fn answer(alloc: Global, row: &Row) -> Result<Vec<u8>, AllocError> {
 
 #[test]
 fn nothing_is_left_half_done(rt: HostRuntime) -> Result<(), Fail> {
-    let found = unlike(rt.alloc(), ROWS, answer)?;
-    assert_eq!(rt; found.as_slice(), b"".as_slice());
-    Ok(())
+    assert_rows(&rt, rt.alloc(), ROWS, answer)
 }

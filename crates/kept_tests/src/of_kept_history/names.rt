@@ -5,7 +5,7 @@ pub(crate) const OLD_TEXT: &[u8] = b"old";
 pub(crate) const NEW_TEXT: &[u8] = b"new";
 
 /// What a file of the directory contains.
-#[derive(Clone, Copy, Debug, PartialEq, Eq)]
+#[derive(Clone, Copy)]
 pub(crate) enum Text {
     Old,
     New,
@@ -35,7 +35,7 @@ impl Text {
 }
 
 /// The files `history`, `history.new` and `history.next`.
-#[derive(Clone, Copy, Debug, PartialEq, Eq)]
+#[derive(Clone, Copy)]
 pub(crate) struct Names {
     pub(crate) history: Option<Text>,
     pub(crate) new: Option<Text>,
@@ -44,7 +44,7 @@ pub(crate) struct Names {
 
 /// A change of the directory, by one system call. A file that is renamed keeps its text, whatever
 /// becomes of its old name.
-#[derive(Clone, Copy, Debug, PartialEq, Eq)]
+#[derive(Clone, Copy)]
 pub(crate) enum Naming {
     /// `history.new` is made.
     Create(Text),

@@ -12,7 +12,7 @@ use kept_history::{
     roots_are_always_at_rest, run, run_between, runs_are_promised, runs_are_whole,
     withdrawals_are_whole, withdrawn_runs_last, writes_are_whole,
 };
-use sample_rows::{Row, unlike};
+use sample_rows::{Row, assert_rows, is};
 use std::alloc::{AllocError, Global};
 use std::test::Fail;
 use tree_steps::steps_between;
@@ -152,11 +152,11 @@ fn words_of(alloc: Global, answer: Result<(), RunError>) -> Result<Vec<u8>, Allo
 
 fn run_answer(alloc: Global, trees: &Trees, row: &Row) -> Result<Vec<u8>, AllocError> {
     let mut disk = disk_of(alloc, trees, row, None)?;
-    let result = if row.kind.as_slice() == b"between".as_slice() {
+    let result = if is(row, b"between") {
         run_between(alloc, &mut *disk, NEW_TEXT, &trees.old, &trees.new)
     } else {
         let mut steps = steps_between(alloc, &trees.old, &trees.new)?;
-        if row.kind.as_slice() == b"run twice".as_slice() {
+        if is(row, b"run twice") {
             let mut again = steps_between(alloc, &trees.old, &trees.new)?;
             steps.append(&mut again)?;
         }
@@ -170,13 +170,12 @@ fn run_answer(alloc: Global, trees: &Trees, row: &Row) -> Result<Vec<u8>, AllocE
 #[test]
 fn runs_end_in_each_way(rt: HostRuntime) -> Result<(), Fail> {
     let trees = ample!(Trees::new(rt.alloc()), AllocError)?;
-    let found = unlike(
+    assert_rows(
+        &rt,
         rt.alloc(),
         RUNS,
         |alloc, row| run_answer(alloc, &trees, row),
-    )?;
-    assert_eq!(rt; found.as_slice(), b"".as_slice());
-    Ok(())
+    )
 }
 
 fn is_memory_gone_in(error: FinishError) -> bool {
@@ -187,13 +186,13 @@ fn is_memory_gone_in(error: FinishError) -> bool {
 }
 
 fn finish_answer(alloc: Global, trees: &Trees, row: &Row) -> Result<Vec<u8>, AllocError> {
-    let next = if row.kind.as_slice() == b"recover".as_slice() {
+    let next = if is(row, b"recover") {
         None
     } else {
         Some(Text::New)
     };
     let mut disk = disk_of(alloc, trees, row, next)?;
-    let result = if row.kind.as_slice() == b"finish".as_slice() {
+    let result = if is(row, b"finish") {
         finish(alloc, &mut *disk, &trees.old, &trees.new)
     } else {
         recover(alloc, &mut disk, trees)
@@ -214,13 +213,12 @@ fn finish_answer(alloc: Global, trees: &Trees, row: &Row) -> Result<Vec<u8>, All
 #[test]
 fn recoveries_end_in_each_way(rt: HostRuntime) -> Result<(), Fail> {
     let trees = ample!(Trees::new(rt.alloc()), AllocError)?;
-    let found = unlike(
+    assert_rows(
+        &rt,
         rt.alloc(),
         FINISHES,
         |alloc, row| finish_answer(alloc, &trees, row),
-    )?;
-    assert_eq!(rt; found.as_slice(), b"".as_slice());
-    Ok(())
+    )
 }
 
 #[test]

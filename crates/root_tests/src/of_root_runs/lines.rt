@@ -1,10 +1,10 @@
 //! Lines of scripts that are refused: which word is at fault, and what would be right.
 
+use super::is;
 use byte_streams::ReadError;
 use root_runs::{Hint, bad_lines, bad_word_at, call_lines, push_line_fault, push_shown};
-use sample_rows::{Row, unlike};
+use sample_rows::{Row, assert_rows};
 use std::alloc::{AllocError, Global};
-use std::str;
 use std::test::Fail;
 use unit_script::{Reason, call_of_words};
 
@@ -137,10 +137,6 @@ fn script(alloc: Global, script: &[u8]) -> Result<Vec<u8>, AllocError> {
     Ok(out)
 }
 
-fn is(word: &[u8], other: &[u8]) -> bool {
-    word == other
-}
-
 /// The reasons why the lines of a script are refused, each with the length of what is reported.
 fn reasons(alloc: Global, script: &[u8]) -> Result<Vec<u8>, AllocError> {
     let mut out = Vec::new(alloc);
@@ -184,7 +180,5 @@ fn answer(alloc: Global, row: &Row) -> Result<Vec<u8>, AllocError> {
 
 #[test]
 fn words_at_fault_are_found(rt: HostRuntime) -> Result<(), Fail> {
-    let found = unlike(rt.alloc(), ROWS, answer)?;
-    assert!(rt; found.is_empty(), "{:?}", str::from_utf8(&found));
-    Ok(())
+    assert_rows(&rt, rt.alloc(), ROWS, answer)
 }

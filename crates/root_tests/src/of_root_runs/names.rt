@@ -1,9 +1,9 @@
 //! Words that are completed to names, and bytes that are shown.
 
+use super::is;
 use root_runs::{Suffix, named, push_shown};
-use sample_rows::{Row, unlike};
+use sample_rows::{Row, assert_rows};
 use std::alloc::{AllocError, Global};
-use std::str;
 use std::test::Fail;
 
 /// A word and its name, as systemctl 252 completes it: with `.service` as an argument of `mask`,
@@ -119,10 +119,6 @@ fn shown(alloc: Global, bytes: &[u8]) -> Result<Vec<u8>, AllocError> {
     Ok(out)
 }
 
-fn is(word: &[u8], other: &[u8]) -> bool {
-    word == other
-}
-
 fn answer(alloc: Global, row: &Row) -> Result<Vec<u8>, AllocError> {
     if is(&row.kind, b"service") {
         named(alloc, &row.one, Suffix::Service)
@@ -137,7 +133,5 @@ fn answer(alloc: Global, row: &Row) -> Result<Vec<u8>, AllocError> {
 
 #[test]
 fn words_are_completed_and_bytes_shown(rt: HostRuntime) -> Result<(), Fail> {
-    let found = unlike(rt.alloc(), ROWS, answer)?;
-    assert!(rt; found.is_empty(), "{:?}", str::from_utf8(&found));
-    Ok(())
+    assert_rows(&rt, rt.alloc(), ROWS, answer)
 }

@@ -2,6 +2,7 @@
 ghost use Rattle.std.specs.Prelude.{◌≤◌, length, vec_len};
 ghost use Rattle.history.specs.declared.history.TheConstants.{MAX_ROWS};
 
+use super::is;
 use byte_streams::FromRead;
 use history::{History, MAX_ROWS, Row as HistoryRow};
 use link_tree::{Change, Tree};
@@ -11,10 +12,9 @@ use root_runs::{
     push_report, push_unmade,
 };
 use root_words::How;
-use sample_rows::{Row, unlike};
+use sample_rows::{Row, assert_rows};
 use sample_values::{file, link, path, tree};
 use std::alloc::{AllocError, Global};
-use std::str;
 use std::test::Fail;
 use unit_script::{Action, Call, history_of, read_script};
 
@@ -170,10 +170,6 @@ const TREE: &[u8] = b"unitadm-inventory 1\n\
     F\t28\t/usr/lib/systemd/system/v.service\n\
     [Install]\nWantedBy=g.target\n\n\
     end\n";
-
-fn is(word: &[u8], other: &[u8]) -> bool {
-    word == other
-}
 
 /// The history of lines on the tree.
 fn history(alloc: Global, lines: &[u8]) -> Result<Box<History<Action>>, AllocError> {
@@ -362,7 +358,5 @@ fn answer(alloc: Global, row: &Row) -> Result<Vec<u8>, AllocError> {
 
 #[test]
 fn calls_print_and_end(rt: HostRuntime) -> Result<(), Fail> {
-    let found = unlike(rt.alloc(), ROWS, answer)?;
-    assert!(rt; found.is_empty(), "{:?}", str::from_utf8(&found));
-    Ok(())
+    assert_rows(&rt, rt.alloc(), ROWS, answer)
 }

@@ -1,8 +1,9 @@
 //! The calls of commands.
 
+use super::is;
 use root_runs::{CallError, CallWords, calls_of, script_of};
 use root_words::{AddedAs, Command, Listed, LogAsked, PresetMode, UnitsVerb};
-use sample_rows::{Row, unlike};
+use sample_rows::{Row, assert_rows};
 use std::alloc::{AllocError, Global};
 use std::str;
 use std::test::Fail;
@@ -112,175 +113,194 @@ fn first(alloc: Global, text: &[u8]) -> Result<String, AllocError> {
     }
 }
 
+/// A command in a box: it has many forms, and is expensive to hand on otherwise.
+fn boxed(alloc: Global, command: Command) -> Result<Box<Command>, AllocError> {
+    Ok(Box::new(alloc, command)?)
+}
+
+/// A kind of rows without `runtime`, and whether it has that.
+fn verb_of(kind: &[u8]) -> (&[u8], bool) {
+    match kind.strip_suffix(b" runtime") {
+        Some(verb) => (verb, true),
+        None => (kind, false),
+    }
+}
+
+/// The verb with names of this word.
+fn units_verb(verb: &[u8]) -> Option<UnitsVerb> {
+    if is(verb, b"enable") {
+        return Some(UnitsVerb::Enable);
+    }
+    if is(verb, b"disable") {
+        return Some(UnitsVerb::Disable);
+    }
+    if is(verb, b"reenable") {
+        return Some(UnitsVerb::Reenable);
+    }
+    if is(verb, b"preset") {
+        return Some(UnitsVerb::Preset);
+    }
+    if is(verb, b"mask") {
+        return Some(UnitsVerb::Mask);
+    }
+    is(verb, b"unmask").then_some(UnitsVerb::Unmask)
+}
+
 fn units(
     alloc: Global,
     verb: UnitsVerb,
     runtime: bool,
     text: &[u8],
-) -> Result<Command, AllocError> {
-    Ok(Command::Units {
-        verb,
-        runtime,
-        mode: PresetMode::Full,
-        names: words(alloc, text)?,
-    })
+) -> Result<Box<Command>, AllocError> {
+    let names = words(alloc, text)?;
+    let mode = PresetMode::Full;
+    boxed(
+        alloc,
+        Command::Units {
+            verb,
+            runtime,
+            mode,
+            names,
+        },
+    )
 }
 
-fn add(alloc: Global, added: AddedAs, runtime: bool, text: &[u8]) -> Result<Command, AllocError> {
+fn add(
+    alloc: Global,
+    added: AddedAs,
+    runtime: bool,
+    text: &[u8],
+) -> Result<Box<Command>, AllocError> {
     let mut names = words(alloc, text)?;
     if names.is_empty() {
         return Err(AllocError);
     }
     let target = names.remove(0);
-    Ok(Command::Add {
-        added,
-        runtime,
-        target,
-        names,
-    })
+    boxed(
+        alloc,
+        Command::Add {
+            added,
+            runtime,
+            target,
+            names,
+        },
+    )
 }
 
-fn links(alloc: Global, runtime: bool, text: &[u8]) -> Result<Command, AllocError> {
-    Ok(Command::Link {
-        runtime,
-        paths: words(alloc, text)?,
-    })
+fn links(alloc: Global, runtime: bool, text: &[u8]) -> Result<Box<Command>, AllocError> {
+    let paths = words(alloc, text)?;
+    boxed(alloc, Command::Link { runtime, paths })
 }
 
-fn is(word: &[u8], other: &[u8]) -> bool {
-    word == other
+fn dependencies(alloc: Global, reverse: bool, unit: &[u8]) -> Result<Box<Command>, AllocError> {
+    let unit = first(alloc, unit)?;
+    boxed(alloc, Command::ListDependencies { reverse, unit })
 }
 
-/// The command of a verb with names.
-fn units_command(alloc: Global, kind: &[u8], text: &[u8]) -> Result<Option<Command>, AllocError> {
-    let command = if is(kind, b"enable") {
-        units(alloc, UnitsVerb::Enable, false, text)?
-    } else if is(kind, b"enable runtime") {
-        units(alloc, UnitsVerb::Enable, true, text)?
-    } else if is(kind, b"disable") {
-        units(alloc, UnitsVerb::Disable, false, text)?
-    } else if is(kind, b"disable runtime") {
-        units(alloc, UnitsVerb::Disable, true, text)?
-    } else if is(kind, b"reenable") {
-        units(alloc, UnitsVerb::Reenable, false, text)?
-    } else if is(kind, b"preset") {
-        units(alloc, UnitsVerb::Preset, false, text)?
-    } else if is(kind, b"mask") {
-        units(alloc, UnitsVerb::Mask, false, text)?
-    } else if is(kind, b"mask runtime") {
-        units(alloc, UnitsVerb::Mask, true, text)?
-    } else if is(kind, b"unmask") {
-        units(alloc, UnitsVerb::Unmask, false, text)?
-    } else {
-        return Ok(None);
-    };
-    Ok(Some(command))
+/// A command of systemctl.
+fn command(alloc: Global, kind: &[u8], text: &[u8]) -> Result<Box<Command>, AllocError> {
+    let (verb, runtime) = verb_of(kind);
+    if let Some(verb) = units_verb(verb) {
+        return units(alloc, verb, runtime, text);
+    }
+    if is(verb, b"link") {
+        return links(alloc, runtime, text);
+    }
+    if is(verb, b"add-wants") {
+        return add(alloc, AddedAs::Wants, runtime, text);
+    }
+    if is(verb, b"add-requires") {
+        return add(alloc, AddedAs::Requires, runtime, text);
+    }
+    if is(kind, b"list-dependencies") {
+        return dependencies(alloc, false, text);
+    }
+    if is(kind, b"reverse list-dependencies") {
+        return dependencies(alloc, true, text);
+    }
+    command_of_words(alloc, kind, text)
 }
 
-/// The command of another verb of systemctl.
-fn other_command(alloc: Global, kind: &[u8], text: &[u8]) -> Result<Option<Command>, AllocError> {
-    let command = if is(kind, b"link") {
-        links(alloc, false, text)?
-    } else if is(kind, b"link runtime") {
-        links(alloc, true, text)?
-    } else if is(kind, b"add-wants") {
-        add(alloc, AddedAs::Wants, false, text)?
-    } else if is(kind, b"add-requires runtime") {
-        add(alloc, AddedAs::Requires, true, text)?
-    } else if is(kind, b"set-default") {
-        Command::SetDefault(first(alloc, text)?)
-    } else if is(kind, b"get-default") {
-        Command::GetDefault
-    } else if is(kind, b"is-enabled") {
-        Command::IsEnabled(words(alloc, text)?)
-    } else if is(kind, b"list-dependencies") {
-        Command::ListDependencies {
-            reverse: false,
-            unit: first(alloc, text)?,
-        }
-    } else if is(kind, b"reverse list-dependencies") {
-        Command::ListDependencies {
-            reverse: true,
-            unit: first(alloc, text)?,
-        }
-    } else {
-        return Ok(None);
-    };
-    Ok(Some(command))
+/// A command that has only words.
+fn command_of_words(alloc: Global, kind: &[u8], text: &[u8]) -> Result<Box<Command>, AllocError> {
+    if is(kind, b"set-default") {
+        return boxed(alloc, Command::SetDefault(first(alloc, text)?));
+    }
+    if is(kind, b"remove") {
+        return boxed(alloc, Command::Remove(first(alloc, text)?));
+    }
+    if is(kind, b"is-enabled") {
+        return boxed(alloc, Command::IsEnabled(words(alloc, text)?));
+    }
+    if is(kind, b"place") {
+        return boxed(alloc, Command::Place(words(alloc, text)?));
+    }
+    if is(kind, b"status") {
+        return boxed(alloc, Command::Status(words(alloc, text)?));
+    }
+    history_command(alloc, kind)
 }
 
 /// A command about the history of a root.
-fn history_command(alloc: Global, kind: &[u8]) -> Result<Option<Command>, AllocError> {
-    Ok(Some(if is(kind, b"undo") || is(kind, b"undo with-later") {
-        Command::Undo {
-            rows: rows(alloc)?,
-            with_later: is(kind, b"undo with-later"),
-        }
-    } else if is(kind, b"redo") {
-        Command::Redo(rows(alloc)?)
-    } else if is(kind, b"keep") {
-        Command::Keep { anew: true }
-    } else if is(kind, b"log") {
-        Command::Log(LogAsked {
+fn history_command(alloc: Global, kind: &[u8]) -> Result<Box<Command>, AllocError> {
+    if is(kind, b"undo") || is(kind, b"undo with-later") {
+        let rows = rows(alloc)?;
+        let with_later = is(kind, b"undo with-later");
+        return boxed(alloc, Command::Undo { rows, with_later });
+    }
+    if is(kind, b"redo") {
+        return boxed(alloc, Command::Redo(rows(alloc)?));
+    }
+    if is(kind, b"keep") {
+        return boxed(alloc, Command::Keep { anew: true });
+    }
+    if is(kind, b"log") {
+        let asked = LogAsked {
             unit: None,
             operator: None,
             since: None,
             lines: None,
             full: false,
-        })
-    } else if is(kind, b"show") {
-        Command::Show(1)
-    } else {
-        return Ok(None);
-    }))
+        };
+        return boxed(alloc, Command::Log(asked));
+    }
+    if is(kind, b"show") {
+        return boxed(alloc, Command::Show(1));
+    }
+    own_command(alloc, kind)
 }
 
-/// A command that systemctl doesn't have, or that makes no calls.
-fn own_command(alloc: Global, kind: &[u8], text: &[u8]) -> Result<Command, AllocError> {
-    Ok(if is(kind, b"place") {
-        Command::Place(words(alloc, text)?)
-    } else if is(kind, b"remove") {
-        Command::Remove(first(alloc, text)?)
-    } else if is(kind, b"preset-all") {
-        Command::PresetAll {
-            runtime: false,
-            mode: PresetMode::Full,
-        }
-    } else if is(kind, b"list-unit-files") {
-        Command::ListUnitFiles(Listed {
+/// A command that has no words. That of `list-unit-files` has none here.
+fn own_command(alloc: Global, kind: &[u8]) -> Result<Box<Command>, AllocError> {
+    if is(kind, b"get-default") {
+        return boxed(alloc, Command::GetDefault);
+    }
+    if is(kind, b"preset-all") {
+        let (runtime, mode) = (false, PresetMode::Full);
+        return boxed(alloc, Command::PresetAll { runtime, mode });
+    }
+    if is(kind, b"list-unit-files") {
+        let listed = Listed {
             patterns: Vec::new(alloc),
             types: Vec::new(alloc),
             states: Vec::new(alloc),
-        })
-    } else if is(kind, b"status") {
-        Command::Status(words(alloc, text)?)
-    } else if is(kind, b"run") {
-        Command::Run {
-            file: None,
-            rows: None,
-        }
-    } else if is(kind, b"capture") {
-        Command::Capture { all: true }
-    } else if is(kind, b"diff") {
-        Command::Diff(String::new(alloc))
-    } else if is(kind, b"apply") {
-        Command::Apply(None)
-    } else {
-        return Err(AllocError);
-    })
-}
-
-fn command(alloc: Global, kind: &[u8], text: &[u8]) -> Result<Box<Command>, AllocError> {
-    if let Some(command) = units_command(alloc, kind, text)? {
-        return Ok(Box::new(alloc, command)?);
+        };
+        return boxed(alloc, Command::ListUnitFiles(listed));
     }
-    if let Some(command) = other_command(alloc, kind, text)? {
-        return Ok(Box::new(alloc, command)?);
+    if is(kind, b"run") {
+        let (file, rows) = (None, None);
+        return boxed(alloc, Command::Run { file, rows });
     }
-    if let Some(command) = history_command(alloc, kind)? {
-        return Ok(Box::new(alloc, command)?);
+    if is(kind, b"capture") {
+        return boxed(alloc, Command::Capture { all: true });
     }
-    Ok(Box::new(alloc, own_command(alloc, kind, text)?)?)
+    if is(kind, b"diff") {
+        return boxed(alloc, Command::Diff(String::new(alloc)));
+    }
+    if is(kind, b"apply") {
+        return boxed(alloc, Command::Apply(None));
+    }
+    Err(AllocError)
 }
 
 fn push_call(out: &mut Vec<u8>, call: &CallWords) -> Result<(), AllocError> {
@@ -332,15 +352,13 @@ fn calls_text(
 }
 
 fn answer(alloc: Global, row: &Row) -> Result<Vec<u8>, AllocError> {
-    match row.kind.as_slice() {
-        [b'c', b'a', b'l', b'l', b' ', kind @ ..] => calls_text(alloc, kind, &row.one, &row.two),
-        kind => script_text(alloc, kind, &row.one),
+    match row.kind.as_slice().strip_prefix(b"call ") {
+        Some(kind) => calls_text(alloc, kind, &row.one, &row.two),
+        None => script_text(alloc, &row.kind, &row.one),
     }
 }
 
 #[test]
 fn commands_make_calls(rt: HostRuntime) -> Result<(), Fail> {
-    let found = unlike(rt.alloc(), ROWS, answer)?;
-    assert!(rt; found.is_empty(), "{:?}", str::from_utf8(&found));
-    Ok(())
+    assert_rows(&rt, rt.alloc(), ROWS, answer)
 }

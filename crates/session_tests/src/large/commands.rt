@@ -3,7 +3,7 @@
 use crate::commands::{
     OF_ONE_UNIT, OF_TWO_UNITS, Ran, SSH, feed_lines, push_answers, push_left, run_lines,
 };
-use crate::large::Meeting;
+use crate::large::{Meeting, assert_text};
 use crate::scripts::Open;
 use link_tree::push_decimal;
 use sessions::Gate;
@@ -53,10 +53,6 @@ fn text_of_meeting<R: Threads + Wait + Sync + Clock>(
     out.extend_from_slice(b"attempts:")?;
     push_decimal(&mut out, alice_came.load(Ordering::SeqCst) as usize)?;
     Ok(out)
-}
-
-fn assert_text(rt: &impl Abort, text: &[u8], wanted: &[u8]) {
-    assert!(rt; text == wanted, "{:?}", str::from_utf8(text));
 }
 
 fn assert_meeting<R: Threads + Wait + Sync + Clock + Abort>(

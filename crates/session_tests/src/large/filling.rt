@@ -1,12 +1,12 @@
 //! Runs that find their history full: one request more than there may be rows.
 
+use crate::large::assert_text;
 use crate::scripts::{Open, Ran, operators, push_run};
 use history::{MAX_ROWS, Request};
 use link_tree::Tree;
 use sample_steps::{Step, operator};
 use sessions::{Ask, Asks, Requests, Work, Works, run_desk, run_sessions};
 use std::alloc::{AllocError, Global};
-use std::str;
 use std::sync::Wait;
 use std::test::Fail;
 use std::thread::Threads;
@@ -68,21 +68,13 @@ fn text_of(alloc: Global, ran: &Ran) -> Result<Vec<u8>, AllocError> {
 #[test]
 fn a_session_finds_its_history_full(rt: HostRuntime) -> Result<(), Fail> {
     let text = text_of(rt.alloc(), &*ran(&rt, rt.alloc())?)?;
-    assert!(rt;
-        text.as_slice() == b"full".as_slice(),
-        "{:?}",
-        str::from_utf8(&text)
-    );
+    assert_text(&rt, &text, b"full");
     Ok(())
 }
 
 #[test]
 fn a_session_that_is_fed_finds_its_history_full(rt: HostRuntime) -> Result<(), Fail> {
     let text = text_of(rt.alloc(), &*fed(&rt, rt.alloc())?)?;
-    assert!(rt;
-        text.as_slice() == b"full".as_slice(),
-        "{:?}",
-        str::from_utf8(&text)
-    );
+    assert_text(&rt, &text, b"full");
     Ok(())
 }

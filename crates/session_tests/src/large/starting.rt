@@ -1,13 +1,15 @@
 //! Workers that can't be started: `tests/no-worker` refuses one thread after another.
 
+use crate::large::assert_text;
 use crate::running::ran;
 use crate::scripts::{Open, Ran};
+use sample_steps::is;
 use sessions::RunError;
 use std::alloc::{AllocError, Global};
+use std::env;
 use std::sync::Wait;
 use std::test::Fail;
 use std::thread::Threads;
-use std::{env, str};
 
 /// What three operators ask for.
 const WORKS: &[u8] = b"alice put:a / bob put:b / carol put:c";
@@ -30,10 +32,10 @@ fn end_of_run<R: Threads + Wait + Sync>(
 
 /// What results if the thread of this number is refused: `tools/refuse_thread.c` reads it, too.
 fn wanted_of(number: &[u8]) -> &'static [u8] {
-    match number {
-        b"1" | b"2" | b"3" => b"no-worker",
-        _ => b"ran",
+    if is(number, b"1") || is(number, b"2") || is(number, b"3") {
+        return b"no-worker";
     }
+    b"ran"
 }
 
 #[test]
@@ -43,6 +45,6 @@ fn a_worker_that_cannot_be_started_is_reported(rt: HostRuntime) -> Result<(), Fa
         Err(_) => wanted_of(b""),
     };
     let end = end_of_run(&rt, rt.alloc())?;
-    assert!(rt; end == wanted, "{:?}", str::from_utf8(end));
+    assert_text(&rt, end, wanted);
     Ok(())
 }

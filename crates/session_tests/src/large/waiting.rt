@@ -3,6 +3,7 @@
 use crate::large::{LONGEST, assert_counts, wait_for};
 use crate::running::text_of_feed;
 use history::Operator;
+use sample_steps::is;
 use sessions::Gate;
 use std::alloc::{AllocError, Global};
 use std::process::Abort;
@@ -24,16 +25,15 @@ struct Holding<'a, R: Clock> {
 
 impl<'a, R: Clock> Gate for Holding<'a, R> {
     fn between(&self, operator: Operator, call: u64, _attempt: u8) {
-        match (operator.text(), call) {
-            (b"alice", 1) => {
-                wait_for(self.rt, self.bob_came, self.most);
-                let bob_came = self.bob_came.load(Ordering::SeqCst);
-                self.has_met.store(bob_came, Ordering::SeqCst);
-            }
-            (b"bob", 1) => {
-                self.bob_came.fetch_add(1, Ordering::SeqCst);
-            }
-            _ => {}
+        if call != 1 {
+            return;
+        }
+        if is(operator.text(), b"alice") {
+            wait_for(self.rt, self.bob_came, self.most);
+            let bob_came = self.bob_came.load(Ordering::SeqCst);
+            self.has_met.store(bob_came, Ordering::SeqCst);
+        } else {
+            self.bob_came.fetch_add(1, Ordering::SeqCst);
         }
     }
 }

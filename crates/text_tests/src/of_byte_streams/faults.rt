@@ -1,7 +1,6 @@
 //! The texts of faults of streams.
-use crate::texts::{assert_rows, is};
 use byte_streams::{ReadError, Stop, WriteFault};
-use sample_rows::Row;
+use sample_rows::{Row, assert_rows, is};
 use std::alloc::{AllocError, Global};
 use std::test::Fail;
 

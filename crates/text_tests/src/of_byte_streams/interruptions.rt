@@ -1,12 +1,11 @@
 //! Readers and writers that are interrupted, by std's own kind of error.
 ghost use Rattle.std.specs.Prelude.{None};
 
-use crate::texts::{assert_rows, is, number_of};
 use byte_streams::{
     BufferedWriter, FromRead, Line, ReadError, ToWrite, WriteFault, read_bytes, read_line,
     skip_prefix,
 };
-use sample_rows::Row;
+use sample_rows::{Row, assert_rows, is, number_of};
 use std::alloc::{AllocError, Global};
 use std::io;
 use std::io::{BufRead, Error, ErrorKind, Read, Write};

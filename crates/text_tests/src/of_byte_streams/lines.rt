@@ -1,11 +1,10 @@
 ghost use Rattle.std.specs.Prelude.{None};
 ghost use Rattle.byte_streams.specs.declared.counters.Counters.{Counters};
 
-use crate::texts::{assert_rows, is, number_of, yes_or_no};
 use byte_streams::{
     Counters, FromRead, Line, ReadError, Source, Stop, read_bytes, read_line, skip_prefix,
 };
-use sample_rows::Row;
+use sample_rows::{Row, assert_rows, is, number_of, yes_or_no};
 use std::alloc::{AllocError, Global};
 use std::test::Fail;
 

@@ -1,8 +1,8 @@
 ghost use Rattle.std.specs.Prelude.{None};
 
-use crate::texts::{assert_rows, is, numbers_of};
+use crate::texts::numbers_of;
 use byte_streams::{BufferedWriter, ToWrite, WriteFault};
-use sample_rows::Row;
+use sample_rows::{Row, assert_rows, is};
 use std::alloc::{AllocError, Global};
 use std::io;
 use std::io::Write;

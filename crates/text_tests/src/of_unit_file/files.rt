@@ -1,7 +1,6 @@
 //! Unit files in the style of real packages.
 use super::{lines_of, read};
-use crate::texts::assert_rows;
-use sample_rows::Row;
+use sample_rows::{Row, assert_rows};
 use std::alloc::{AllocError, Global};
 use std::test::Fail;
 use unit_file::InstallText;

@@ -1,7 +1,7 @@
 //! Which unit a template is for, and under which name it is listed.
 use super::read;
-use crate::texts::{assert_rows, in_full, is, yes_or_no};
-use sample_rows::Row;
+use crate::texts::in_full;
+use sample_rows::{Row, assert_rows, is, yes_or_no};
 use sample_values::name;
 use std::alloc::{AllocError, Global};
 use std::test::Fail;

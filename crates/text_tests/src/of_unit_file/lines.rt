@@ -1,7 +1,6 @@
 //! Lines, sections and keys of unit files.
 use super::{lines_of, read};
-use crate::texts::assert_rows;
-use sample_rows::Row;
+use sample_rows::{Row, assert_rows};
 use std::alloc::{AllocError, Global};
 use std::test::Fail;
 

@@ -1,6 +1,5 @@
 //! Notices: their lines, their order, and copies.
-use crate::texts::{assert_rows, is};
-use sample_rows::Row;
+use sample_rows::{Row, assert_rows, is};
 use sample_values::name;
 use std::alloc::{AllocError, Global};
 use std::test::Fail;

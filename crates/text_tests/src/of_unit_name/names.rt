@@ -1,6 +1,6 @@
 //! Names, their parts and their order.
-use crate::texts::{assert_rows, in_full, is};
-use sample_rows::Row;
+use crate::texts::in_full;
+use sample_rows::{Row, assert_rows, is};
 use sample_values::name;
 use std::alloc::{AllocError, Global};
 use std::collections::{BTreeSet, HashSet};

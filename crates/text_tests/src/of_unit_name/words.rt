@@ -1,6 +1,6 @@
 //! Instances of templates, and specifiers in words.
-use crate::texts::{assert_rows, in_full, in_short, is};
-use sample_rows::Row;
+use crate::texts::{in_full, in_short};
+use sample_rows::{Row, assert_rows, is};
 use sample_values::name;
 use std::alloc::{AllocError, Global};
 use std::test::Fail;

@@ -1,5 +1,5 @@
-use crate::texts::{assert_rows, in_full, is, yes_or_no};
-use sample_rows::Row;
+use crate::texts::in_full;
+use sample_rows::{Row, assert_rows, is, yes_or_no};
 use sample_values::path;
 use std::alloc::{AllocError, Global};
 use std::cmp::Ordering;

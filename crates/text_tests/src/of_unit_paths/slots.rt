@@ -1,5 +1,4 @@
-use crate::texts::{assert_rows, is, yes_or_no};
-use sample_rows::Row;
+use sample_rows::{Row, assert_rows, is, yes_or_no};
 use sample_values::{name, path};
 use std::alloc::{AllocError, Global};
 use std::test::Fail;

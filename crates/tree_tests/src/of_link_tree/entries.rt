@@ -1,7 +1,6 @@
 //! Files, links and their changes.
-use crate::rows::{assert_rows, is, number_of, yes_or_no};
 use link_tree::{Change, Entry, FileError, is_null_link};
-use sample_rows::Row;
+use sample_rows::{Row, assert_rows, is, number_of, yes_or_no};
 use sample_values::{file, link, path};
 use std::alloc::{AllocError, Global};
 use std::test::Fail;

@@ -4,11 +4,11 @@ use crate::of_link_tree::changes::{are_from, change};
 use crate::of_link_tree::entries::entry_of;
 use crate::of_link_tree::names::LINKS;
 use crate::of_link_tree::writing::inventory_of;
-use crate::rows::{assert_rows, is, number_of, texts_of};
+use crate::rows::texts_of;
 use link_tree::{
     Change, Entry, FileError, PlacedEntry, Scope, Slot, TargetError, Tree, TreePath, copy_of,
 };
-use sample_rows::Row;
+use sample_rows::{Row, assert_rows, is, number_of};
 use sample_values::{name, path, tree};
 use std::alloc::{AllocError, Global};
 use std::test::Fail;

@@ -2,9 +2,9 @@
 //! links; tested here are the lists themselves, and what would be hidden by code that gives up if
 //! memory runs out.
 use crate::of_link_tree::changes::set_link;
-use crate::rows::{assert_rows, is, texts_of, yes_or_no};
+use crate::rows::texts_of;
 use link_tree::{Scope, Tree, belongs};
-use sample_rows::Row;
+use sample_rows::{Row, assert_rows, is, yes_or_no};
 use sample_values::{name, path, tree};
 use std::alloc::{AllocError, Global};
 use std::test::Fail;

@@ -1,9 +1,8 @@
 //! Reading of inventories.
-use crate::rows::{assert_rows, is, number_of};
 use link_tree::{
     Entry, FromRead, InventoryError, InventoryFault, Line, Tree, read_inventory, read_line,
 };
-use sample_rows::Row;
+use sample_rows::{Row, assert_rows, is, number_of};
 use sample_values::{path, tree};
 use std::alloc::{AllocError, Global};
 use std::test::Fail;

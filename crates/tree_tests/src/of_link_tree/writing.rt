@@ -1,8 +1,7 @@
 //! Trees that are written, changed and shared.
 use crate::of_link_tree::changes::{change, changed, empty};
-use crate::rows::{assert_rows, is, number_of, yes_or_no};
 use link_tree::{Change, Slot, ToWrite, Tree, write_before_inventory, write_inventory};
-use sample_rows::Row;
+use sample_rows::{Row, assert_rows, is, number_of, yes_or_no};
 use sample_values::{path, tree};
 use std::alloc::{AllocError, Global};
 use std::test::Fail;

@@ -1,10 +1,9 @@
 //! Names that are looked up, paths that are followed, and instances of templates. If memory runs
 //! out for a call, all that it was given is as it was, and it is made again.
 use crate::of_link_tree::writing::inventory_of;
-use crate::rows::{assert_rows, is};
 use link_tree::{Tree, TreePath};
 use load_path::{Cells, End, Found, find, follow, put_in};
-use sample_rows::Row;
+use sample_rows::{Row, assert_rows, is};
 use sample_values::{name, path, tree};
 use std::alloc::{AllocError, Global};
 use std::test::Fail;

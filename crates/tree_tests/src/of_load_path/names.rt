@@ -1,8 +1,7 @@
 //! Aliases, and the files that belong to no unit.
 use super::trees::{Named, answer_in, answer_of};
-use crate::rows::{assert_rows, is, number_of};
 use load_path::put_in;
-use sample_rows::Row;
+use sample_rows::{Row, assert_rows, is, number_of};
 use sample_values::{name, tree};
 use std::alloc::{AllocError, Global};
 use std::test::Fail;

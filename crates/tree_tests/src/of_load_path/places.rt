@@ -1,7 +1,6 @@
 //! Directories, masks and the paths that are looked at.
 use super::trees::{Named, answer_in};
-use crate::rows::assert_rows;
-use sample_rows::Row;
+use sample_rows::{Row, assert_rows};
 use std::alloc::{AllocError, Global};
 use std::test::Fail;
 

@@ -1,8 +1,8 @@
 //! Queries of a tree of units.
-use crate::rows::{is, texts_of};
+use crate::rows::texts_of;
 use link_tree::Tree;
 use load_path::{Cells, End, Found, Trail, find, follow, follow_entry_into};
-use sample_rows::Row;
+use sample_rows::{Row, is};
 use sample_values::{name, path, tree};
 use std::alloc::{AllocError, Global};
 

@@ -1,8 +1,8 @@
 use Rattle.std.proofs.Common.{ap, ◌∙◌}
 use Rattle.std.specs.FinMap as map
 use Rattle.std.proofs.lemmas.Result.{IfOk-weaker}
-use Rattle.footprint.specs.EditLaws.{noted}
-use Rattle.footprint.proofs.Edited.{net_noted}
+use Rattle.footprint.specs.Net.{noted}
+use Rattle.footprint.proofs.Noted.{net_noted}
 use Rattle.footprint.proofs.net.net_changes.Goals as goal
 
 pub returns : goal.returns

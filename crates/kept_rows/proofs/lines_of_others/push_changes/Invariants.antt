@@ -1,5 +1,5 @@
 use Rattle.std.proofs.Common.{◌≡◌, ◌++◌, drop}
-use Rattle.unit_script.specs.Laws.{lines_text}
+use Rattle.script_words.specs.Words.{lines_text}
 use Rattle.kept_rows.specs.Lines.{lines_of_others}
 use Rattle.kept_rows.proofs.lines_of_others.push_changes.Given as goal
 

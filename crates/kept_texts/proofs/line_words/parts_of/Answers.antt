@@ -1,7 +1,8 @@
 use Rattle.std.proofs.Common.{rules, tests}
 use Rattle.std.proofs.lemmas.Iterator.Consumers.{map_from_collect}
 use Rattle.std.proofs.lemmas.Iterator.Splits.{YieldsList-from_slice_split}
-use Rattle.kept_texts.specs.Sayings.{parts_of, is_space}
+use Rattle.script_words.specs.Words.{is_space}
+use Rattle.kept_texts.specs.Sayings.{parts_of}
 use Rattle.kept_texts.proofs.line_words.parts_of.Goals as goal
 
 pub returns : goal.returns

@@ -3,7 +3,7 @@
 
 use crate::of_link_tree::large::tree_of;
 use link_tree::Tree;
-use std::alloc::Global;
+use std::alloc::{AllocError, Global};
 use std::test::Fail;
 use std::time::{Clock, Duration, Instant};
 
@@ -17,11 +17,17 @@ const SHARES: u32 = 4_000;
 /// How often that is tried, since other programs may take the processor meanwhile.
 const TRIES: u32 = 10;
 
+/// Shares a tree once, and leaves what it gives.
+fn share(tree: &Tree) -> Result<(), AllocError> {
+    tree.share()?;
+    Ok(())
+}
+
 /// Whether a tree is shared `SHARES` times within a time.
 fn is_shared_within(rt: &impl Clock, tree: &Tree, time: Duration) -> Result<bool, Fail> {
     let start = Instant::now(rt)?;
     for _ in 0..SHARES {
-        let _shared = tree.share()?;
+        share(tree)?;
         if start.elapsed(rt)? > time {
             return Ok(false);
         }

@@ -1,8 +1,8 @@
 use Rattle.std.proofs.Common.{rules, tests}
 use Rattle.std.proofs.lemmas.Iterator.Consumers.{map_from_collect, YieldsList-from_filter, YieldsList-at}
 use Rattle.std.proofs.lemmas.Iterator.Splits.{YieldsList-from_slice_split}
-use Rattle.unit_script.specs.Script.{words_of, is_space}
-use Rattle.unit_script.specs.Words.{is_word}
+use Rattle.script_words.specs.Words.{is_word, is_space}
+use Rattle.unit_script.specs.Script.{words_of}
 use Rattle.unit_script.proofs.lines.words_of.Goals as goal
 
 pub returns : goal.returns

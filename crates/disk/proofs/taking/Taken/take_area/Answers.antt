@@ -1,6 +1,6 @@
 use Rattle.std.proofs.Common.{sym, subst}
-use Rattle.disk.specs.Capturing.{GoesOn}
 use Rattle.disk.specs.Partials.{IsIn}
+use Rattle.disk.proofs.Going.{GoesOn}
 use Rattle.disk.proofs.taking.Taken.take_area.Goals as goal
 
 pub returns-in-Units-clause-goes : goal.returns-in-Units-clause-goes

@@ -3,9 +3,10 @@ use Rattle.std.specs.Prelude.{IfSome}
 use Rattle.link_tree.proofs.Stops.{returned}
 use Rattle.unit_paths.specs.Places.{unit_directory}
 use Rattle.disk.specs.Disks.{Held, Stands, ListsAll}
-use Rattle.disk.specs.Capturing.{GoesOn, AtSome, IsSlotIn}
+use Rattle.disk.specs.Capturing.{AtSome, IsSlotIn}
 use Rattle.disk.specs.declared.disk.Listing.TheVariants as listings
 use Rattle.disk.specs.Partials.{IsDependencySlotOf}
+use Rattle.disk.proofs.Going.{GoesOn}
 use Rattle.disk.proofs.Covering.{covers, refused}
 use Rattle.disk.proofs.DependencyDirectories.{dependency_slots_listed}
 use Rattle.disk.proofs.taking.Taken.take_dependencies.Goals as goal

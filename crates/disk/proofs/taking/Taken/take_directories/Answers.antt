@@ -1,7 +1,7 @@
 use Rattle.std.proofs.Common.{◌∙◌, Ok, Err, subst, sym}
 use Rattle.link_tree.proofs.Stops.{returned}
-use Rattle.disk.specs.Capturing.{GoesOn, AtSome, IsSlotIn}
-use Rattle.disk.proofs.Going.{one_turn, all_turns, ended}
+use Rattle.disk.specs.Capturing.{AtSome, IsSlotIn}
+use Rattle.disk.proofs.Going.{GoesOn, one_turn, all_turns, ended}
 use Rattle.disk.proofs.taking.Taken.take_directories.Goals as goal
 
 pub returns-in_err-take_if_directory-clause-goes : goal.returns-in_err-take_if_directory-clause-goes

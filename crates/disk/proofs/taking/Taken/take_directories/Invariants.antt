@@ -1,5 +1,6 @@
 use Rattle.std.proofs.Common.{◌≡◌, ℕ, List, Ok, take}
-use Rattle.disk.specs.Capturing.{GoesOn, AtSome, IsSlotIn}
+use Rattle.disk.specs.Capturing.{AtSome, IsSlotIn}
+use Rattle.disk.proofs.Going.{GoesOn}
 use Rattle.disk.proofs.taking.Taken.take_directories.Given as goal
 
 -- those before this one were taken

@@ -20,7 +20,7 @@ returns-in_ok-copy-in-Entry-clause-goes g c =
     let there : IfSome tree (λ t. map.get t.entries path ≡ Some entry) =
     subst (λ p. IfSome tree (λ t. map.get t.entries p ≡ Some entry)) (sym same) (subst (Sees tree c.args.path.now) c.in-Entry.is c.in_ok-look.ensures.found) in
     subst (λ at. TakesMoreOrStops tree c.args.self.now c.add.new.self c.add.result (λ q. q ≡ at)) same
-    (took_other tree c.args.self.now c.add.new.self path entry c.add.result free there c.add.ensures.adds c.add.ensures.wanted)
+    (took_other tree c.args.self.now c.add.new.self path entry c.add.result free there c.add.ensures.added c.add.ensures.room c.add.ensures.wanted)
 
 pub returns-in-Nothing-clause-goes : goal.returns-in-Nothing-clause-goes
 returns-in-Nothing-clause-goes g c =

@@ -1,5 +1,5 @@
 use Rattle.std.proofs.Common.{◌≡◌, drop}
-use Rattle.footprint.specs.EditLaws.{noted}
+use Rattle.footprint.specs.Net.{noted}
 use Rattle.footprint.proofs.net.NetChanges.note_all.Given as goal
 
 abbrev pub invariant-loop-change : goal.invariant-loop-change

@@ -9,5 +9,5 @@ returns-clause-outcome c =
     let preset = c.args.self.now in
     let t = c.args.tree.now in
     IfOk-weaker c.outcome.result _ _
-    (comes_to (preset_run preset t) (preset_meaning preset) t (preset_means preset t) c.new-txn.result c.carried_out-done.new.txn c.carried_out-done.result c.new-txn.ensures c.carried_out-done.ensures)
+    (comes_to (preset_run preset t) (preset_meaning preset) t (preset_means preset t) c.new-txn.result c.carry_out-done.new.txn c.carry_out-done.result c.new-txn.ensures c.carry_out-done.ensures)
     c.outcome.ensures.outcome

@@ -12,5 +12,5 @@ returns-clause-outcome c =
     let enables = reenable_enables reenable in
     let t = c.args.tree.now in
     IfOk-weaker c.outcome.result _ _
-    (comes_to (doing_both disables enables) (reenable_meaning reenable) t (both_mean disables enables t) c.new-txn.result c.carried_out-done.new.txn c.carried_out-done.result c.new-txn.ensures c.carried_out-done.ensures)
+    (comes_to (doing_both disables enables) (reenable_meaning reenable) t (both_mean disables enables t) c.new-txn.result c.carry_out-done.new.txn c.carry_out-done.result c.new-txn.ensures c.carry_out-done.ensures)
     c.outcome.ensures.outcome

@@ -11,7 +11,7 @@ loop-path-init c = none_ended c.args.reverse c.none-ends.result c.into_iter-path
 pub loop-path-preserved-in-Continue-branch-3 : goal.loop-path-preserved-in-Continue-branch-3
 loop-path-preserved-in-Continue-branch-3 c =
     one_ended c.args.reverse c.loop-path.ends c.add.new.self c.loop-path.path-iterator c.next.new.self c.into_iter-path-iterator.result c.in-Some.path.now c.in-Some.entry.now c.in-Some-2.step
-    c.in-Some.ensures.steps (sym c.in_ok-step.ensures ∙ c.in-Some-2.is) (c.in_ok-add.ensures ∙ ap (with_step c.loop-path.ends) c.turned.ensures) c.loop-path.invariant
+    c.in-Some.ensures.steps (sym c.in_ok-step.ensures ∙ c.in-Some-2.is) (c.in_ok-add.ensures ∙ ap (with_step c.loop-path.ends) c.turn.ensures) c.loop-path.invariant
 
 pub loop-path-preserved : goal.loop-path-preserved
 loop-path-preserved c =

@@ -1,9 +1,16 @@
 use Rattle.std.proofs.Common.{◌≡◌, false, All, sym, subst}
+use Rattle.link_tree.specs.Trees.{Entries}
 use Rattle.footprint.specs.declared.key.Key.{Key}
-use Rattle.footprint.specs.Keys.{is_cell}
+use Rattle.footprint.specs.Keys.{is_cell, StandAtSlots}
+use Rattle.footprint.proofs.Parts.{any_stand_at_slots}
 use Rattle.transaction.proofs.Marks.{none_is_cell}
 use Rattle.transaction.proofs.transaction.Transaction.links_of_all.Goals as goal
 
-pub entries_of_all-requires : goal.entries_of_all-requires
-entries_of_all-requires c =
+pub entries_of-requires : goal.entries_of-requires
+entries_of-requires c =
     subst (λ keys. All (λ (key : Key). is_cell key ≡ false) keys) (sym c.in_ok-marks.ensures) (none_is_cell _ _)
+
+pub returns-clause-slots : goal.returns-clause-slots
+returns-clause-slots c =
+    subst (λ (t : Entries). StandAtSlots t) (sym c.in_ok-links.ensures)
+    (any_stand_at_slots _ _ (subst (λ keys. All (λ (key : Key). is_cell key ≡ false) keys) (sym c.in_ok-marks.ensures) (none_is_cell _ _)))

@@ -1,5 +1,0 @@
-use Rattle.footprint.proofs.Edited.{begun}
-use Rattle.footprint.proofs.edit.Edit.new.Goals as goal
-
-pub invariant_of-result : goal.invariant_of-result
-invariant_of-result c = rw (c.in_ok-share.ensures, c.none.ensures) (begun c.args.tree.now)

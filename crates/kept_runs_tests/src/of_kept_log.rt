@@ -1,0 +1,5 @@
+//! Tests of `kept_log`.
+
+mod logs;
+mod sample;
+mod tables;

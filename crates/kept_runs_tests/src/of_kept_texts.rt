@@ -1,0 +1,6 @@
+//! Tests of `kept_texts`.
+
+mod faults;
+mod large;
+mod sample;
+mod texts;

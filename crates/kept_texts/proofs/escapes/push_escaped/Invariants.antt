@@ -1,7 +1,0 @@
-use Rattle.std.proofs.Common.{◌≡◌, ◌++◌, drop}
-use Rattle.kept_texts.specs.Lines.{spelled}
-use Rattle.kept_texts.proofs.escapes.push_escaped.Given as goal
-
--- the text so far, and the bytes that are left
-abbrev pub invariant-loop-b : goal.invariant-loop-b
-invariant-loop-b l = l.text.items ++ spelled (drop l.b-index l.bytes) ≡ l.fn.text.items ++ spelled l.bytes

@@ -1,0 +1,4 @@
+mod Digits
+pub mod EscapedTexts
+pub mod NumberWords
+pub mod WordBytes

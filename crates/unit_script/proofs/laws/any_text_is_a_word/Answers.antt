@@ -1,8 +1,0 @@
-use Rattle.unit_script.proofs.EscapedTexts.{escaped_is_read, escaped_is_word}
-use Rattle.unit_script.proofs.laws.any_text_is_a_word.Goals as goal
-
-pub returns-clause-read : goal.returns-clause-read
-returns-clause-read c = escaped_is_read
-
-pub returns-clause-word : goal.returns-clause-word
-returns-clause-word c = escaped_is_word

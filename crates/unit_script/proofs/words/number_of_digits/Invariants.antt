@@ -1,7 +1,0 @@
-use Rattle.std.proofs.Common.{◌≡◌, drop}
-use Rattle.unit_script.specs.Words.{number_from}
-use Rattle.unit_script.proofs.words.number_of_digits.Given as goal
-
--- the number so far; the rest decides the result
-abbrev pub invariant-loop-b : goal.invariant-loop-b
-invariant-loop-b l = number_from l.number (drop l.b-index l.word) ≡ number_from 0 l.word
