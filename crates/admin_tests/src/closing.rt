@@ -262,5 +262,5 @@ fn answer(rt: &impl Wait, alloc: Global, row: &Row) -> Result<Vec<u8>, AllocErro
 
 #[test]
 fn a_run_is_closed_with_the_logs_of_its_rows(rt: HostRuntime) -> Result<(), Fail> {
-    assert_rows(&rt, rt.alloc(), ROWS, |alloc, row| answer(&rt, alloc, row))
+    assert_rows(rt.alloc(), ROWS, |alloc, row| answer(&rt, alloc, row))
 }

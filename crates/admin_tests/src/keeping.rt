@@ -427,5 +427,5 @@ fn answer_of_given(alloc: Global, row: &Row) -> Result<Vec<u8>, AllocError> {
 
 #[test]
 fn what_is_given_is_as_it_was_without_memory(rt: HostRuntime) -> Result<(), Fail> {
-    assert_rows(&rt, rt.alloc(), GIVEN, answer_of_given)
+    assert_rows(rt.alloc(), GIVEN, answer_of_given)
 }

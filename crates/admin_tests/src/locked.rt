@@ -259,5 +259,5 @@ fn answer(rt: &impl Wait, alloc: Global, row: &Row) -> Result<Vec<u8>, AllocErro
 
 #[test]
 fn a_call_without_memory_leaves_the_history_as_it_was(rt: HostRuntime) -> Result<(), Fail> {
-    assert_rows(&rt, rt.alloc(), ROWS, |alloc, row| answer(&rt, alloc, row))
+    assert_rows(rt.alloc(), ROWS, |alloc, row| answer(&rt, alloc, row))
 }

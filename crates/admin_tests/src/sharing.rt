@@ -429,5 +429,5 @@ fn answer(rt: &impl Wait, alloc: Global, row: &Row) -> Result<Vec<u8>, AllocErro
 
 #[test]
 fn each_call_is_one_step(rt: HostRuntime) -> Result<(), Fail> {
-    assert_rows(&rt, rt.alloc(), ROWS, |alloc, row| answer(&rt, alloc, row))
+    assert_rows(rt.alloc(), ROWS, |alloc, row| answer(&rt, alloc, row))
 }

@@ -231,5 +231,5 @@ fn answer(alloc: Global, row: &Row) -> Result<Vec<u8>, AllocError> {
 
 #[test]
 fn lines_have_their_members(rt: HostRuntime) -> Result<(), Fail> {
-    assert_rows(&rt, rt.alloc(), ROWS, answer)
+    assert_rows(rt.alloc(), ROWS, answer)
 }

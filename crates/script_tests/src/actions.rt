@@ -80,5 +80,5 @@ fn answer(alloc: Global, row: &Row) -> Result<Vec<u8>, AllocError> {
 
 #[test]
 fn a_copy_does_the_same(rt: HostRuntime) -> Result<(), Fail> {
-    assert_rows(&rt, rt.alloc(), ROWS, answer)
+    assert_rows(rt.alloc(), ROWS, answer)
 }

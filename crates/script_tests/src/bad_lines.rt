@@ -115,5 +115,5 @@ const ROWS: &[u8] = b"\
 
 #[test]
 fn the_first_fault_of_a_line_is_reported(rt: HostRuntime) -> Result<(), Fail> {
-    assert_rows(&rt, rt.alloc(), ROWS, answer)
+    assert_rows(rt.alloc(), ROWS, answer)
 }

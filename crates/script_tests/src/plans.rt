@@ -196,7 +196,7 @@ fn answer(alloc: Global, row: &Row) -> Result<Vec<u8>, AllocError> {
 
 #[test]
 fn an_enable_is_planned_and_committed(rt: HostRuntime) -> Result<(), Fail> {
-    assert_rows(&rt, rt.alloc(), ROWS, answer)
+    assert_rows(rt.alloc(), ROWS, answer)
 }
 
 /// The unit isn't masked in the snapshot, so that the plan is of a slot without an entry.
@@ -208,5 +208,5 @@ const UNMASK: &[u8] = b"\
 
 #[test]
 fn a_plan_on_a_snapshot_before_a_mask_is_stale(rt: HostRuntime) -> Result<(), Fail> {
-    assert_rows(&rt, rt.alloc(), UNMASK, answer)
+    assert_rows(rt.alloc(), UNMASK, answer)
 }

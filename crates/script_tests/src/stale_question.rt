@@ -134,5 +134,5 @@ fn said(rt: &impl Wait, alloc: Global) -> Result<Vec<u8>, AllocError> {
 /// tried again, so that the row has another result if it takes some.
 #[test]
 fn a_commit_of_a_stale_plan_copies_no_answer(rt: HostRuntime) -> Result<(), Fail> {
-    assert_rows(&rt, rt.alloc(), ROWS, |alloc, _row| said(&rt, alloc))
+    assert_rows(rt.alloc(), ROWS, |alloc, _row| said(&rt, alloc))
 }

@@ -167,5 +167,5 @@ fn answer<R: Threads + Wait + Sync>(
 
 #[test]
 fn without_memory_or_a_worker_nothing_is_written(rt: HostRuntime) -> Result<(), Fail> {
-    assert_rows(&rt, rt.alloc(), ROWS, |alloc, row| answer(&rt, alloc, row))
+    assert_rows(rt.alloc(), ROWS, |alloc, row| answer(&rt, alloc, row))
 }

@@ -486,7 +486,6 @@ fn answer_of_run<R: Threads + Wait + Sync>(
 #[test]
 fn a_call_without_memory_leaves_all_as_it_was(rt: HostRuntime) -> Result<(), Fail> {
     assert_rows(
-        &rt,
         rt.alloc(),
         CALLS,
         |alloc, row| answer_of_call(&rt, alloc, row),
@@ -496,7 +495,6 @@ fn a_call_without_memory_leaves_all_as_it_was(rt: HostRuntime) -> Result<(), Fai
 #[test]
 fn a_run_without_memory_comes_to_an_end(rt: HostRuntime) -> Result<(), Fail> {
     assert_rows(
-        &rt,
         rt.alloc(),
         RUNS,
         |alloc, row| answer_of_run(&rt, alloc, row),

@@ -97,5 +97,5 @@ fn answer<R: Threads + Wait + Sync>(
 
 #[test]
 fn sessions_run_side_by_side(rt: HostRuntime) -> Result<(), Fail> {
-    assert_rows(&rt, rt.alloc(), ROWS, |alloc, row| answer(&rt, alloc, row))
+    assert_rows(rt.alloc(), ROWS, |alloc, row| answer(&rt, alloc, row))
 }

@@ -80,7 +80,7 @@ fn answer_when_linked(alloc: Global, row: &Row) -> Result<Vec<u8>, AllocError> {
 
 #[test]
 fn links_are_again_those_that_units_ask_for(rt: HostRuntime) -> Result<(), Fail> {
-    assert_rows(&rt, rt.alloc(), REENABLE_ROWS, answer_when_linked)
+    assert_rows(rt.alloc(), REENABLE_ROWS, answer_when_linked)
 }
 
 fn answer_with_presets(alloc: Global, row: &Row) -> Result<Vec<u8>, AllocError> {
@@ -89,5 +89,5 @@ fn answer_with_presets(alloc: Global, row: &Row) -> Result<Vec<u8>, AllocError> 
 
 #[test]
 fn preset_files_say_which_units_are_enabled(rt: HostRuntime) -> Result<(), Fail> {
-    assert_rows(&rt, rt.alloc(), PRESET_ROWS, answer_with_presets)
+    assert_rows(rt.alloc(), PRESET_ROWS, answer_with_presets)
 }

@@ -96,5 +96,5 @@ fn answer(alloc: Global, row: &Row) -> Result<Vec<u8>, AllocError> {
 
 #[test]
 fn units_depend_by_links_and_instances_by_those_of_templates(rt: HostRuntime) -> Result<(), Fail> {
-    assert_rows(&rt, rt.alloc(), ROWS, answer)
+    assert_rows(rt.alloc(), ROWS, answer)
 }

@@ -243,7 +243,7 @@ fn answer(alloc: Global, row: &Row) -> Result<Vec<u8>, AllocError> {
 
 #[test]
 fn steps_are_made_or_taken_back(rt: HostRuntime) -> Result<(), Fail> {
-    assert_rows(&rt, rt.alloc(), ROWS, answer)
+    assert_rows(rt.alloc(), ROWS, answer)
 }
 
 const HALF_DONE: &[u8] = b"\
@@ -283,5 +283,5 @@ const HALF_DONE: &[u8] = b"\
 
 #[test]
 fn half_done_is_reported(rt: HostRuntime) -> Result<(), Fail> {
-    assert_rows(&rt, rt.alloc(), HALF_DONE, answer)
+    assert_rows(rt.alloc(), HALF_DONE, answer)
 }

@@ -263,12 +263,7 @@ fn answer(alloc: Global, trees: &Trees, row: &Row) -> Result<Vec<u8>, AllocError
 #[test]
 fn slots_and_what_links_lead_to(rt: HostRuntime) -> Result<(), Fail> {
     let trees = ample!(read_trees(rt.alloc()), AllocError)?;
-    assert_rows(
-        &rt,
-        rt.alloc(),
-        ROWS,
-        |alloc, row| answer(alloc, &trees, row),
-    )
+    assert_rows(rt.alloc(), ROWS, |alloc, row| answer(alloc, &trees, row))
 }
 
 /// Whether a capture in which one call fails reports that, and the root counts one failure; or if

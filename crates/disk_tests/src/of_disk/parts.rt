@@ -245,12 +245,7 @@ fn answer(alloc: Global, whole: &Tree, row: &Row) -> Result<Vec<u8>, AllocError>
 #[test]
 fn paths_and_areas_are_captured(rt: HostRuntime) -> Result<(), Fail> {
     let whole = ample!(tree(rt.alloc(), WHOLE), AllocError)?;
-    assert_rows(
-        &rt,
-        rt.alloc(),
-        ROWS,
-        |alloc, row| answer(alloc, &whole, row),
-    )
+    assert_rows(rt.alloc(), ROWS, |alloc, row| answer(alloc, &whole, row))
 }
 
 /// What is captured while one call fails: word by word, until one fails.

@@ -74,5 +74,5 @@ fn answer(alloc: Global, row: &Row) -> Result<Vec<u8>, AllocError> {
 
 #[test]
 fn rows_are_found_after_a_row(rt: HostRuntime) -> Result<(), Fail> {
-    assert_rows(&rt, rt.alloc(), ROWS, answer)
+    assert_rows(rt.alloc(), ROWS, answer)
 }

@@ -171,7 +171,6 @@ fn run_answer(alloc: Global, trees: &Trees, row: &Row) -> Result<Vec<u8>, AllocE
 fn runs_end_in_each_way(rt: HostRuntime) -> Result<(), Fail> {
     let trees = ample!(Trees::new(rt.alloc()), AllocError)?;
     assert_rows(
-        &rt,
         rt.alloc(),
         RUNS,
         |alloc, row| run_answer(alloc, &trees, row),
@@ -214,7 +213,6 @@ fn finish_answer(alloc: Global, trees: &Trees, row: &Row) -> Result<Vec<u8>, All
 fn recoveries_end_in_each_way(rt: HostRuntime) -> Result<(), Fail> {
     let trees = ample!(Trees::new(rt.alloc()), AllocError)?;
     assert_rows(
-        &rt,
         rt.alloc(),
         FINISHES,
         |alloc, row| finish_answer(alloc, &trees, row),

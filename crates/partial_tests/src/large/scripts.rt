@@ -117,12 +117,7 @@ fn answer(alloc: Global, units: &Tree, row: &Row) -> Result<Vec<u8>, AllocError>
 #[test]
 fn replies_are_those_on_all(rt: HostRuntime) -> Result<(), Fail> {
     let units = tree(rt.alloc(), UNITS)?;
-    assert_rows(
-        &rt,
-        rt.alloc(),
-        ROWS,
-        |alloc, row| answer(alloc, &units, row),
-    )
+    assert_rows(rt.alloc(), ROWS, |alloc, row| answer(alloc, &units, row))
 }
 
 /// A script that lists a directory and looks at several paths.

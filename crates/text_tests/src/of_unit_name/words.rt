@@ -97,5 +97,5 @@ fn answer(alloc: Global, row: &Row) -> Result<Vec<u8>, AllocError> {
 
 #[test]
 fn names_take_instances_and_expand_words(rt: HostRuntime) -> Result<(), Fail> {
-    assert_rows(&rt, rt.alloc(), ROWS, answer)
+    assert_rows(rt.alloc(), ROWS, answer)
 }
