@@ -11,6 +11,7 @@ use root_histories::{Context, Failure, KeptRoot, refused_word};
 use root_reports::{choose_all, left_out_text, units_in_mode};
 use root_runs::CallWords;
 use root_words::RowsOf;
+use script_words::push_escaped;
 use std::alloc::{AllocError, Global};
 use unit_lists::Mode;
 use unit_script::{Action, Call, call_of_line, words_of};
@@ -252,26 +253,10 @@ pub fn lines_of_calls(
     Ok(text)
 }
 
-fn push_escaped_byte(text: &mut Vec<u8>, b: u8) -> Result<(), AllocError> {
-    if b == b'\n' {
-        text.extend_from_slice(b"\\n")
-    } else if b == b'\t' {
-        text.extend_from_slice(b"\\t")
-    } else if b == b' ' {
-        text.extend_from_slice(b"\\s")
-    } else if b == b'\\' {
-        text.extend_from_slice(b"\\\\")
-    } else {
-        Ok(text.push(b)?)
-    }
-}
-
 /// The text of a file as a word of a line.
 fn escaped(alloc: Global, bytes: &[u8]) -> Result<Vec<u8>, AllocError> {
     let mut text = Vec::new(alloc);
-    for b in bytes {
-        push_escaped_byte(&mut text, *b)?;
-    }
+    push_escaped(&mut text, bytes)?;
     Ok(text)
 }
 
