@@ -27,7 +27,7 @@ _unitroot() {
     case $word in
       --root=*) root=${word#--root=} ;;
       --root | --as | --rows | --unit | --operator | --since | --lines | --with | --max | \
-        --history | --preset-mode | --type | --state | -n | -t) option=$word= ;;
+        --history | --preset-mode | --type | --state | --legend | -n | -t) option=$word= ;;
       -*) ;;
       *) [ -n "$command" ] || command=$word ;;
     esac
@@ -49,9 +49,10 @@ _unitroot() {
       ;;
     --state)
       values='masked masked-runtime alias enabled enabled-runtime linked linked-runtime static'
-      values+=' indirect disabled'
+      values+=' indirect disabled bad'
       ;;
     --legend) values='yes no' ;;
+    --as | --operator | --since | --lines | --with | --max | -n) return ;;
   esac
   if [ -n "$values" ]; then
     mapfile -t COMPREPLY < <(compgen -W "$values" -- "$cur")

@@ -76,6 +76,9 @@ def cases(other):
          {}),
         ('there is a history already: keep --anew begins again', 'keep', nothing, ('keep',),
          'there is a history already: keep --anew begins again\n', {}),
+        ('the root has a history of its own: forget removes it', 'keep --history', nothing,
+         ('keep', '--history=%s/second' % other),
+         'the root has a history of its own: forget removes it\n', {}),
         ('DIR: a link instead of the directory of a history', 'in the root', moved_behind_a_link,
          MASK,
          '%s: a link instead of the directory of a history\n' % HOME, {}),
@@ -179,6 +182,10 @@ def messages(unitroot, unitadm, room, is_slow):
     of_modes(unitroot, room)
     of_two_roots(unitroot, room)
     of_a_disk(unitroot, room, base)
+    of_a_mounted_directory(unitroot, copied(base, '%s/mounted' % room))
+    of_an_odd_entry(unitroot, copied(base, '%s/odd' % room))
+    if not is_slow:
+        of_lengths(unitroot, room, base)
     of_no_line(unitroot, room, base)
     for name in ('messages', 'promised', 'meanwhile', 'elsewhere'):
         as_unitadm(unitroot, unitadm, '%s/%s' % (room, name),
@@ -207,6 +214,7 @@ def of_promises(unitroot, room, base):
     before = whole(gone)
     refused(unitroot.on(gone, *MASK), 1, 'a run is promised, but its history is gone', gone, before,
             'message: a run is promised, but its history is gone: without history')
+    of_a_lost_history(unitroot, copied(gone, '%s/lost' % room), tracer)
     of_a_damaged_promise(unitroot, copied(root, '%s/damaged' % room))
     applied = copied(root, '%s/applied' % room)
     ended = unitroot.on(applied, 'apply', given=unitroot.on(applied, 'capture')[1])
@@ -217,6 +225,28 @@ def of_promises(unitroot, room, base):
     hold(ended[0] == 0 and 'finished a run of ' in ended[2] and not os.path.lexists(root + PROMISE),
          'the next run that changes something finishes it', ended)
     of_others_meanwhile(unitroot, room, base, tracer)
+    of_others_after_their_rows(unitroot, room, base, tracer)
+
+
+def of_a_lost_history(unitroot, root, tracer):
+    """A run is promised, and its history is gone: keep --anew is the remedy, also if it is killed."""
+    calls = unitroot.disturbed(tracer, copied(root, root + '-first'), 0, 'kill', 'keep', '--anew')[1]
+    numbers = [int(call[0]) for call in calls if call[1] in ('rename', 'unlink', 'fsync')]
+    for number in numbers:
+        killed = copied(root, '%s-%d' % (root, number))
+        unitroot.disturbed(tracer, killed, number, 'kill', 'keep', '--anew')
+        left = os.path.lexists(killed + HISTORY) or os.path.lexists(killed + PROMISE)
+        ended = unitroot.on(killed, 'keep', '--anew')
+        hold(left and ended[0] == 0,
+             'keep --anew is killed before its call %d, and made again' % number, (left, ended))
+        rid_of(killed)
+    ended = unitroot.on(root, 'keep', '--anew')
+    said = "unitroot: a run was promised whose history can't be read: it is not finished\n"
+    hold(ended[0] == 0 and said in ended[2] and not os.path.lexists(root + PROMISE)
+         and os.path.isfile(root + HISTORY) and not os.path.lexists(root + HISTORY + '.1'),
+         'keep --anew begins a history if the one so far is gone', ended)
+    ended = unitroot.on(root, *MASK)
+    hold(ended[0] == 0, 'a run on a history that began when the one so far was gone', ended)
 
 
 def of_a_damaged_promise(unitroot, root):
@@ -246,6 +276,28 @@ def of_others_meanwhile(unitroot, room, base, tracer):
     ended = unitroot.on(root, *MASK)
     hold(ended[0] == 0 and 'others changed the root since the last run: ' in ended[2],
          'what was left is of others in the next run', ended)
+
+
+def of_others_after_their_rows(unitroot, room, base, tracer):
+    """A run is killed after it has promised the rows of others, who then change it all back."""
+    first, root = copied(base, '%s/rows-first' % room), copied(base, '%s/rows' % room)
+    link, unit = ['%s%s/%s.service' % (root, ETC, name) for name in ('cron', 'others')]
+    for one in (first, root):
+        os.unlink('%s%s/cron.service' % (one, ETC))
+    calls = unitroot.disturbed(tracer, first, 0, 'kill', 'mask', 'ssh')[1]
+    number = [int(call[0]) for call in calls if call[1] == 'rename' and call[4] == 'history.next'][0]
+    unitroot.disturbed(tracer, root, number, 'kill', 'mask', 'ssh')
+    hold(os.path.lexists(root + PROMISE), 'a run is killed once it has promised the rows of others')
+    os.symlink('/dev/null', link)
+    with open(unit, 'w') as it:
+        it.write('[Unit]\n')
+    ended = unitroot.on(root, 'recover')
+    hold(ended == (0, '', 'unitroot: finished writing the history: 1 row by outside\n')
+         and os.path.lexists(link) and os.path.isfile(unit),
+         'what others changed after a run had written what they did is left', ended)
+    ended = unitroot.on(root, *MASK)
+    hold(ended[0] == 0 and ': rows 3 to 4 by outside\n' in ended[2],
+         'what others changed after that has rows of its own', ended)
 
 
 def of_a_bad_call(unitroot, room, base):
@@ -383,6 +435,50 @@ def of_a_disk(unitroot, room, base):
              'a question on a read-only kept root', ended)
     finally:
         os.system('umount %s' % root)
+
+
+def of_a_mounted_directory(unitroot, root):
+    """A directory that a run has emptied, and that can't be removed."""
+    title = 'an emptied directory that is a mount point stays'
+    wants = '%s%s/multi-user.target.wants' % (root, ETC)
+    unitroot.on(root, 'enable', 'ssh')
+    if os.geteuid() or os.system('mount --bind %s %s 2>/dev/null' % (wants, wants)):
+        skipped(title, 'no mount')
+        return
+    try:
+        ended = unitroot.on(root, 'disable', 'ssh')
+        hold(ended[0] == 0 and not os.listdir(wants) and not os.path.lexists(root + PROMISE),
+             title, ended)
+    finally:
+        os.system('umount %s' % wants)
+
+
+def of_an_odd_entry(unitroot, root):
+    """A directory at a slot that no call looks at."""
+    os.makedirs('%s/run/systemd/system/odd.service' % root)
+    before = whole(root)
+    refused(unitroot.on(root, *MASK), 1, 'odd.service: a directory instead of a unit', root, before,
+            'on a root with a history an odd entry anywhere stops a run')
+
+
+def of_lengths(unitroot, room, base):
+    """No history is written that a later run could not read."""
+    root = copied(base, '%s/too-long' % room)
+    script = 'anna mask cron.service\n' * 100000
+    before = whole(root)
+    refused(unitroot.on(root, 'run', given=script), 1, 'over 100,000 rows in the history', root,
+            before, 'a run whose history would be too long is not made')
+    ended = unitroot.on(root, 'run', given=script[len('anna mask cron.service\n'):])
+    hold(ended[0] == 0, 'a run whose history has the most rows is made', ended[2])
+    large = small(room, 'too-large')
+    for number in range(65):
+        with open('%s%s/large-%d.service' % (large, ETC, number), 'w') as it:
+            it.write('#' * (1 << 20))
+    before = whole(large)
+    refused(unitroot.on(large, 'keep'), 1, 'over 67108864 bytes in the history: ', large, before,
+            'a history that would be too large is not begun')
+    rid_of(large)
+    rid_of(root)
 
 
 def of_no_line(unitroot, room, base):

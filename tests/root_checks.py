@@ -9,8 +9,9 @@ ETC = '/etc/systemd/system'
 VENDOR = '/usr/lib/systemd/system'
 DIRECTORIES = (ETC, '/run/systemd/system', '/usr/local/lib/systemd/system', VENDOR)
 passed = failed = 0
-# The titles of all checks so far, also of those that were skipped.
+# The titles of all checks so far, also of those that were skipped, and those alone.
 titles = set()
+not_run = []
 
 
 def hold(well, title, more=''):
@@ -24,6 +25,7 @@ def hold(well, title, more=''):
 
 def skipped(title, why):
     titles.add(title)
+    not_run.append(title)
     print('skipped: %s: %s' % (title, why))
 
 
@@ -125,5 +127,6 @@ def controls(text):
 
 def end():
     """Ends a test with its last line and its status."""
-    print('%d passed, %d failed' % (passed, failed))
+    left = ', %d skipped: %s' % (len(not_run), '; '.join(not_run)) if not_run else ''
+    print('%d passed, %d failed%s' % (passed, failed, left))
     sys.exit(1 if failed else 0)

@@ -2,7 +2,7 @@
 use Rattle.std.proofs.Common.{true, [], Contains, refl}
 use Rattle.std.proofs.lemmas.List.Elements.{All-nil}
 use Rattle.footprint.specs.declared.answer.Answer.{Answer}
-use Rattle.footprint.specs.declared.key.Key.TheVariants.{Cell}
+use Rattle.tree_access.specs.declared.key.Key.TheVariants.{Cell}
 use Rattle.footprint.specs.Inquiry.{Inquiry, giving}
 use Rattle.footprint.specs.Operations.{OperationLaws}
 use Rattle.footprint.proofs.ThenLaws.{no_changes}

@@ -5,12 +5,12 @@ use Rattle.std.proofs.lemmas.List.Elements.{All-nil}
 use Rattle.unit_file.specs.Notices.{NoticeMap}
 use Rattle.link_tree.specs.Trees.{Entries}
 use Rattle.link_tree.proofs.Leads.{changes_at}
-use Rattle.footprint.specs.declared.key.Key.{Key}
-use Rattle.footprint.specs.declared.key.Key.TheVariants.{Cell}
-use Rattle.footprint.specs.Commands.{Command, silent, carried_out}
+use Rattle.tree_access.specs.declared.key.Key.{Key}
+use Rattle.tree_access.specs.declared.key.Key.TheVariants.{Cell}
+use Rattle.footprint.specs.Commands.{Command, silent, carried_out, effect}
 use Rattle.footprint.specs.Operations.{AreChanges, OperationLaws, is_refused}
-use Rattle.footprint.specs.Placing.{Ruling, placed_in, effect, IsLookedAt}
-use Rattle.footprint.specs.PlacingLaws.{differs_at_key, looked_before}
+use Rattle.tree_access.specs.Placing.{Ruling, placed_in, IsLookedAt}
+use Rattle.tree_access.proofs.PlacingLaws.{differs_at_key, looked_before}
 use Rattle.footprint.specs.Steps.{Step}
 use Rattle.footprint.proofs.ThenLaws.{no_changes, changes_between_are}
 

@@ -3,12 +3,13 @@ use Rattle.std.proofs.Common.{◌≡◌, Bool, List, sym, ap, subst, ◌∙◌}
 use Rattle.link_tree.specs.declared.change.Change.{Change}
 use Rattle.link_tree.specs.Trees.{Entries, AreFrom, after_changes, inverse_of}
 use Rattle.link_tree.proofs.Changed.{inverse_undoes, inverse_from}
-use Rattle.footprint.specs.Keys.{Untouched}
+use Rattle.tree_access.specs.Keys.{Untouched}
 use Rattle.footprint.specs.Inquiry.{Inquiry}
 use Rattle.footprint.specs.Operations.{Effect, outcome_of, OperationLaws}
 use Rattle.footprint.specs.Laws.{MayChangePlaces}
-use Rattle.footprint.proofs.Outcomes.{outcome_agrees, untouched_keys}
-use Rattle.footprint.proofs.Untouched.{agree_on_untouched, untouched-inverse, apart_from, changes_apart}
+use Rattle.footprint.proofs.Outcomes.{outcome_agrees}
+use Rattle.tree_access.proofs.ReadingKeys.{untouched_keys}
+use Rattle.tree_access.proofs.Untouched.{agree_on_untouched, untouched-inverse, apart_from, changes_apart}
 
 module _ {A B : Type 0} {asks_a : A → Bool} {asks_b : B → Bool} {first : A → Inquiry Effect} {second : B → Inquiry Effect} where
   pub may_change_places : OperationLaws asks_a first → OperationLaws asks_b second → MayChangePlaces first second

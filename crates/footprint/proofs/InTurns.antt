@@ -4,8 +4,8 @@ use Rattle.std.proofs.lemmas.Bool.{true≢false}
 use Rattle.std.proofs.lemmas.List.Elements.{All-nil, All-weaker, Contains-append_right}
 use Rattle.link_tree.specs.Trees.{Entries}
 use Rattle.footprint.specs.declared.answer.Answer.TheVariants.{Refused}
-use Rattle.footprint.specs.declared.key.Key.TheVariants.{Cell}
-use Rattle.footprint.specs.declared.refusal.Refusal.{Refusal}
+use Rattle.tree_access.specs.declared.key.Key.TheVariants.{Cell}
+use Rattle.tree_access.specs.declared.refusal.Refusal.{Refusal}
 use Rattle.footprint.specs.Commands.{Command, carried_out}
 use Rattle.footprint.specs.Inquiry.{Inquiry, over, ◌>>=◌}
 use Rattle.footprint.specs.Operations.{Effect, AreChanges, OperationLaws, is_refused}

@@ -1,11 +1,5 @@
-pub mod Those
-pub mod Parts
 pub mod Alike
-pub mod KeySets
 pub mod Outcomes
-pub mod Merged
-pub mod LookedUp
-pub mod Gathered
 pub mod NetLaws
 pub mod ThenLaws
 pub mod Carried
@@ -14,6 +8,4 @@ pub mod InTurns
 pub mod Turns
 pub mod Wishes
 pub mod Noted
-pub mod Agreed
-pub mod Untouched
 pub mod Commute

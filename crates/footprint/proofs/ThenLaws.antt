@@ -16,10 +16,10 @@ use Rattle.link_tree.proofs.Differences.{differences-same, same-itself, same_is}
 use Rattle.link_tree.proofs.Leads.{leads, changes_at}
 use Rattle.footprint.specs.declared.answer.Answer.{Answer}
 use Rattle.footprint.specs.declared.answer.Answer.TheVariants.{Done, State, Name, Names, Refused}
-use Rattle.footprint.specs.declared.key.Key.{Key}
-use Rattle.footprint.specs.declared.key.Key.TheVariants.{Cell}
+use Rattle.tree_access.specs.declared.key.Key.{Key}
+use Rattle.tree_access.specs.declared.key.Key.TheVariants.{Cell}
 use Rattle.footprint.specs.Inquiry.{Inquiry, over, giving, after}
-use Rattle.footprint.specs.KeyLaws.{is_changed, unchanged, at_changed}
+use Rattle.tree_access.proofs.KeyLaws.{is_changed, unchanged, at_changed}
 use Rattle.footprint.specs.Net.{net}
 use Rattle.footprint.specs.Operations.{Effect, AreChanges, OperationLaws, is_refused}
 use Rattle.footprint.specs.Then.{answer_of_both, effect_of_both, followed_by}

@@ -1,9 +1,9 @@
 -- Arguments that are processed one after another, each in the tree that the earlier ones left.
 use Rattle.std.proofs.Common.{◌≡◌, List, [], ◌∷◌, ◌++◌, Result, Ok, Err, refl, ap, ◌∙◌}
 use Rattle.link_tree.specs.Trees.{Entries, set_entry}
-use Rattle.footprint.specs.declared.key.Key.{Key}
-use Rattle.footprint.specs.declared.refusal.Refusal.{Refusal}
-use Rattle.footprint.specs.Placing.{Placed, Ruling, placed_in, placed_before, concluded_after, keys_after}
+use Rattle.tree_access.specs.declared.key.Key.{Key}
+use Rattle.tree_access.specs.declared.refusal.Refusal.{Refusal}
+use Rattle.tree_access.specs.Placing.{Placed, Ruling, placed_in, placed_before, concluded_after, keys_after}
 use Rattle.footprint.specs.Steps.{Step, each_in_turn}
 
 -- the tree that a ruling leaves, or the refusal

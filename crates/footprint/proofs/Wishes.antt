@@ -14,9 +14,9 @@ use Rattle.link_tree.proofs.Changed.{is_at, get-set_entry}
 use Rattle.link_tree.proofs.Keys.{same-found}
 use Rattle.link_tree.proofs.Maps.{first, second, less, none_some, none_below, found_later}
 use Rattle.link_tree.proofs.Shapes.{same_key}
-use Rattle.footprint.specs.declared.refusal.Refusal.{Refusal}
+use Rattle.tree_access.specs.declared.refusal.Refusal.{Refusal}
 use Rattle.footprint.specs.Laws.{IsRefusedAt, RefusedAtTheLeast, IsLeft, LeftAllAtOnce}
-use Rattle.footprint.specs.Placing.{Placed, Ruling, Wanted, placed_in, ruled_at, placed_before, concluded_after, wanted_at, all_wanted}
+use Rattle.tree_access.specs.Placing.{Placed, Ruling, Wanted, placed_in, ruled_at, placed_before, concluded_after, wanted_at, all_wanted}
 
 -- a path, and what is wanted there
 abbrev pub Link : Type 0

@@ -6,11 +6,11 @@ use Rattle.link_tree.specs.declared.change.Change.{Change}
 use Rattle.link_tree.specs.declared.entry.Entry.{Entry}
 use Rattle.link_tree.specs.Trees.{Entries, after_changes}
 use Rattle.load_path.specs.Search.{Search, look as look_at_cell}
-use Rattle.footprint.specs.declared.key.Key.{Key}
-use Rattle.footprint.specs.declared.key.Key.TheVariants.{Cell}
-use Rattle.footprint.specs.declared.reading.Seen.{Seen}
-use Rattle.footprint.specs.Keys.{seen, those, any_selects, part, Agree, AgreeOn}
-use Rattle.footprint.specs.KeyLaws.{same_cells, same_part, same_any, agree_at, agree_on_after, both_agree}
+use Rattle.tree_access.specs.declared.key.Key.{Key}
+use Rattle.tree_access.specs.declared.key.Key.TheVariants.{Cell}
+use Rattle.tree_access.specs.declared.reading.Seen.{Seen}
+use Rattle.tree_access.specs.Keys.{seen, those, any_selects, part, Agree, AgreeOn}
+use Rattle.tree_access.proofs.KeyLaws.{same_cells, same_part, same_any, agree_at, agree_on_after, both_agree}
 
 -- The result of an inquiry in a tree; the keys that it looks at, in order; and a proof that the
 -- result and the keys are the same in each tree that agrees on the keys.

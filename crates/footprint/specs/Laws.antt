@@ -5,13 +5,13 @@ use Rattle.std.specs.FinMap as map
 use Rattle.link_tree.specs.declared.change.Change.{Change}
 use Rattle.link_tree.specs.declared.entry.Entry.{Entry}
 use Rattle.link_tree.specs.Trees.{path_cmp, Entries, AreFrom, after_changes, inverse_of}
-use Rattle.footprint.specs.declared.refusal.Refusal.{Refusal}
-use Rattle.footprint.specs.declared.key.Key.{Key}
-use Rattle.footprint.specs.Keys.{Agree, AgreeOn, Untouched}
+use Rattle.tree_access.specs.declared.refusal.Refusal.{Refusal}
+use Rattle.tree_access.specs.declared.key.Key.{Key}
+use Rattle.tree_access.specs.Keys.{Agree, AgreeOn, Untouched}
 use Rattle.footprint.specs.Inquiry.{Inquiry}
 use Rattle.footprint.specs.Operations.{Effect, outcome_of}
-use Rattle.footprint.specs.Placing.{Placed, Wanted, wanted_at, placed_in}
-use Rattle.footprint.specs.Readings.{keys_of}
+use Rattle.tree_access.specs.Placing.{Placed, Wanted, wanted_at, placed_in}
+use Rattle.tree_access.specs.Readings.{keys_of}
 use Rattle.footprint.specs.Steps.{all_at_once}
 
 -- Trees that agree on a key still agree on it after the same changes.

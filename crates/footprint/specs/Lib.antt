@@ -1,16 +1,5 @@
-pub mod Keys
-pub mod Order
-pub mod OrderLaws
-pub mod Readings
-pub mod Merging
-pub mod Seeing
-pub mod KeyLaws
 pub mod Inquiry
 pub mod Operations
-pub mod Rules
-pub mod Placing
-pub mod PlacingLaws
-pub mod WantedLaws
 pub mod Steps
 pub mod Units
 pub mod Commands

@@ -5,10 +5,10 @@ use Rattle.link_tree.specs.declared.change.Change.{Change}
 use Rattle.link_tree.specs.Trees.{path_cmp, Entries, AreFrom}
 use Rattle.footprint.specs.declared.answer.Answer.{Answer}
 use Rattle.footprint.specs.declared.answer.Answer.TheVariants.{Done, Refused}
-use Rattle.footprint.specs.declared.key.Key.TheVariants.{Cell}
+use Rattle.tree_access.specs.declared.key.Key.TheVariants.{Cell}
 use Rattle.footprint.specs.declared.outcome.Outcome.{Outcome}
 use Rattle.footprint.specs.Inquiry.{Inquiry}
-use Rattle.footprint.specs.Readings.{reading_of}
+use Rattle.tree_access.specs.Readings.{reading_of}
 
 -- what an operation answers, and what it changes
 pub record Effect : Type 0 where

@@ -3,16 +3,16 @@
 use Rattle.std.specs.FinMap as map
 use Rattle.std.specs.Prelude.{◌≡◌, ℕ, List, [], ◌∷◌, ◌++◌, map as list_map, Result, Ok, Err}
 use Rattle.link_tree.specs.Trees.{Entries}
-use Rattle.footprint.specs.declared.key.Key.{Key}
-use Rattle.footprint.specs.declared.key.Key.TheVariants.{Cell}
-use Rattle.footprint.specs.declared.refusal.Refusal.{Refusal}
+use Rattle.tree_access.specs.declared.key.Key.{Key}
+use Rattle.tree_access.specs.declared.key.Key.TheVariants.{Cell}
+use Rattle.tree_access.specs.declared.refusal.Refusal.{Refusal}
 use Rattle.footprint.specs.Inquiry.{Inquiry, over, giving, stands_at}
-use Rattle.footprint.specs.Keys.{AgreeOn}
-use Rattle.footprint.specs.KeyLaws.{both_agree}
-use Rattle.footprint.specs.Placing.{Ruling, IsLookedAt, ruled_at, concluded_after, keys_after, Wanted, all_wanted}
-use Rattle.footprint.specs.PlacingLaws.{none_looked_at, path_looked_at, looked_before, agreement_after, looked_after}
-use Rattle.footprint.specs.Rules.{Rule}
-use Rattle.footprint.specs.WantedLaws.{all_wanted_agree, all_wanted_looked_at}
+use Rattle.tree_access.specs.Keys.{AgreeOn}
+use Rattle.tree_access.proofs.KeyLaws.{both_agree}
+use Rattle.tree_access.specs.Placing.{Ruling, IsLookedAt, ruled_at, concluded_after, keys_after, Wanted, all_wanted}
+use Rattle.tree_access.proofs.PlacingLaws.{none_looked_at, path_looked_at, looked_before, agreement_after, looked_after}
+use Rattle.tree_access.specs.Rules.{Rule}
+use Rattle.tree_access.proofs.WantedLaws.{all_wanted_agree, all_wanted_looked_at}
 
 -- A step of a command is an inquiry that determines what is wanted at which paths, or the reason to
 -- refuse, and that looks at the cell of each path at which something is placed.

@@ -8,7 +8,7 @@ use Rattle.footprint.specs.declared.outcome.Outcome.{Outcome}
 use Rattle.footprint.specs.Inquiry.{Inquiry, over, giving, after, ◌>>=◌}
 use Rattle.footprint.specs.Net.{net}
 use Rattle.footprint.specs.Operations.{Effect, is_refused}
-use Rattle.footprint.specs.Readings.{keys_of, reading_of}
+use Rattle.tree_access.specs.Readings.{keys_of, reading_of}
 
 -- the answer of the second, with the notices of both if both are done
 abbrev pub answer_of_both : (first second : Answer) → Answer

@@ -5,9 +5,9 @@ use Rattle.link_tree.specs.Trees.{Entries}
 use Rattle.load_path.specs.declared.finding.Found.{Found}
 use Rattle.load_path.specs.declared.finding.Found.TheVariants as founds
 use Rattle.load_path.specs.Find.{find}
-use Rattle.footprint.specs.declared.refusal.Subject.TheVariants.{Unit}
-use Rattle.footprint.specs.declared.refusal.Refusal.{Refusal}
-use Rattle.footprint.specs.declared.refusal.Refusal.TheVariants.{NotFound, Masked, Dangling}
+use Rattle.tree_access.specs.declared.refusal.Subject.TheVariants.{Unit}
+use Rattle.tree_access.specs.declared.refusal.Refusal.{Refusal}
+use Rattle.tree_access.specs.declared.refusal.Refusal.TheVariants.{NotFound, Masked, Dangling}
 use Rattle.footprint.specs.Inquiry.{by_cells, giving}
 use Rattle.footprint.specs.Steps.{Step, unless_refused, ◌>>=◌}
 

@@ -1,9 +1,9 @@
 //! The answers of operations.
 ghost use Rattle.std.specs.Prelude.{◌≡◌, IfOk};
 
-use crate::refusal::Refusal;
 use crate::units::Units;
 use std::alloc::AllocError;
+use tree_access::Refusal;
 use unit_file::Notices;
 use unit_name::UnitName;
 

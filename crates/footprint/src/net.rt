@@ -12,6 +12,7 @@ use link_tree::{Change, Entry, Tree, TreePath, copy_of};
 use std::alloc::{AllocError, Global};
 use std::collections::BTreeMap;
 use std::marker::Model;
+use tree_access::copied;
 
 /// Changes from a first tree to a later one, at most one for each path. Contracts see a finite map.
 #[derive(Drop)]
@@ -41,16 +42,6 @@ fn same(one: Option<&Entry>, other: Option<&Entry>) -> bool
         (None, None) => true,
         (Some(one), Some(other)) => one.same(other),
         _ => false,
-    }
-}
-
-/// A copy of the entry, or `None` if there is none.
-pub(crate) fn copied(entry: Option<&Entry>) -> Result<Option<Entry>, AllocError>
-    ensures { IfOk result (λ copy. copy ≡ option_copied entry.entry) }
-{
-    match entry {
-        Some(entry) => Ok(Some(entry.copy()?)),
-        None => Ok(None),
     }
 }
 

@@ -2,7 +2,7 @@
 
 use crate::answer::Answer;
 use crate::changes::Changes;
-use crate::reading::Reading;
+use tree_access::Reading;
 
 /// The outcome of an operation on a tree: its answer, what it would change there, and what it
 /// looked at. The tree itself stays as it is.

@@ -1,7 +1,7 @@
 //! Two operations, one after the other.
 ghost use Rattle.std.specs.Prelude.{◌≡◌, [], if◌then◌else◌, IfOk, OnOk};
 ghost use Rattle.link_tree.specs.Trees.{after_changes};
-ghost use Rattle.footprint.specs.Merging.{IsReading};
+ghost use Rattle.tree_access.specs.Merging.{IsReading};
 ghost use Rattle.footprint.specs.Net.{net};
 ghost use Rattle.footprint.specs.Operations.{AreChanges, is_refused};
 ghost use Rattle.footprint.specs.Then.{answer_of_both, outcome_of_both};
@@ -10,10 +10,10 @@ use crate::answer::Answer;
 use crate::changes::Changes;
 use crate::net::net_changes;
 use crate::outcome::Outcome;
-use crate::reading::Reading;
 use link_tree::Tree;
 use std::alloc::{AllocError, Global};
 use std::mem::replace;
+use tree_access::Reading;
 
 impl Answer {
     /// Whether nothing was done.
@@ -94,7 +94,7 @@ impl Outcome {
         self.answer.follow(answer)?;
         self.changes = changes_of_both(alloc, tree, &changes, &self.changes, refused)?;
         let later = replace(&mut self.reading, Reading::none(alloc));
-        self.reading = reading.and_then(alloc, tree, &changes, later)?;
+        self.reading = reading.and_then(alloc, tree, changes.as_slice(), later)?;
         Ok(())
     }
 }

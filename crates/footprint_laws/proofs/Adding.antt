@@ -13,9 +13,9 @@ use Rattle.load_path.specs.Find.{find}
 use Rattle.install_section.specs.Sections.{section_by, section_of}
 use Rattle.install_section.proofs.Least.{is_first, first_or_later}
 use Rattle.install_section.proofs.LooksAsFind.{looks_as_find}
-use Rattle.footprint.specs.declared.key.Key.{Key}
-use Rattle.footprint.specs.declared.key.Key.TheVariants.{Cell}
-use Rattle.footprint.specs.declared.refusal.Refusal.{Refusal}
+use Rattle.tree_access.specs.declared.key.Key.{Key}
+use Rattle.tree_access.specs.declared.key.Key.TheVariants.{Cell}
+use Rattle.tree_access.specs.declared.refusal.Refusal.{Refusal}
 use Rattle.footprint.specs.Steps.{unless_refused}
 use Rattle.footprint.specs.Units.{IsFound, found_unit}
 use Rattle.footprint.proofs.Turns.{keys_in_turn, all_keys}

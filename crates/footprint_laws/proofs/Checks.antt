@@ -4,9 +4,9 @@ use Rattle.std.proofs.lemmas.List.Elements.{All-nil, All-cons, All-head, All-tai
 use Rattle.link_tree.specs.Trees.{Entries}
 use Rattle.load_path.specs.Find.{find}
 use Rattle.install_section.specs.Closure.{IsUnit}
-use Rattle.footprint.specs.declared.key.Key.{Key}
-use Rattle.footprint.specs.declared.key.Key.TheVariants.{Cell}
-use Rattle.footprint.specs.declared.refusal.Refusal.{Refusal}
+use Rattle.tree_access.specs.declared.key.Key.{Key}
+use Rattle.tree_access.specs.declared.key.Key.TheVariants.{Cell}
+use Rattle.tree_access.specs.declared.refusal.Refusal.{Refusal}
 use Rattle.footprint.specs.Commands.{silent, taken, unless_refused}
 use Rattle.footprint.specs.Steps.{nothing}
 use Rattle.install_commands.specs.declared.check.Check.{Check}

@@ -9,9 +9,9 @@ use Rattle.load_path.specs.declared.finding.Found.TheVariants as founds
 use Rattle.load_path.specs.Find.{find}
 use Rattle.install_section.specs.Sections.{section_of}
 use Rattle.install_section.proofs.LooksAsFind.{looks_as_find}
-use Rattle.footprint.specs.declared.key.Key.{Key}
-use Rattle.footprint.specs.declared.key.Key.TheVariants.{Cell}
-use Rattle.footprint.specs.declared.refusal.Refusal.{Refusal}
+use Rattle.tree_access.specs.declared.key.Key.{Key}
+use Rattle.tree_access.specs.declared.key.Key.TheVariants.{Cell}
+use Rattle.tree_access.specs.declared.refusal.Refusal.{Refusal}
 use Rattle.footprint.specs.Inquiry.{Inquiry, giving}
 use Rattle.footprint.specs.Units.{found_unit}
 use Rattle.install_commands.specs.Check.{going_on}

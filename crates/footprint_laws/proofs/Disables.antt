@@ -6,9 +6,9 @@ use Rattle.link_tree.specs.Trees.{Entries}
 use Rattle.load_path.specs.Find.{find}
 use Rattle.install_section.specs.Closure.{Reached, closure}
 use Rattle.install_section.proofs.Least.{is_first, is_later, first_or_later, none_of}
-use Rattle.footprint.specs.declared.key.Key.{Key}
-use Rattle.footprint.specs.declared.key.Key.TheVariants.{Cell, Marked}
-use Rattle.footprint.specs.declared.refusal.Refusal.{Refusal}
+use Rattle.tree_access.specs.declared.key.Key.{Key}
+use Rattle.tree_access.specs.declared.key.Key.TheVariants.{Cell, Marked}
+use Rattle.tree_access.specs.declared.refusal.Refusal.{Refusal}
 use Rattle.footprint.specs.Commands.{taken, unless_refused}
 use Rattle.footprint.specs.Operations.{is_refused}
 use Rattle.install_commands.specs.declared.disable.Disable.{Disable}

@@ -15,10 +15,10 @@ use Rattle.install_section.specs.Wanted.{with_section, all_wants, no_wants, want
 use Rattle.install_section.proofs.Least.{none_of, is_first, is_later, closure_least}
 use Rattle.install_section.proofs.LooksAsFind.{looks_as_find}
 use Rattle.footprint.specs.declared.answer.Answer.TheVariants.{Refused}
-use Rattle.footprint.specs.declared.key.Key.{Key}
-use Rattle.footprint.specs.declared.key.Key.TheVariants.{Cell}
-use Rattle.footprint.specs.declared.refusal.Refusal.{Refusal}
-use Rattle.footprint.specs.declared.refusal.Refusal.TheVariants.{TooMany}
+use Rattle.tree_access.specs.declared.key.Key.{Key}
+use Rattle.tree_access.specs.declared.key.Key.TheVariants.{Cell}
+use Rattle.tree_access.specs.declared.refusal.Refusal.{Refusal}
+use Rattle.tree_access.specs.declared.refusal.Refusal.TheVariants.{TooMany}
 use Rattle.footprint.specs.Commands.{taken, unless_refused, carried_out}
 use Rattle.footprint.specs.Inquiry.{Inquiry}
 use Rattle.footprint.specs.Operations.{Effect}

@@ -4,9 +4,9 @@ use Rattle.std.proofs.lemmas.Bool.{cases_Bool}
 use Rattle.unit_paths.specs.Slots.{is_slot}
 use Rattle.link_tree.specs.Trees.{Entries}
 use Rattle.install_section.proofs.Least.{is_first}
-use Rattle.footprint.specs.declared.key.Key.{Key}
-use Rattle.footprint.specs.declared.key.Key.TheVariants.{Cell}
-use Rattle.footprint.specs.Rules.{Rule}
+use Rattle.tree_access.specs.declared.key.Key.{Key}
+use Rattle.tree_access.specs.declared.key.Key.TheVariants.{Cell}
+use Rattle.tree_access.specs.Rules.{Rule}
 use Rattle.slot_commands.specs.ByHand.{place_at, remove_at, ruled_slot, place_meaning, remove_meaning}
 use Rattle.footprint_laws.specs.Slots.{PlaceKeys, PlaceLooks, RemoveKeys, RemoveLooks}
 use Rattle.footprint_laws.specs.Slots.PlaceKeys.{Slot as PlacedAt}

@@ -10,12 +10,12 @@ use Rattle.std.proofs.lemmas.Map.Views.{Contains-from_any, list_any-from_Contain
 use Rattle.link_tree.specs.Trees.{path_cmp, Entries}
 use Rattle.link_tree.proofs.Shapes.{same_key}
 use Rattle.install_section.proofs.Least.{is_first, is_later, first_or_later, none_of}
-use Rattle.footprint.specs.declared.key.Key.{Key}
-use Rattle.footprint.specs.declared.key.Key.TheVariants.{Cell}
+use Rattle.tree_access.specs.declared.key.Key.{Key}
+use Rattle.tree_access.specs.declared.key.Key.TheVariants.{Cell}
 use Rattle.footprint.specs.Inquiry.{Inquiry}
 use Rattle.footprint.specs.Operations.{Effect}
-use Rattle.footprint.proofs.KeySets.{Contains-in_order, in_order-Contains}
-use Rattle.footprint.proofs.Outcomes.{keys_of_reading}
+use Rattle.tree_access.proofs.KeySets.{Contains-in_order, in_order-Contains}
+use Rattle.tree_access.proofs.ReadingKeys.{keys_of_reading}
 use Rattle.footprint_laws.specs.Sets.{LooksAt}
 
 -- the keys of a reading are those by which it was made

@@ -3,8 +3,8 @@ use Rattle.std.proofs.Common.{◌≡◌, Bool, cond, List, [], ap}
 use Rattle.unit_file.specs.Notices.{NoticeMap}
 use Rattle.link_tree.specs.Trees.{Entries, after_changes}
 use Rattle.footprint.specs.declared.answer.Answer.TheVariants.{Done, Refused}
-use Rattle.footprint.specs.declared.key.Key.{Key}
-use Rattle.footprint.specs.declared.refusal.Refusal.{Refusal}
+use Rattle.tree_access.specs.declared.key.Key.{Key}
+use Rattle.tree_access.specs.declared.refusal.Refusal.{Refusal}
 use Rattle.footprint.specs.Inquiry.{Inquiry, over, giving, after}
 use Rattle.footprint.specs.Operations.{Effect, is_refused}
 use Rattle.footprint.specs.Then.{continued, effect_of_both}

@@ -17,8 +17,8 @@ use Rattle.install_section.proofs.Least.{is_first, is_later, first_or_later, non
 use Rattle.preset_rules.specs.Files.{policy_of, presets_of, rules_behind, rules_at, rules_from, winners}
 use Rattle.preset_rules.proofs.Agreeing.{presets_decide}
 use Rattle.preset_rules.proofs.WinnersFound.{get-presets}
-use Rattle.footprint.specs.declared.key.Key.TheVariants.{Presets}
-use Rattle.footprint.specs.Keys.{part}
+use Rattle.tree_access.specs.declared.key.Key.TheVariants.{Presets}
+use Rattle.tree_access.specs.Keys.{part}
 use Rattle.install_commands.proofs.Verdicts.{presets_part}
 use Rattle.footprint_laws.specs.Installs.{IsPresetEnd}
 

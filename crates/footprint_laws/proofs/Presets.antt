@@ -9,13 +9,13 @@ use Rattle.link_tree.specs.Trees.{Entries, after_changes}
 use Rattle.install_section.proofs.Least.{is_first, is_later, first_or_later}
 use Rattle.preset_rules.specs.Files.{policy_of}
 use Rattle.footprint.specs.declared.answer.Answer.TheVariants.{Done, Refused}
-use Rattle.footprint.specs.declared.key.Key.{Key}
-use Rattle.footprint.specs.declared.key.Key.TheVariants.{Cell, Marked, Presets}
-use Rattle.footprint.specs.declared.refusal.Refusal.{Refusal}
-use Rattle.footprint.specs.declared.refusal.Refusal.TheVariants.{TooMany}
+use Rattle.tree_access.specs.declared.key.Key.{Key}
+use Rattle.tree_access.specs.declared.key.Key.TheVariants.{Cell, Marked, Presets}
+use Rattle.tree_access.specs.declared.refusal.Refusal.{Refusal}
+use Rattle.tree_access.specs.declared.refusal.Refusal.TheVariants.{TooMany}
 use Rattle.footprint.specs.Commands.{taken, unless_refused, carried_out}
 use Rattle.footprint.specs.Inquiry.{Inquiry, over, giving}
-use Rattle.footprint.specs.Keys.{part}
+use Rattle.tree_access.specs.Keys.{part}
 use Rattle.footprint.specs.Operations.{Effect}
 use Rattle.footprint.specs.Then.{continued}
 use Rattle.install_commands.specs.declared.preset.Preset.{Preset}

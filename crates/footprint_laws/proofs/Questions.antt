@@ -16,8 +16,8 @@ use Rattle.install_section.specs.Sections.{section_of}
 use Rattle.install_section.specs.Closure.{IsUnit}
 use Rattle.install_section.proofs.Least.{is_first, is_later, first_or_later, none_of}
 use Rattle.install_section.proofs.LooksAsFind.{looks_as_find}
-use Rattle.footprint.specs.declared.key.Key.{Key}
-use Rattle.footprint.specs.declared.key.Key.TheVariants.{Cell, Marked, Links}
+use Rattle.tree_access.specs.declared.key.Key.{Key}
+use Rattle.tree_access.specs.declared.key.Key.TheVariants.{Cell, Marked, Links}
 use Rattle.states.specs.Dependencies.{dependencies_meaning}
 use Rattle.states.specs.GetDefault.{default_target, get_default_meaning}
 use Rattle.states.specs.IsEnabled.{unit_word, found_word, is_enabled_meaning}

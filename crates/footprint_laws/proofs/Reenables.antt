@@ -9,16 +9,16 @@ use Rattle.load_path.specs.Find.{find}
 use Rattle.install_section.specs.Closure.{IsUnit}
 use Rattle.install_section.proofs.Least.{is_first, is_later, none_of}
 use Rattle.footprint.specs.declared.answer.Answer.TheVariants.{Done, Refused}
-use Rattle.footprint.specs.declared.key.Key.{Key}
-use Rattle.footprint.specs.declared.key.Key.TheVariants.{Cell, Marked}
-use Rattle.footprint.specs.declared.refusal.Refusal.{Refusal}
-use Rattle.footprint.specs.declared.refusal.Refusal.TheVariants.{TooMany}
+use Rattle.tree_access.specs.declared.key.Key.{Key}
+use Rattle.tree_access.specs.declared.key.Key.TheVariants.{Cell, Marked}
+use Rattle.tree_access.specs.declared.refusal.Refusal.{Refusal}
+use Rattle.tree_access.specs.declared.refusal.Refusal.TheVariants.{TooMany}
 use Rattle.footprint.specs.Commands.{taken, unless_refused, carried_out}
 use Rattle.footprint.specs.Inquiry.{Inquiry}
-use Rattle.footprint.specs.KeyLaws.{get-those}
-use Rattle.footprint.specs.Keys.{any_selects, chosen_at}
+use Rattle.tree_access.proofs.KeyLaws.{get-those}
+use Rattle.tree_access.specs.Keys.{any_selects, chosen_at}
 use Rattle.footprint.specs.Operations.{Effect}
-use Rattle.footprint.specs.Placing.{cleared}
+use Rattle.tree_access.specs.Placing.{cleared}
 use Rattle.footprint.specs.Then.{continued}
 use Rattle.install_commands.specs.declared.reenable.Reenable.{Reenable}
 use Rattle.install_commands.specs.Check.{going_on, checked}

@@ -8,12 +8,12 @@ use Rattle.link_tree.specs.declared.entry.Entry.{Entry}
 use Rattle.link_tree.specs.Links.{belongs}
 use Rattle.link_tree.specs.Trees.{Entries}
 use Rattle.install_section.proofs.Least.{is_first, is_later, first_or_later, none_of}
-use Rattle.footprint.specs.declared.key.Key.{Key}
-use Rattle.footprint.specs.declared.key.Key.TheVariants.{Cell, Marked}
+use Rattle.tree_access.specs.declared.key.Key.{Key}
+use Rattle.tree_access.specs.declared.key.Key.TheVariants.{Cell, Marked}
 use Rattle.footprint.specs.Commands.{taken}
-use Rattle.footprint.specs.KeyLaws.{get-those}
-use Rattle.footprint.specs.Keys.{any_selects, chosen_at, those}
-use Rattle.footprint.specs.Placing.{cleared}
+use Rattle.tree_access.proofs.KeyLaws.{get-those}
+use Rattle.tree_access.specs.Keys.{any_selects, chosen_at, those}
+use Rattle.tree_access.specs.Placing.{cleared}
 use Rattle.install_commands.specs.Disable.{links_removed}
 use Rattle.install_commands.proofs.Placed.{bare_of, get-cleared}
 use Rattle.install_commands.proofs.Removal.{is_marked, marked_by, marks}

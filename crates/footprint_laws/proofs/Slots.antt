@@ -17,9 +17,9 @@ use Rattle.load_path.specs.declared.following.End.TheVariants as ends
 use Rattle.load_path.specs.Find.{find}
 use Rattle.load_path.specs.Follow.{follow}
 use Rattle.install_section.proofs.Least.{is_first}
-use Rattle.footprint.specs.declared.key.Key.{Key}
-use Rattle.footprint.specs.declared.key.Key.TheVariants.{Cell}
-use Rattle.footprint.specs.declared.refusal.Refusal.{Refusal}
+use Rattle.tree_access.specs.declared.key.Key.{Key}
+use Rattle.tree_access.specs.declared.key.Key.TheVariants.{Cell}
+use Rattle.tree_access.specs.declared.refusal.Refusal.{Refusal}
 use Rattle.footprint.specs.Steps.{unless_refused}
 use Rattle.footprint.specs.Units.{found_unit}
 use Rattle.footprint.proofs.Turns.{keys_in_turn, all_keys}

@@ -2,8 +2,8 @@
 use Rattle.std.proofs.Common.{◌≡◌, List, [], ◌∷◌, ◌++◌, Contains, Ok, Err, refl, sym, ap, subst, inl, inr}
 use Rattle.std.proofs.lemmas.List.Elements.{Contains-append_left, Contains-append_right, Contains-append_cases}
 use Rattle.link_tree.specs.Trees.{Entries}
-use Rattle.footprint.specs.declared.key.Key.{Key}
-use Rattle.footprint.specs.Placing.{Ruling, placed_in}
+use Rattle.tree_access.specs.declared.key.Key.{Key}
+use Rattle.tree_access.specs.Placing.{Ruling, placed_in}
 use Rattle.footprint.specs.Steps.{Step}
 use Rattle.footprint.proofs.Turns.{left_by, leaves, looks_on, keys_in_turn}
 use Rattle.footprint_laws.specs.Sets.{AreTaken, HasTurn}

@@ -6,9 +6,9 @@ use Rattle.unit_paths.specs.Places.{scope_place}
 use Rattle.unit_paths.specs.Slots.{unit_slot}
 use Rattle.link_tree.specs.Trees.{Entries, set_entry}
 use Rattle.install_section.proofs.Least.{is_first, is_later, first_or_later, none_of}
-use Rattle.footprint.specs.declared.key.Key.{Key}
-use Rattle.footprint.specs.declared.key.Key.TheVariants.{Cell}
-use Rattle.footprint.specs.Placing.{ruled_at}
+use Rattle.tree_access.specs.declared.key.Key.{Key}
+use Rattle.tree_access.specs.declared.key.Key.TheVariants.{Cell}
+use Rattle.tree_access.specs.Placing.{ruled_at}
 use Rattle.footprint.specs.Steps.{Step}
 use Rattle.footprint.proofs.Turns.{left_by, leaves, looks_on, keys_in_turn, all_keys}
 use Rattle.slot_commands.specs.Masks.{unmask_at, ruled_unit, unmask_meaning}

@@ -3,8 +3,8 @@ use Rattle.std.specs.Prelude.{ℕ, ◌↔◌, List}
 use Rattle.unit_paths.specs.declared.place.Scope.{Scope}
 use Rattle.link_tree.specs.Trees.{Entries}
 use Rattle.install_section.specs.Closure.{IsUnit}
-use Rattle.footprint.specs.declared.key.Key.{Key}
-use Rattle.footprint.specs.declared.key.Key.TheVariants.{Cell, Marked, Links}
+use Rattle.tree_access.specs.declared.key.Key.{Key}
+use Rattle.tree_access.specs.declared.key.Key.TheVariants.{Cell, Marked, Links}
 use Rattle.states.specs.declared.dependencies.Dependencies.{Dependencies}
 use Rattle.states.specs.declared.get_default.GetDefault.{GetDefault}
 use Rattle.states.specs.declared.is_enabled.IsEnabled.{IsEnabled}

@@ -6,11 +6,11 @@ use Rattle.install_section.specs.declared.section.Section.{Section}
 use Rattle.install_section.specs.Closure.{HasWord}
 use Rattle.install_section.specs.Sections.{identity_in}
 use Rattle.install_section.specs.Words.{named_by}
-use Rattle.footprint.specs.declared.key.Key.{Key}
+use Rattle.tree_access.specs.declared.key.Key.{Key}
 use Rattle.footprint.specs.Inquiry.{Inquiry}
 use Rattle.footprint.specs.Operations.{Effect, outcome_of}
-use Rattle.footprint.specs.Placing.{Placed, placed_in}
-use Rattle.footprint.specs.Readings.{keys_of}
+use Rattle.tree_access.specs.Placing.{Placed, placed_in}
+use Rattle.tree_access.specs.Readings.{keys_of}
 use Rattle.footprint.specs.Steps.{Step}
 use Rattle.footprint.specs.Units.{IsFound}
 use Rattle.install_commands.specs.Laws.{GoesWith}

@@ -10,8 +10,8 @@ use Rattle.unit_paths.specs.Slots.{dependency_slot, is_slot, slot_of, unit_slot}
 use Rattle.link_tree.specs.Trees.{Entries}
 use Rattle.load_path.specs.declared.following.End.TheVariants as ends
 use Rattle.load_path.specs.Follow.{follow}
-use Rattle.footprint.specs.declared.key.Key.{Key}
-use Rattle.footprint.specs.declared.key.Key.TheVariants.{Cell}
+use Rattle.tree_access.specs.declared.key.Key.{Key}
+use Rattle.tree_access.specs.declared.key.Key.TheVariants.{Cell}
 use Rattle.footprint.specs.Steps.{Step}
 use Rattle.footprint.specs.Units.{IsFound}
 use Rattle.slot_commands.specs.declared.add_to.AddTo.{AddTo}

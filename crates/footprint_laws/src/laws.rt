@@ -1,9 +1,19 @@
 //! What operations look at: each function does nothing, and its contract is the law. The keys are
 //! those of the reading of the operation in any tree, with any arguments, also if it is refused.
+ghost use Rattle.footprint.specs.Operations.{OperationLaws};
 ghost use Rattle.footprint_laws.specs.Discovery.{ClosureLooksInOrder};
 ghost use Rattle.footprint_laws.specs.Installs.{CheckLooks, ClosureLooks, DisableLooks, EnableLooks, PresetLooks, ReenableLooks};
 ghost use Rattle.footprint_laws.specs.Questions.{DependenciesLook, GetDefaultLooks, IsEnabledLooks};
 ghost use Rattle.footprint_laws.specs.Slots.{AddLooks, LinkLooks, MaskLooks, PlaceLooks, RemoveLooks, SetDefaultLooks, UnmaskLooks};
+
+use footprint::Operation;
+
+/// An operation looks at each path that it changes. Its changes start from what is in the tree and
+/// are in byte order of their paths, each path once. If it is refused, or is a question, it changes
+/// nothing.
+pub fn operations_look_at_what_they_change<O: Operation>()
+    ensures { OperationLaws O.asks O.meaning }
+{}
 
 /// `get-default` looks at exactly the paths at which `default.target` is looked up.
 pub fn get_default_looks_its_target_up()

@@ -9,7 +9,8 @@ pub use laws::{
     dependencies_look_at_all_links, disable_looks_its_units_up_and_at_their_links,
     enable_looks_its_units_up_and_at_its_links, get_default_looks_its_target_up,
     is_enabled_looks_at_its_unit_and_its_links, link_follows_its_paths_and_looks_at_their_slots,
-    mask_looks_at_its_slots, place_looks_at_its_slot, preset_looks_as_disable_and_then_as_enable,
-    reenable_looks_as_disable_and_then_as_enable, remove_looks_at_its_slot,
-    set_default_looks_its_unit_up_and_at_the_link, unmask_looks_at_its_slots,
+    mask_looks_at_its_slots, operations_look_at_what_they_change, place_looks_at_its_slot,
+    preset_looks_as_disable_and_then_as_enable, reenable_looks_as_disable_and_then_as_enable,
+    remove_looks_at_its_slot, set_default_looks_its_unit_up_and_at_the_link,
+    unmask_looks_at_its_slots,
 };

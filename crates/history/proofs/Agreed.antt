@@ -4,14 +4,14 @@ use Rattle.std.proofs.Common.{◌≡◌, ◌↔◌, Result, Ok, Err, IfErr, ℕ,
 use Rattle.std.proofs.lemmas.List.Elements.{All-head, All-tail, All-nil, All-cons, All-contains, All-contains_itself, Contains-append_right}
 use Rattle.unit_paths.specs.Slots.{is_slot}
 use Rattle.link_tree.specs.Trees.{Entries, AreFrom, after_changes}
-use Rattle.footprint.specs.declared.key.Key.{Key}
+use Rattle.tree_access.specs.declared.key.Key.{Key}
 use Rattle.footprint.specs.declared.outcome.Outcome.{Outcome}
-use Rattle.footprint.specs.declared.reading.Observation.{Observation}
+use Rattle.tree_access.specs.declared.reading.Observation.{Observation}
 use Rattle.footprint.specs.Inquiry.{Inquiry}
-use Rattle.footprint.specs.Keys.{Agree, AgreeOn}
+use Rattle.tree_access.specs.Keys.{Agree, AgreeOn}
 use Rattle.footprint.specs.Operations.{Effect, outcome_of, OperationLaws}
-use Rattle.footprint.specs.Readings.{in_order, observed, reading_of, Holds, HoldsIn, IsFirstOther}
-use Rattle.footprint.proofs.KeySets.{in_order-All}
+use Rattle.tree_access.specs.Readings.{in_order, observed, reading_of, Holds, HoldsIn, IsFirstOther}
+use Rattle.tree_access.proofs.KeySets.{in_order-All}
 use Rattle.footprint.proofs.Outcomes.{outcome_agrees}
 use Rattle.history.specs.declared.history.CallError.TheVariants as errors
 use Rattle.history.specs.declared.plan.Commit.{Commit}

@@ -5,7 +5,7 @@ use Rattle.std.specs.Prelude.{nat_lt, not}
 use mathlib.Core.Bool.{beq}
 use Rattle.std.proofs.lemmas.Bool.{cases_Bool, cases_lt, and_parts, ltb-true, lt-ltb, true≢false, false≢true}
 use Rattle.std.proofs.lemmas.Bool.Decides.{Decides-eqb}
-use Rattle.footprint.specs.declared.reading.Observation.{Observation}
+use Rattle.tree_access.specs.declared.reading.Observation.{Observation}
 use Rattle.history.specs.declared.row.Row.{Row}
 use Rattle.history.specs.declared.row.RowReply.{RowReply}
 use Rattle.history.specs.declared.row.RowReply.TheVariants.{Answered, Undid, UndoRefused, Redid, RedoRefused}

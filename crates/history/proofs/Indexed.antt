@@ -11,10 +11,10 @@ use Rattle.std.proofs.lemmas.Cmp.{tied_itself, nat_cmp_total}
 use Rattle.std.specs.List.{list_any}
 use Rattle.std.proofs.lemmas.Bool.{cases_Bool, false≢true}
 use Rattle.link_tree.specs.declared.change.Change.{Change}
-use Rattle.footprint.specs.declared.key.Key.{Key}
-use Rattle.footprint.specs.declared.reading.Observation.{Observation}
+use Rattle.tree_access.specs.declared.key.Key.{Key}
+use Rattle.tree_access.specs.declared.reading.Observation.{Observation}
 use Rattle.readers.specs.declared.readers.Readers.{Readers}
-use Rattle.footprint.specs.Keys.{touches}
+use Rattle.tree_access.specs.Keys.{touches}
 use Rattle.readers.specs.Numbers.{IsNext, AreAllAfter}
 use Rattle.readers.specs.Readers.{reads, is_read, is_touched_in}
 use Rattle.readers.proofs.Touched.{touched, same_touched, touched_none, touched_and, touched_read}

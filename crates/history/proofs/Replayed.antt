@@ -7,15 +7,16 @@ use Rattle.std.proofs.lemmas.List.Elements.{All-cons, All-nil, All-map, All-weak
 use Rattle.link_tree.specs.declared.change.Change.{Change}
 use Rattle.link_tree.specs.Trees.{Entries, AreFrom, after_changes, inverse_of}
 use Rattle.link_tree.proofs.Changed.{inverse_from, inverse_undoes}
-use Rattle.footprint.specs.declared.key.Key.{Key}
+use Rattle.tree_access.specs.declared.key.Key.{Key}
 use Rattle.footprint.specs.declared.outcome.Outcome.{Outcome}
-use Rattle.footprint.specs.declared.reading.Observation.{Observation}
+use Rattle.tree_access.specs.declared.reading.Observation.{Observation}
 use Rattle.footprint.specs.Inquiry.{Inquiry}
-use Rattle.footprint.specs.Keys.{touches, Untouched}
+use Rattle.tree_access.specs.Keys.{touches, Untouched}
 use Rattle.footprint.specs.Operations.{Effect, is_refused, outcome_of, OperationLaws}
-use Rattle.footprint.specs.Readings.{keys_of, reading_of}
-use Rattle.footprint.proofs.Outcomes.{untouched_keys}
-use Rattle.footprint.proofs.Untouched.{untouched-inverse, untouched_step}
+use Rattle.tree_access.specs.Readings.{keys_of, reading_of}
+use Rattle.tree_access.proofs.ReadingKeys.{untouched_keys}
+use Rattle.tree_access.proofs.Untouched.{untouched-inverse}
+use Rattle.footprint.proofs.Outcomes.{untouched_step}
 use Rattle.history.specs.declared.row.UndoRefusal.{UndoRefusal}
 use Rattle.history.specs.declared.row.RedoRefusal.{RedoRefusal}
 use Rattle.history.specs.declared.row.Row.{Row}

@@ -3,16 +3,16 @@ use Rattle.std.proofs.Common.{◌≡◌, ◌+◌, ◌-◌, ◌<◌, ◌&&◌, �
 use Rattle.std.proofs.lemmas.List.Elements.{All-head, All-tail, All-cons, All-nil}
 use Rattle.link_tree.specs.declared.change.Change.{Change}
 use Rattle.link_tree.specs.Trees.{Entries, AreFrom, after_changes}
-use Rattle.footprint.specs.declared.key.Key.{Key}
+use Rattle.tree_access.specs.declared.key.Key.{Key}
 use Rattle.footprint.specs.declared.outcome.Outcome.{Outcome}
-use Rattle.footprint.specs.declared.reading.Observation.{Observation}
+use Rattle.tree_access.specs.declared.reading.Observation.{Observation}
 use Rattle.footprint.specs.Inquiry.{Inquiry}
-use Rattle.footprint.specs.Keys.{Agree, AgreeOn, Untouched}
-use Rattle.footprint.specs.KeyLaws.{agree_on_after}
+use Rattle.tree_access.specs.Keys.{Agree, AgreeOn, Untouched}
+use Rattle.tree_access.proofs.KeyLaws.{agree_on_after}
 use Rattle.footprint.specs.Operations.{Effect, outcome_of, OperationLaws}
-use Rattle.footprint.specs.Readings.{keys_of}
+use Rattle.tree_access.specs.Readings.{keys_of}
 use Rattle.footprint.proofs.Outcomes.{comes_to_the_same}
-use Rattle.footprint.proofs.Untouched.{agree_on_untouched}
+use Rattle.tree_access.proofs.Untouched.{agree_on_untouched}
 use Rattle.history.specs.declared.row.RedoRefusal.{RedoRefusal}
 use Rattle.history.specs.declared.row.Row.{Row}
 use Rattle.history.specs.declared.row.RowReply.TheVariants.{Answered}

@@ -1,6 +1,6 @@
 -- Which rows block an undo, as a relation between two rows, and what each refusal of an undo means.
 use Rattle.std.specs.Prelude.{◌≡◌, ◌<◌, ◌≤◌, ℕ, Bool, true, Option, Some, None, is_some, List, length, Any}
-use Rattle.footprint.specs.Keys.{touches}
+use Rattle.tree_access.specs.Keys.{touches}
 use Rattle.history.specs.declared.row.Row.{Row}
 use Rattle.history.specs.declared.row.RowReply.{RowReply}
 use Rattle.history.specs.declared.row.RowReply.TheVariants.{Answered, Undid, UndoRefused, Redid, RedoRefused}

@@ -2,7 +2,7 @@
 use Rattle.std.specs.Prelude.{◌≡◌, ℕ, Bool, false, ◌&&◌, ◌||◌, List, Option, Some, None, is_some}
 use Rattle.std.specs.BTreeMap.{is_at}
 use Rattle.std.specs.Ordering.{nat_cmp}
-use Rattle.footprint.specs.declared.key.Key.{Key}
+use Rattle.tree_access.specs.declared.key.Key.{Key}
 use Rattle.footprint.specs.declared.outcome.Outcome.{Outcome}
 use Rattle.readers.specs.declared.readers.Readers.{Readers}
 use Rattle.readers.specs.Readers.{reads, is_read}

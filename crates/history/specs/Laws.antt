@@ -3,7 +3,7 @@ use Rattle.std.specs.Prelude.{◌≡◌, ◌↔◌, ◌⊎◌, ℕ, Bool, true, 
 use Rattle.link_tree.specs.Trees.{Entries, AreFrom, after_changes, inverse_of}
 use Rattle.footprint.specs.Inquiry.{Inquiry}
 use Rattle.footprint.specs.Operations.{Effect}
-use Rattle.footprint.specs.Readings.{HoldsIn}
+use Rattle.tree_access.specs.Readings.{HoldsIn}
 use Rattle.history.specs.declared.row.Row.{Row}
 use Rattle.history.specs.Plans.{Planned, planned}
 use Rattle.history.specs.Rows.{Call, answered, row_at, undone, redone, AreMarked, accepted, survivor, blocker, hindrance, replay, calls_of, AnswersAlike, rows_after, run}

@@ -5,8 +5,8 @@ use Rattle.unit_paths.specs.Slots.{is_slot}
 use Rattle.link_tree.specs.Trees.{Entries}
 use Rattle.footprint.specs.Inquiry.{Inquiry}
 use Rattle.footprint.specs.Operations.{Effect, outcome_of}
-use Rattle.footprint.specs.Readings.{HoldsIn, IsFirstOther}
-use Rattle.footprint.specs.declared.key.Key.{Key}
+use Rattle.tree_access.specs.Readings.{HoldsIn, IsFirstOther}
+use Rattle.tree_access.specs.declared.key.Key.{Key}
 use Rattle.footprint.specs.declared.outcome.Outcome.{Outcome}
 use Rattle.history.specs.declared.plan.Commit.{Commit}
 use Rattle.history.specs.declared.plan.Commit.TheVariants.{Committed, Stale}

@@ -6,9 +6,9 @@ use Rattle.unit_paths.specs.Slots.{is_slot}
 use Rattle.link_tree.specs.Trees.{Entries, after_changes}
 use Rattle.footprint.specs.declared.answer.Answer.{Answer}
 use Rattle.footprint.specs.declared.outcome.Outcome.{Outcome}
-use Rattle.footprint.specs.declared.reading.Observation.{Observation}
+use Rattle.tree_access.specs.declared.reading.Observation.{Observation}
 use Rattle.footprint.specs.Inquiry.{Inquiry}
-use Rattle.footprint.specs.Keys.{touches}
+use Rattle.tree_access.specs.Keys.{touches}
 use Rattle.footprint.specs.Operations.{Effect, is_refused, outcome_of}
 use Rattle.history.specs.declared.row.UndoRefusal.{UndoRefusal}
 use Rattle.history.specs.declared.row.UndoRefusal.TheVariants.{NoSuchRow, NotACommand, AlreadyUndone, Blocked}

@@ -2,7 +2,7 @@
 -- row, its link. An accepted undo or redo is a toggle of the row that it names.
 use Rattle.std.specs.Prelude.{◌≡◌, ◌+◌, ◌-◌, ◌==◌, ◌&&◌, ℕ, zero, suc, Bool, true, false, not, Option, Some, None, is_some, List, [], ◌∷◌, ◌++◌, if◌then◌else◌, nat_lt, length, get_or, set}
 use mathlib.Core.Bool.{beq}
-use Rattle.footprint.specs.declared.reading.Observation.{Observation}
+use Rattle.tree_access.specs.declared.reading.Observation.{Observation}
 use Rattle.history.specs.declared.row.Row.{Row}
 use Rattle.history.specs.declared.row.RowReply.{RowReply}
 use Rattle.history.specs.declared.row.RowReply.TheVariants.{Answered, Undid, UndoRefused, Redid, RedoRefused}

@@ -2,7 +2,7 @@
 ghost use Rattle.std.specs.Prelude.{◌≡◌, ◌≤◌, ◌<◌, ◌+◌, ◌↔◌, [], None, Some, Ok, length, false, true, All, IfOk, IfErr, OnOk, OnErr, vec_len, vec_capacity};
 ghost use Rattle.unit_paths.specs.Slots.{is_slot};
 ghost use Rattle.link_tree.specs.Trees.{AreFrom, after_changes};
-ghost use Rattle.footprint.specs.declared.key.Key.{Key};
+ghost use Rattle.tree_access.specs.declared.key.Key.{Key};
 ghost use Rattle.readers.specs.Readers.{reads, IsListed, AreAlike};
 ghost use Rattle.history.specs.Logs.{Log};
 ghost use Rattle.history.specs.Plans.{planned, AgreesWith, IsCommit};

@@ -6,7 +6,7 @@
 //! u if its link is below u, and then it shows whether the row was undone before row u.
 ghost use Rattle.std.specs.Prelude.{◌≡◌, ◌≤◌, ◌<◌, ◌-◌, Some, None, length, take, drop, vec_len, vec_capacity};
 ghost use Rattle.std.specs.List.{list_any};
-ghost use Rattle.footprint.specs.Keys.{touches};
+ghost use Rattle.tree_access.specs.Keys.{touches};
 ghost use Rattle.history.specs.Rows.{row_at, meets, undoer_before, toggled, first_flipped, MarksAgree};
 ghost use Rattle.history.specs.Toggles.{was_undone, relinked, sooner, least_flipped, is_flipped, is_in_the_way, AllAlternate, AreLinked};
 

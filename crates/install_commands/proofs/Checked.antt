@@ -10,8 +10,8 @@ use Rattle.load_path.specs.declared.finding.Found.{Found}
 use Rattle.load_path.specs.declared.finding.Found.TheVariants as founds
 use Rattle.load_path.specs.Find.{find}
 use Rattle.install_section.specs.Closure.{IsUnit}
-use Rattle.footprint.specs.declared.refusal.Refusal.{Refusal}
-use Rattle.footprint.specs.declared.refusal.Refusal.TheVariants.{IsAlias}
+use Rattle.tree_access.specs.declared.refusal.Refusal.{Refusal}
+use Rattle.tree_access.specs.declared.refusal.Refusal.TheVariants.{IsAlias}
 use Rattle.footprint.specs.Units.{found_unit}
 use Rattle.install_commands.specs.Check.{as_itself, going_on, one_checked, checked}
 use Rattle.install_commands.specs.Laws.{IsFirstAmiss, CheckPasses, CheckRefusesFirst}

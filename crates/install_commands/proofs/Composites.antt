@@ -7,11 +7,11 @@ use Rattle.link_tree.specs.Differences.{changes_between}
 use Rattle.link_tree.specs.Trees.{Entries, after_changes}
 use Rattle.link_tree.proofs.Leads.{leads as led}
 use Rattle.footprint.specs.declared.answer.Answer.TheVariants.{Done, Refused}
-use Rattle.footprint.specs.declared.refusal.Refusal.{Refusal}
-use Rattle.footprint.specs.Commands.{Command, carried_out}
+use Rattle.tree_access.specs.declared.refusal.Refusal.{Refusal}
+use Rattle.footprint.specs.Commands.{Command, carried_out, effect}
 use Rattle.footprint.specs.Inquiry.{Inquiry}
 use Rattle.footprint.specs.Operations.{Effect}
-use Rattle.footprint.specs.Placing.{Placed, Ruling, placed_in, effect}
+use Rattle.tree_access.specs.Placing.{Placed, Ruling, placed_in}
 use Rattle.install_commands.specs.CompositeLaws.{LeavesInTurn, IsRefusedInTurn}
 use Rattle.install_commands.specs.Laws.{Leaves}
 use Rattle.install_commands.proofs.InTurn.{net_effect, whole, told, more, rules_first, rules_second, left, whole_comes, whole_refused}

@@ -11,11 +11,11 @@ use Rattle.install_section.specs.declared.closed.ClosureFault.TheVariants as clo
 use Rattle.install_section.specs.Closure.{IsUnit, Reached, closure}
 use Rattle.install_section.proofs.Least.{refused_exactly}
 use Rattle.footprint.specs.declared.answer.Answer.TheVariants.{Done, Refused}
-use Rattle.footprint.specs.declared.refusal.Refusal.{Refusal}
-use Rattle.footprint.specs.declared.refusal.Refusal.TheVariants.{TooMany}
+use Rattle.tree_access.specs.declared.refusal.Refusal.{Refusal}
+use Rattle.tree_access.specs.declared.refusal.Refusal.TheVariants.{TooMany}
 use Rattle.footprint.specs.Commands.{taken, unless_refused, carried_out}
 use Rattle.footprint.specs.Inquiry.{Inquiry}
-use Rattle.footprint.specs.Keys.{AgreeOn}
+use Rattle.tree_access.specs.Keys.{AgreeOn}
 use Rattle.footprint.specs.Operations.{Effect}
 use Rattle.install_commands.specs.declared.disable.Disable.{Disable}
 use Rattle.install_commands.specs.declared.disable.Named.{Named}

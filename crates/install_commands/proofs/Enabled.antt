@@ -19,14 +19,14 @@ use Rattle.install_section.specs.Wanted.{wanted}
 use Rattle.install_section.proofs.Least.{some_is, closure_least}
 use Rattle.install_section.proofs.WantedSets.{links_asked_for}
 use Rattle.footprint.specs.declared.answer.Answer.TheVariants.{Done}
-use Rattle.footprint.specs.declared.refusal.Refusal.{Refusal}
-use Rattle.footprint.specs.Commands.{taken, unless_refused, carried_out}
+use Rattle.tree_access.specs.declared.refusal.Refusal.{Refusal}
+use Rattle.footprint.specs.Commands.{taken, unless_refused, carried_out, effect}
 use Rattle.footprint.specs.Inquiry.{Inquiry}
-use Rattle.footprint.specs.Keys.{AgreeOn}
+use Rattle.tree_access.specs.Keys.{AgreeOn}
 use Rattle.footprint.specs.Laws.{IsLeft}
 use Rattle.footprint.specs.Operations.{Effect}
-use Rattle.footprint.specs.Placing.{Placed, placed_in, effect, wanted_at}
-use Rattle.footprint.specs.Rules.{LeadsAs}
+use Rattle.tree_access.specs.Placing.{Placed, placed_in, wanted_at}
+use Rattle.tree_access.specs.Rules.{LeadsAs}
 use Rattle.footprint.specs.Steps.{all_at_once}
 use Rattle.footprint.proofs.Wishes.{left_all_at_once}
 use Rattle.install_commands.specs.Check.{going_on, checked}

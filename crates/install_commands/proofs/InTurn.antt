@@ -5,12 +5,12 @@ use Rattle.link_tree.specs.Differences.{changes_between}
 use Rattle.link_tree.specs.Trees.{Entries, after_changes}
 use Rattle.link_tree.proofs.Leads.{leads}
 use Rattle.footprint.specs.declared.answer.Answer.TheVariants.{Done, Refused}
-use Rattle.footprint.specs.declared.refusal.Refusal.{Refusal}
-use Rattle.footprint.specs.Commands.{Command, carried_out}
+use Rattle.tree_access.specs.declared.refusal.Refusal.{Refusal}
+use Rattle.footprint.specs.Commands.{Command, carried_out, effect}
 use Rattle.footprint.specs.Inquiry.{Inquiry}
 use Rattle.footprint.proofs.NetLaws.{net_between}
 use Rattle.footprint.specs.Operations.{Effect, AreChanges}
-use Rattle.footprint.specs.Placing.{Placed, Ruling, placed_in, effect}
+use Rattle.tree_access.specs.Placing.{Placed, Ruling, placed_in}
 use Rattle.footprint.specs.Then.{effect_of_both, continued, followed_by}
 use Rattle.footprint.proofs.ThenLaws.{changes_between_are}
 use Rattle.transaction.specs.Runs.{Run, with_tree, asking_for, doing, doing_both, and_then, reporting_too, reported_by, reported_too, concluded_after, keys_after}

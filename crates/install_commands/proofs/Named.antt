@@ -16,8 +16,8 @@ use Rattle.install_section.specs.declared.closed.ClosureFault.TheVariants as clo
 use Rattle.install_section.specs.Closure.{IsUnit, Reached, closure}
 use Rattle.install_section.specs.Closure.Reached.{Given as GivenOf, Named as NamedBy}
 use Rattle.install_section.proofs.Least.{is_first, is_later, first_or_later, none_of, closure_least}
-use Rattle.footprint.specs.declared.refusal.Refusal.{Refusal}
-use Rattle.footprint.specs.declared.refusal.Refusal.TheVariants.{TooMany}
+use Rattle.tree_access.specs.declared.refusal.Refusal.{Refusal}
+use Rattle.tree_access.specs.declared.refusal.Refusal.TheVariants.{TooMany}
 use Rattle.footprint.specs.Units.{IsFound}
 use Rattle.install_commands.specs.declared.disable.Named.{Named}
 use Rattle.install_commands.specs.Disable.{with_real, reals_behind, is_itself, with_self, selves_behind, named_with, units_named}

@@ -11,9 +11,9 @@ use Rattle.install_section.specs.Closure.{closed_from, closure}
 use Rattle.install_section.specs.Wanted.{wanted}
 use Rattle.unit_file.proofs.NoticeMaps.{none-joined}
 use Rattle.unit_file.specs.Notices.{joined}
-use Rattle.footprint.specs.Commands.{carried_out, taken, unless_refused}
+use Rattle.footprint.specs.Commands.{carried_out, taken, unless_refused, effect}
 use Rattle.footprint.specs.declared.answer.Answer.TheVariants.{Done}
-use Rattle.footprint.specs.Placing.{effect, all_wanted}
+use Rattle.tree_access.specs.Placing.{all_wanted}
 use Rattle.install_section.specs.declared.wants.Wanted.{Wanted}
 use Rattle.install_commands.specs.declared.disable.Named.{Named}
 use Rattle.install_commands.specs.Check.{going_on}

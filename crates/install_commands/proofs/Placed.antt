@@ -20,11 +20,12 @@ use Rattle.link_tree.proofs.Maps.{first, second, none_below}
 use Rattle.link_tree.proofs.Shapes.{same_key}
 use Rattle.install_section.specs.LinkSlots.{LinkMap}
 use Rattle.footprint.specs.declared.answer.Answer.TheVariants.{Done}
-use Rattle.footprint.specs.declared.refusal.Refusal.{Refusal}
-use Rattle.footprint.specs.declared.refusal.Refusal.TheVariants.{Exists}
+use Rattle.tree_access.specs.declared.refusal.Refusal.{Refusal}
+use Rattle.tree_access.specs.declared.refusal.Refusal.TheVariants.{Exists}
 use Rattle.footprint.specs.Laws.{IsLeft}
-use Rattle.footprint.specs.Placing.{Placed, Ruling, Wanted, placed_in, effect, cleared, wanted_at}
-use Rattle.footprint.specs.Rules.{is_same_path, leads_alike, link_at}
+use Rattle.tree_access.specs.Placing.{Placed, Ruling, Wanted, placed_in, cleared, wanted_at}
+use Rattle.footprint.specs.Commands.{effect}
+use Rattle.tree_access.specs.Rules.{is_same_path, leads_alike, link_at}
 use Rattle.footprint.specs.Steps.{all_at_once}
 use Rattle.footprint.proofs.Wishes.{refused_at_the_least, left_all_at_once}
 use Rattle.install_commands.specs.Enable.{with_links, to_stand}

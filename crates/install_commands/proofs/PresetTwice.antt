@@ -11,12 +11,12 @@ use Rattle.link_tree.specs.Trees.{Entries, after_changes}
 use Rattle.link_tree.proofs.Changed.{same_tree}
 use Rattle.link_tree.proofs.Maps.{none_some}
 use Rattle.install_section.proofs.Least.{some_is}
-use Rattle.footprint.specs.declared.refusal.Refusal.{Refusal}
+use Rattle.tree_access.specs.declared.refusal.Refusal.{Refusal}
 use Rattle.footprint.specs.Commands.{Command, carried_out}
 use Rattle.footprint.specs.Inquiry.{Inquiry, over}
-use Rattle.footprint.specs.Keys.{AgreeOn}
+use Rattle.tree_access.specs.Keys.{AgreeOn}
 use Rattle.footprint.specs.Operations.{Effect}
-use Rattle.footprint.specs.Placing.{Ruling, placed_in}
+use Rattle.tree_access.specs.Placing.{Ruling, placed_in}
 use Rattle.install_commands.specs.declared.disable.Named.{Named}
 use Rattle.install_commands.specs.declared.judging.Judged.{Judged}
 use Rattle.install_commands.specs.declared.preset.Preset.{Preset}

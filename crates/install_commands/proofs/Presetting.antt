@@ -8,7 +8,7 @@ use Rattle.preset_rules.specs.Verdicts.{applies, verdict}
 use Rattle.preset_rules.proofs.Rests.{rest_is_disabled, no_presets_enable}
 use Rattle.link_tree.specs.Trees.{Entries}
 use Rattle.footprint.specs.declared.answer.Answer.TheVariants.{Done, Refused}
-use Rattle.footprint.specs.declared.refusal.Refusal.{Refusal}
+use Rattle.tree_access.specs.declared.refusal.Refusal.{Refusal}
 use Rattle.footprint.specs.Commands.{Command, taken, unless_refused, carried_out}
 use Rattle.footprint.specs.Inquiry.{over, giving}
 use Rattle.footprint.specs.Operations.{Effect}

@@ -19,12 +19,12 @@ use Rattle.install_section.specs.declared.wants.Wanted.{Wanted}
 use Rattle.install_section.specs.Closure.{IsUnit}
 use Rattle.install_section.proofs.Least.{is_first, is_later, first_or_later, none_of}
 use Rattle.footprint.specs.declared.answer.Answer.TheVariants.{Done}
-use Rattle.footprint.specs.declared.refusal.Refusal.{Refusal}
+use Rattle.tree_access.specs.declared.refusal.Refusal.{Refusal}
 use Rattle.footprint.specs.Commands.{taken, unless_refused, carried_out}
 use Rattle.footprint.specs.Inquiry.{Inquiry}
-use Rattle.footprint.specs.Keys.{AgreeOn}
+use Rattle.tree_access.specs.Keys.{AgreeOn}
 use Rattle.footprint.specs.Operations.{Effect}
-use Rattle.footprint.specs.Rules.{LeadsAs}
+use Rattle.tree_access.specs.Rules.{LeadsAs}
 use Rattle.install_commands.specs.declared.disable.Named.{Named}
 use Rattle.install_commands.specs.declared.reenable.Reenable.{Reenable}
 use Rattle.install_commands.specs.Check.{going_on, checked}

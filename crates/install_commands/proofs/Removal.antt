@@ -15,14 +15,14 @@ use Rattle.link_tree.proofs.Maps.{none_some}
 use Rattle.link_tree.proofs.Shapes.{same_key}
 use Rattle.install_section.proofs.Least.{some_is, is_first, is_later, first_or_later, none_of}
 use Rattle.footprint.specs.declared.answer.Answer.TheVariants.{Done, Refused}
-use Rattle.footprint.specs.declared.key.Key.TheVariants.{Marked}
-use Rattle.footprint.specs.declared.refusal.Refusal.{Refusal}
-use Rattle.footprint.specs.Commands.{taken}
-use Rattle.footprint.specs.KeyLaws.{get-those}
-use Rattle.footprint.specs.Keys.{chosen_at, those, any_selects}
+use Rattle.tree_access.specs.declared.key.Key.TheVariants.{Marked}
+use Rattle.tree_access.specs.declared.refusal.Refusal.{Refusal}
+use Rattle.footprint.specs.Commands.{taken, effect}
+use Rattle.tree_access.proofs.KeyLaws.{get-those}
+use Rattle.tree_access.specs.Keys.{chosen_at, those, any_selects}
 use Rattle.footprint.specs.Laws.{IsLeft}
 use Rattle.footprint.specs.Operations.{Effect}
-use Rattle.footprint.specs.Placing.{Placed, Ruling, Wanted, placed_in, effect, cleared, wanted_at}
+use Rattle.tree_access.specs.Placing.{Placed, Ruling, Wanted, placed_in, cleared, wanted_at}
 use Rattle.footprint.specs.Steps.{all_at_once}
 use Rattle.footprint.proofs.Wishes.{refused_at_the_least, left_all_at_once}
 use Rattle.install_commands.specs.declared.disable.Named.{Named}

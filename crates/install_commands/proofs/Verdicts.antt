@@ -18,12 +18,12 @@ use Rattle.preset_rules.specs.Files.{presets_of, policy_of}
 use Rattle.preset_rules.specs.Verdicts.{verdict}
 use Rattle.preset_rules.proofs.Agreeing.{presets_decide}
 use Rattle.preset_rules.proofs.WinnersFound.{get-presets}
-use Rattle.footprint.specs.declared.key.Key.TheVariants.{Presets}
-use Rattle.footprint.specs.declared.refusal.Refusal.{Refusal}
+use Rattle.tree_access.specs.declared.key.Key.TheVariants.{Presets}
+use Rattle.tree_access.specs.declared.refusal.Refusal.{Refusal}
 use Rattle.footprint.specs.Inquiry.{giving}
-use Rattle.footprint.specs.Keys.{part, shown}
+use Rattle.tree_access.specs.Keys.{part, shown}
 use Rattle.unit_paths.specs.Kinds.{is_preset}
-use Rattle.footprint.specs.KeyLaws.{get-part}
+use Rattle.tree_access.proofs.KeyLaws.{get-part}
 use Rattle.install_commands.specs.declared.judging.Judged.{Judged}
 use Rattle.install_commands.specs.declared.preset.Preset.{Preset}
 use Rattle.install_commands.specs.Check.{going_on}

@@ -2,8 +2,8 @@
 use Rattle.std.specs.Prelude.{ℕ, if◌then◌else◌, List, [], ◌∷◌, Result, Ok, Err}
 use Rattle.std.specs.Str.{bytes_eq}
 use Rattle.load_path.specs.Find.{find}
-use Rattle.footprint.specs.declared.refusal.Refusal.{Refusal}
-use Rattle.footprint.specs.declared.refusal.Refusal.TheVariants.{IsAlias}
+use Rattle.tree_access.specs.declared.refusal.Refusal.{Refusal}
+use Rattle.tree_access.specs.declared.refusal.Refusal.TheVariants.{IsAlias}
 use Rattle.footprint.specs.Commands.{Command, silent, unless_refused, carried_out}
 use Rattle.footprint.specs.Inquiry.{Inquiry, over, by_cells, giving, ◌>>=◌}
 use Rattle.footprint.specs.Operations.{Effect}

@@ -19,12 +19,12 @@ use Rattle.preset_rules.specs.Files.{policy_of}
 use Rattle.preset_rules.specs.Laws.{HasNoPresets, disable_all}
 use Rattle.preset_rules.specs.Verdicts.{verdict}
 use Rattle.footprint.specs.declared.answer.Answer.TheVariants.{Refused}
-use Rattle.footprint.specs.declared.refusal.Refusal.{Refusal}
+use Rattle.tree_access.specs.declared.refusal.Refusal.{Refusal}
 use Rattle.footprint.specs.Commands.{Command, carried_out}
 use Rattle.footprint.specs.Inquiry.{Inquiry}
-use Rattle.footprint.specs.Keys.{AgreeOn}
+use Rattle.tree_access.specs.Keys.{AgreeOn}
 use Rattle.footprint.specs.Operations.{Effect}
-use Rattle.footprint.specs.Rules.{LeadsAs}
+use Rattle.tree_access.specs.Rules.{LeadsAs}
 use Rattle.install_commands.specs.declared.judging.Judged.{Judged}
 use Rattle.install_commands.specs.declared.preset.Preset.{Preset}
 use Rattle.install_commands.specs.declared.reenable.Reenable.{Reenable}

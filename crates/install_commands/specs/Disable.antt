@@ -8,13 +8,13 @@ use Rattle.load_path.specs.declared.finding.Found.TheVariants.{Unit}
 use Rattle.load_path.specs.Find.{find}
 use Rattle.load_path.specs.Search.{each_once}
 use Rattle.install_section.specs.declared.closed.Closed.{Closed}
-use Rattle.footprint.specs.declared.refusal.Refusal.{Refusal}
+use Rattle.tree_access.specs.declared.refusal.Refusal.{Refusal}
 use Rattle.install_section.specs.Closure.{closure}
-use Rattle.footprint.specs.declared.key.Key.TheVariants.{Marked}
+use Rattle.tree_access.specs.declared.key.Key.TheVariants.{Marked}
 use Rattle.footprint.specs.Commands.{Command, telling, unless_refused, carried_out}
 use Rattle.footprint.specs.Inquiry.{Inquiry, over, by_cells, giving, entries_of_all, ◌>>=◌}
 use Rattle.footprint.specs.Operations.{Effect}
-use Rattle.footprint.specs.Placing.{Wanted, cleared}
+use Rattle.tree_access.specs.Placing.{Wanted, cleared}
 use Rattle.footprint.specs.Steps.{all_at_once}
 use Rattle.install_commands.specs.declared.disable.Disable.{Disable}
 use Rattle.install_commands.specs.declared.disable.Named.{Named}

@@ -12,12 +12,12 @@ use Rattle.install_section.specs.declared.wants.WantedFault.TheVariants as wante
 use Rattle.install_section.specs.Closure.{closure}
 use Rattle.install_section.specs.LinkSlots.{LinkMap}
 use Rattle.install_section.specs.Wanted.{wanted}
-use Rattle.footprint.specs.declared.refusal.Refusal.{Refusal}
-use Rattle.footprint.specs.declared.refusal.Refusal.TheVariants.{TooMany, NeedsInstance, Clash}
+use Rattle.tree_access.specs.declared.refusal.Refusal.{Refusal}
+use Rattle.tree_access.specs.declared.refusal.Refusal.TheVariants.{TooMany, NeedsInstance, Clash}
 use Rattle.footprint.specs.Commands.{Command, telling, unless_refused, carried_out}
 use Rattle.footprint.specs.Inquiry.{Inquiry, by_cells, giving, ◌>>=◌}
 use Rattle.footprint.specs.Operations.{Effect}
-use Rattle.footprint.specs.Placing as placing
+use Rattle.tree_access.specs.Placing as placing
 use Rattle.footprint.specs.Steps.{all_at_once}
 use Rattle.install_commands.specs.declared.enable.Enable.{Enable}
 use Rattle.install_commands.specs.Check.{going_on, checked}

@@ -14,12 +14,12 @@ use Rattle.link_tree.specs.Trees.{Entries, after_changes}
 use Rattle.install_section.specs.Closure.{IsUnit, Names, Reached}
 use Rattle.install_section.specs.WantedLaws.{AsksFor}
 use Rattle.footprint.specs.declared.answer.Answer.TheVariants.{Done, Refused}
-use Rattle.footprint.specs.declared.refusal.Refusal.{Refusal}
-use Rattle.footprint.specs.declared.refusal.Refusal.TheVariants.{TooMany}
+use Rattle.tree_access.specs.declared.refusal.Refusal.{Refusal}
+use Rattle.tree_access.specs.declared.refusal.Refusal.TheVariants.{TooMany}
 use Rattle.footprint.specs.Inquiry.{Inquiry}
-use Rattle.footprint.specs.Keys.{AgreeOn}
+use Rattle.tree_access.specs.Keys.{AgreeOn}
 use Rattle.footprint.specs.Operations.{Effect}
-use Rattle.footprint.specs.Rules.{LeadsAs}
+use Rattle.tree_access.specs.Rules.{LeadsAs}
 use Rattle.footprint.specs.Units.{IsFound}
 use Rattle.install_commands.specs.declared.disable.Disable.{Disable}
 use Rattle.install_commands.specs.declared.enable.Enable.{Enable}

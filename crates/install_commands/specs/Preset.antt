@@ -19,8 +19,8 @@ use Rattle.preset_rules.specs.declared.rule.Verdict.TheVariants.{Enable, Disable
 use Rattle.preset_rules.specs.Files.{policy_of}
 use Rattle.preset_rules.specs.Verdicts.{verdict}
 use Rattle.footprint.specs.declared.answer.Answer.TheVariants.{Refused}
-use Rattle.footprint.specs.declared.key.Key.TheVariants.{Presets}
-use Rattle.footprint.specs.declared.refusal.Refusal.{Refusal}
+use Rattle.tree_access.specs.declared.key.Key.TheVariants.{Presets}
+use Rattle.tree_access.specs.declared.refusal.Refusal.{Refusal}
 use Rattle.footprint.specs.Commands.{Command, unless_refused, carried_out}
 use Rattle.footprint.specs.Inquiry.{Inquiry, over, by_cells, entries_seen, giving, ◌>>=◌}
 use Rattle.footprint.specs.Operations.{Effect}

@@ -6,7 +6,7 @@ use Rattle.unit_paths.specs.Kinds.{is_unit_slot}
 use Rattle.load_path.specs.declared.finding.Found.{Found}
 use Rattle.load_path.specs.declared.finding.Found.TheVariants.{Unit}
 use Rattle.load_path.specs.Find.{find}
-use Rattle.footprint.specs.declared.refusal.Refusal.{Refusal}
+use Rattle.tree_access.specs.declared.refusal.Refusal.{Refusal}
 use Rattle.footprint.specs.Commands.{Command, unless_refused, carried_out}
 use Rattle.footprint.specs.Inquiry.{Inquiry, over, giving, with_cells, ◌>>=◌}
 use Rattle.footprint.specs.Operations.{Effect}

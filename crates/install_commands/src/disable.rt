@@ -1,9 +1,9 @@
 //! disable.
 ghost use Rattle.std.specs.Prelude.{◌≡◌, ◌++◌, [], Ok, map as list_map, IfOk, OnErr, OnOk};
-ghost use Rattle.footprint.specs.declared.key.Key.TheVariants.{Marked};
+ghost use Rattle.tree_access.specs.declared.key.Key.TheVariants.{Marked};
 ghost use Rattle.load_path.specs.Search.{with_cell, each_once};
 ghost use Rattle.footprint.specs.Inquiry.{entries_of_all, giving};
-ghost use Rattle.footprint.specs.Placing.{cleared};
+ghost use Rattle.tree_access.specs.Placing.{cleared};
 ghost use Rattle.install_commands.specs.Disable.{with_real, reals_behind, is_itself, with_self, selves_behind, selves_named, reals_named, but_at, disable_command};
 ghost use Rattle.install_commands.specs.Disable as disabling;
 ghost use Rattle.transaction.specs.Runs.{Runs, asking, asking_for, doing};

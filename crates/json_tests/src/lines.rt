@@ -38,6 +38,8 @@ const ROWS: &[u8] = b"\
         {\"preset\":\"enabled\",\"state\":\"static\",\"unit_file\":\"ssh.service\"}\\n\n\
     no preset\tssh.service\t\t\
         {\"preset\":null,\"state\":\"static\",\"unit_file\":\"ssh.service\"}\\n\n\
+    bad link\tssh.service\t\t\
+        {\"preset\":null,\"state\":\"bad\",\"unit_file\":\"ssh.service\"}\\n\n\
     states\ta.service\t\t\
         {\"enabled\":false,\"state\":\"not-found\",\"unit\":\"a.service\"}\\n\
         {\"enabled\":false,\"state\":\"masked\",\"unit\":\"a.service\"}\\n\
@@ -150,7 +152,12 @@ fn push_file(out: &mut Vec<u8>, alloc: Global, row: &Row) -> Result<(), AllocErr
     } else {
         None
     };
-    push_unit_file(out, &name, StateWord::Static, preset)
+    let state = if is(&row.kind, b"bad link") {
+        StateWord::NotFound
+    } else {
+        StateWord::Static
+    };
+    push_unit_file(out, &name, state, preset)
 }
 
 /// A line for each state.
@@ -195,7 +202,8 @@ fn push_asked(out: &mut Vec<u8>, alloc: Global, row: &Row) -> Result<(), AllocEr
     if is(&row.kind, b"summary") {
         return push_end(out, alloc, row);
     }
-    if is(&row.kind, b"preset") || is(&row.kind, b"no preset") {
+    let is_file = is(&row.kind, b"preset") || is(&row.kind, b"no preset");
+    if is_file || is(&row.kind, b"bad link") {
         return push_file(out, alloc, row);
     }
     if is(&row.kind, b"unit") {

@@ -3,8 +3,8 @@
 use crate::committing::write_to;
 use link_tree::{Slot, Tree};
 use root_histories::{
-    Context, Failure, Kept, KeptRoot, OthersError, Stop, adopted, is_of_other_root, new_history,
-    rows_text, set_aside, shown_path, words_of_run,
+    Context, Failure, Kept, KeptRoot, OthersError, Stop, adopted, check_length, is_of_other_root,
+    new_history, rows_text, set_aside, shown_path, words_of_run,
 };
 use std::alloc::{AllocError, Global};
 use tree_steps::{are_same, changes_between};
@@ -180,6 +180,7 @@ fn set_aside_first(root: &mut KeptRoot<'_>, text: &[u8]) -> Result<u32, Failure>
 /// Writes the history as it was fitted, with no steps, since the root is already as it says.
 fn write_fitted(cx: Context<'_>, root: &mut KeptRoot<'_>, turn: &mut Turn) -> Result<(), Stop> {
     if turn.is_new {
+        check_length(cx, &turn.kept)?;
         write_to(cx.rt.alloc(), root, &turn.kept)?;
         turn.is_new = false;
     }

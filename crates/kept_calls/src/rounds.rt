@@ -5,7 +5,9 @@ use crate::fitting::{Turn, fit};
 use crate::lines::Wanted;
 use crate::paths::Paths;
 use disk::capture;
-use root_histories::{Context, Failure, KeepIf, KeptRoot, Stop, paths_of, read_kept, words_of_run};
+use root_histories::{
+    Context, Failure, KeepIf, KeptRoot, Stop, check_length, paths_of, read_kept, words_of_run,
+};
 use std::alloc::AllocError;
 
 /// After this number of rounds a run is refused: each but the last finds a path more.
@@ -89,7 +91,17 @@ fn fill_turn(
     turn: &mut Turn,
 ) -> Result<(), Stop> {
     fit_to_root(cx, root, paths, turn)?;
-    Ok(make_calls(cx, root, wanted, turn)?)
+    make_calls(cx, root, wanted, turn)?;
+    Ok(check_written(cx, turn)?)
+}
+
+/// Refuses a run whose history no later run could read. One that isn't kept has no text.
+fn check_written(cx: Context<'_>, turn: &Turn) -> Result<(), Failure> {
+    if turn.kept.is_written() {
+        check_length(cx, &turn.kept)
+    } else {
+        Ok(())
+    }
 }
 
 /// Adds the paths at which the calls of a turn looked, and that were not captured. Returns whether

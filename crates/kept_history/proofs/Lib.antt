@@ -8,3 +8,4 @@ pub mod Lasting
 pub mod Since
 pub mod Parts
 pub mod Finishing
+pub mod Seen

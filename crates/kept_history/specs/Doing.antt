@@ -6,7 +6,7 @@ use Rattle.link_tree.specs.declared.change.Change.{Change}
 use Rattle.link_tree.specs.Trees.{Entries}
 use Rattle.disk.specs.Disks.{Held, of_disk}
 use Rattle.disk.specs.Steps.{failures_with}
-use Rattle.disk.specs.Applied.{AreDue, after_steps, Stops}
+use Rattle.disk.specs.Applied.{AllStand, AreDue, after_steps, Stops}
 use Rattle.disk.specs.Events.{Event, with_events}
 use Rattle.kept_history.specs.Runs.{run_events, withdrawn_events}
 use Rattle.kept_history.specs.Laws.{NeverHalf}
@@ -38,6 +38,15 @@ Leaves old new (Err (NotPromised why)) steps = new ≡ old
 Leaves old new (Err (Withdrawn step why)) steps = (new ≡ old) × Stops old steps step why
 Leaves old new (Err (Unfinished why)) steps = (n : ℕ) × (new ≡ option_map (after_steps (take n steps)) old)
 Leaves old new (Err (HalfWithdrawn step why back)) steps = Stops old steps step why
+
+-- Once something is written, the old entry of each step was at its path before.
+abbrev pub WereSeen : Option Held → Result (Unit {0}) RunError → List Change → Type 0
+WereSeen held (Ok done) steps = AllStand held steps
+WereSeen held (Err (Refused step why)) steps = Unit {0}
+WereSeen held (Err (NotPromised why)) steps = Unit {0}
+WereSeen held (Err (Withdrawn step why)) steps = AllStand held steps
+WereSeen held (Err (Unfinished why)) steps = AllStand held steps
+WereSeen held (Err (HalfWithdrawn step why back)) steps = AllStand held steps
 
 -- Each failure that ended a run is counted, and there is no other.
 abbrev pub failures_after_run : ℕ → Result (Unit {0}) RunError → ℕ

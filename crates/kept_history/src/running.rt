@@ -6,7 +6,7 @@ ghost use Rattle.disk.specs.Applied.{WereMade};
 ghost use Rattle.tree_steps.specs.Steps.{steps_between};
 ghost use Rattle.disk.specs.Events.{Event, Promise, Commit, Withdraw, Make, SyncHistory, way_back, with_events};
 ghost use Rattle.kept_history.specs.Runs.{ending};
-ghost use Rattle.kept_history.specs.Doing.{Does, Runs, Leaves, NeverHalfSince, failures_after_run};
+ghost use Rattle.kept_history.specs.Doing.{Does, Runs, Leaves, NeverHalfSince, WereSeen, failures_after_run};
 
 use crate::kept_disk::KeptDisk;
 use disk::{DiskError, StepError, Stop, look_at_all, make_all, take_all_back};
@@ -154,6 +154,7 @@ pub fn run<D: KeptDisk>(
 ) -> Result<(), RunError>
     ensures runs { Runs (D.done disk.old) (D.done disk.new) result text.now steps.now }
     ensures leaves { Leaves (D.holds disk.old) (D.holds disk.new) result steps.now }
+    ensures looked { WereSeen (D.holds disk.old) result steps.now }
     ensures counted { D.failures disk.new ≡ failures_after_run (D.failures disk.old) result }
 {
     match look_at_all(alloc, disk, steps) {
@@ -174,6 +175,7 @@ pub fn run_between<D: KeptDisk>(
     ensures whole { NeverHalfSince (D.done disk.old) (D.done disk.new) old.now new.now text.now }
     ensures runs { Runs (D.done disk.old) (D.done disk.new) result text.now (steps_between old.now new.now) }
     ensures leaves { Leaves (D.holds disk.old) (D.holds disk.new) result (steps_between old.now new.now) }
+    ensures looked { WereSeen (D.holds disk.old) result (steps_between old.now new.now) }
     ensures counted { D.failures disk.new ≡ failures_after_run (D.failures disk.old) result }
 {
     let steps = steps_between(alloc, old, new)?;

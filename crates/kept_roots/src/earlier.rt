@@ -121,8 +121,8 @@ impl<'a> HistoryDirectory<'a> {
     /// Removes all files of a history, `history` last, and the directory if nothing else is in it
     /// and this user may.
     ///
-    /// Errors: the system's own: `history` is still there; `MayNotLast`: the files were removed,
-    /// and so was the directory, unless that is what failed.
+    /// Errors: the system's own: `history` is still there; `MayNotLast`: the files were removed;
+    /// the directory too, unless it had to stay or is what failed.
     pub fn forget(&self) -> Result<(), HistoryError> {
         self.held.enter()?;
         let removed = self.remove_files();

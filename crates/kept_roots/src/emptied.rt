@@ -1,9 +1,9 @@
 //! Directories for dependencies that are empty, since a run took the last link from them.
 
 use link_tree::{PathError, TreePath};
-use real_roots::{RealDisk, Trouble, at};
+use real_roots::{RealDisk, Trouble, at, may_stay};
 use std::alloc::{AllocError, Global};
-use std::{fs, io};
+use std::fs;
 
 /// The endings of the names of directories for dependencies.
 const ENDINGS: [&[u8]; 3] = [b".wants", b".requires", b".upholds"];
@@ -24,19 +24,11 @@ pub(crate) fn dependencies_of(
     }
 }
 
-/// Whether a directory could not be removed since something is in it, or there is none.
-pub(crate) fn is_kept_or_gone(kind: io::ErrorKind) -> bool {
-    kind == io::ErrorKind::DirectoryNotEmpty
-        || kind == io::ErrorKind::AlreadyExists
-        || kind == io::ErrorKind::NotFound
-        || kind == io::ErrorKind::NotADirectory
-}
-
-/// Removes a directory of the working directory, unless something is in it.
+/// Removes a directory of the working directory, unless it may stay.
 fn remove_here(rt: &HostRuntime, path: &TreePath, name: &str) -> Result<(), Trouble> {
     match fs::remove_dir(rt, name) {
         Ok(()) => Ok(()),
-        Err(e) if is_kept_or_gone(e.kind()) => Ok(()),
+        Err(e) if may_stay(e.kind()) => Ok(()),
         Err(e) => {
             let path = String::from_utf8_lossy(rt.alloc(), path.text())?;
             at(rt.alloc(), &path, Err(e))
@@ -44,8 +36,8 @@ fn remove_here(rt: &HostRuntime, path: &TreePath, name: &str) -> Result<(), Trou
     }
 }
 
-/// Removes a directory beneath the root, unless something is in it. The directory that contains it
-/// is not synced.
+/// Removes a directory beneath the root, unless it may stay. The directory that contains it is not
+/// synced.
 pub(crate) fn remove_if_empty(
     rt: &HostRuntime,
     disk: &mut RealDisk<'_>,

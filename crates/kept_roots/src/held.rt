@@ -1,8 +1,7 @@
 //! A directory that this run has locked.
 
-use crate::emptied::is_kept_or_gone;
 use crate::error::{DirectoryFault, HistoryError, if_there, refused};
-use real_roots::{GivenTime, Hold, Identity, Patience, Trouble, at, changed, hold_root};
+use real_roots::{GivenTime, Hold, Identity, Patience, Trouble, at, changed, hold_root, may_stay};
 use std::fs::{File, Metadata};
 use std::os::unix::fs::MetadataExt;
 use std::{env, fs, io};
@@ -12,6 +11,9 @@ pub(crate) const DIRECTORY_MODE: u32 = 0o700;
 
 /// The bits of a mode that say who may do what.
 const RIGHTS: u32 = 0o777;
+
+/// The directory of the process that runs the program: proc(5).
+const OWN_PROCESS: &str = "/proc/self";
 
 /// A directory by two names.
 #[derive(Clone, Copy)]
@@ -53,12 +55,23 @@ fn check_directory(rt: &HostRuntime, shown: &str, found: &Metadata) -> Result<()
     Ok(())
 }
 
-/// Whether a directory that could not be removed may stay: something is in it, it is a mount point,
-/// or this user may not remove it.
-fn may_stay(kind: io::ErrorKind) -> bool {
-    is_kept_or_gone(kind)
-        || kind == io::ErrorKind::ResourceBusy
-        || kind == io::ErrorKind::PermissionDenied
+/// Whether this is another user than the one who runs the program, to whom `/proc/self` belongs. If
+/// there is no such directory, that isn't known, and the answer is no.
+fn is_another_user(rt: &HostRuntime, user: u32) -> bool {
+    match fs::metadata(rt, OWN_PROCESS) {
+        Ok(found) => found.uid() != user,
+        Err(_) => false,
+    }
+}
+
+/// Opens a directory of this user. That of another one can't be opened, unless root does it.
+fn open_of(rt: &HostRuntime, shown: &str, path: &str, owner: u32) -> Result<File, HistoryError> {
+    match File::open(rt, path) {
+        Err(e) if e.kind() == io::ErrorKind::PermissionDenied && is_another_user(rt, owner) => {
+            Err(refused(rt.alloc(), shown, DirectoryFault::Foreign))
+        }
+        opened => Ok(at(rt.alloc(), shown, opened)?),
+    }
 }
 
 fn hold(
@@ -94,7 +107,7 @@ impl<'a> Held<'a> {
         };
         check_directory(rt, shown, &found)?;
         let path = at(alloc, shown, fs::canonicalize(rt, name.opened))?.into_string();
-        let lock = at(alloc, shown, File::open(rt, &path))?;
+        let lock = open_of(rt, shown, path.as_str(), found.uid())?;
         let opened = at(alloc, shown, lock.metadata())?;
         if Identity::of(&opened) != Identity::of(&found) {
             return Err(HistoryError::Trouble(changed(alloc, shown)));

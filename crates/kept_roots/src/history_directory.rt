@@ -44,15 +44,15 @@ pub struct HistoryDirectory<'a> {
     is_new: bool,
 }
 
-/// Refuses a directory of another user, and removes what runs left in it that were cut short.
+/// Refuses a directory of another user, and removes whatever interrupted runs left in it.
 fn prepare(held: &Held<'_>) -> Result<(), HistoryError> {
     check_owner(held)?;
     Ok(clear(held)?)
 }
 
 impl<'a> HistoryDirectory<'a> {
-    /// A directory that was just locked. If it is held alone, it must belong to this user, and what
-    /// runs left there that were cut short is removed.
+    /// A directory that was just locked. If it is held alone, it must belong to this user, and
+    /// whatever interrupted runs left there is removed.
     pub(crate) fn taken(held: Held<'a>, hold: Hold) -> Result<HistoryDirectory<'a>, HistoryError> {
         if hold == Hold::Alone {
             prepare(&held)?;
@@ -153,9 +153,10 @@ impl<'a> HistoryDirectory<'a> {
     }
 
     fn rename(&self, from: &str, to: &str) -> Result<(), Trouble> {
+        let path = self.held.shown_path(to)?;
         self.held.enter()?;
         let renamed = fs::rename(self.held.rt, from, to);
-        at(self.held.rt.alloc(), &self.held.shown_path(to)?, renamed)
+        at(self.held.rt.alloc(), &path, renamed)
     }
 
     /// Writes a text to a new file, and renames that. If it fails, the new file is removed.
@@ -194,9 +195,10 @@ impl<'a> HistoryDirectory<'a> {
 
     /// Removes `history.next`.
     pub fn withdraw(&self) -> Result<(), Trouble> {
+        let path = self.held.shown_path(NEXT)?;
         self.held.enter()?;
         let removed = fs::remove_file(self.held.rt, NEXT);
-        at(self.held.rt.alloc(), &self.held.shown_path(NEXT)?, removed)
+        at(self.held.rt.alloc(), &path, removed)
     }
 
     /// Syncs the directory.

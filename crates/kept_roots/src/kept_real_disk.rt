@@ -7,7 +7,7 @@ use crate::history_directory::HistoryDirectory;
 use disk::{Disk, DiskError, Found, Listing, StepError};
 use kept_history::KeptDisk;
 use link_tree::{Change, Entry, TreePath};
-use real_roots::{RealDisk, Trouble};
+use real_roots::{RealDisk, Trouble, is_same_entry};
 use std::alloc::Global;
 
 /// The files beneath the root directory of an image, with the directory of its history.
@@ -21,15 +21,6 @@ pub struct KeptRealDisk<'a> {
     failures: u64,
     /// `history.next` was renamed or removed, and this isn't synced yet.
     is_ending: bool,
-}
-
-/// Whether two entries are equal, or both `None`.
-fn is_same(one: &Option<Entry>, other: &Option<Entry>) -> bool {
-    match (one, other) {
-        (None, None) => true,
-        (Some(one), Some(other)) => one.same(other),
-        _ => false,
-    }
 }
 
 /// Whether a step before this one is in the same directory.
@@ -178,7 +169,7 @@ impl<'a> Disk for KeptRealDisk<'a> {
             Found::Entry(there) => Some(there),
             Found::Odd(_) => return Err(StepError::Odd),
         };
-        if is_same(&there, entry) {
+        if is_same_entry(&there, entry) {
             Ok(())
         } else {
             Err(StepError::Changed)

@@ -1,4 +1,4 @@
-//! What runs leave in the directory of a history that are cut short.
+//! What interrupted runs leave in the directory of a history.
 
 use crate::earlier::remove_unfinished;
 use crate::error::{DirectoryFault, HistoryError, if_there, refused};
@@ -49,7 +49,7 @@ pub(crate) fn check_owner(held: &Held<'_>) -> Result<(), HistoryError> {
     }
 }
 
-/// Removes what is left of runs that were cut short, but for `history.next` and `history.new`.
+/// Removes whatever interrupted runs left, except `history.next` and `history.new`.
 pub(crate) fn clear(held: &Held<'_>) -> Result<(), Trouble> {
     remove_unfinished(held)?;
     held.set_time()

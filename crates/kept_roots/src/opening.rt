@@ -97,11 +97,11 @@ fn take<'a>(
 }
 
 /// Locks the directory of a history for this run: flock(2). If there is none, the result is `None`.
-/// If the lock is exclusive, what runs left there that were cut short is removed, but for
+/// If the lock is exclusive, whatever interrupted runs left there is removed, except
 /// `history.next`.
 ///
-/// Errors: `Link`, `NoDirectory`, `Mode`; `Foreign`, if the lock is exclusive; `Busy`; the system's
-/// own, with the path.
+/// Errors: `Link`, `NoDirectory`, `Mode`; `Foreign`, if the lock is exclusive or this user may not
+/// open the directory; `Busy`; the system's own, with the path.
 pub fn open_directory<'a>(
     rt: &'a HostRuntime,
     disk: &mut RealDisk<'_>,

@@ -17,8 +17,8 @@ use Rattle.tree_steps.specs.Steps.{slot_changes_between}
 use Rattle.tree_steps.proofs.SlotChanges.{slots_from, slots_alone}
 use Rattle.footprint.specs.declared.answer.Answer.TheVariants.{Done}
 use Rattle.footprint.specs.Operations.{outcome_of}
-use Rattle.footprint.specs.declared.key.Key.TheVariants.{Cell}
-use Rattle.footprint.specs.Rules.{Rule}
+use Rattle.tree_access.specs.declared.key.Key.TheVariants.{Cell}
+use Rattle.tree_access.specs.Rules.{Rule}
 use Rattle.slot_commands.specs.ByHand.{place_at, remove_at, ruled_slot, place_meaning, remove_meaning, with_one, FillsSlot, EmptiesSlot}
 use Rattle.slot_commands.specs.Effects.{Leaves}
 use Rattle.slot_commands.proofs.Hands.{place_fills, remove_empties}

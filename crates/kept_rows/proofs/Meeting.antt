@@ -9,13 +9,13 @@ use Rattle.std.proofs.lemmas.List.Elements.{All-nil, All-cons, All-head, All-tai
 use Rattle.link_tree.specs.declared.change.Change.{Change}
 use Rattle.link_tree.specs.Trees.{Entries, KeepsPath}
 use Rattle.link_tree.proofs.Changed.{same_bytes, other_bytes}
-use Rattle.footprint.specs.declared.key.Key.{Key}
-use Rattle.footprint.specs.declared.key.Key.TheVariants.{Cell}
-use Rattle.footprint.specs.declared.reading.Observation.{Observation}
-use Rattle.footprint.specs.Keys.{touches, Untouched}
-use Rattle.footprint.specs.Readings.{keys_of, reading_of}
-use Rattle.footprint.proofs.KeySets.{All-in_order}
-use Rattle.footprint.proofs.Outcomes.{untouched_keys, keys_of_reading}
+use Rattle.tree_access.specs.declared.key.Key.{Key}
+use Rattle.tree_access.specs.declared.key.Key.TheVariants.{Cell}
+use Rattle.tree_access.specs.declared.reading.Observation.{Observation}
+use Rattle.tree_access.specs.Keys.{touches, Untouched}
+use Rattle.tree_access.specs.Readings.{keys_of, reading_of}
+use Rattle.tree_access.proofs.KeySets.{All-in_order}
+use Rattle.tree_access.proofs.ReadingKeys.{untouched_keys, keys_of_reading}
 use Rattle.history.specs.Rows.{meets}
 
 -- one of the changes is of a path

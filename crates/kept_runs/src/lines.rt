@@ -1,10 +1,12 @@
 //! The calls of a run, by their lines.
-ghost use Rattle.std.specs.Prelude.{◌≡◌, ◌+◌, [], ◌∷◌, ℕ, List, Some, Ok, true, false, length, map as list_map, IfOk, IfErr, OnOk};
+ghost use Rattle.std.specs.Prelude.{◌≡◌, ◌+◌, [], ◌∷◌, ℕ, List, Some, Ok, Err, true, false, length, map as list_map, IfOk, IfErr, OnOk};
 ghost use Rattle.std.specs.List.{slice_split};
 ghost use Rattle.byte_streams.specs.Reads.{Gives};
 ghost use Rattle.unit_script.specs.declared.call.Call.{Call as CallSeen};
 ghost use Rattle.unit_script.specs.Script.{with_call};
+ghost use Rattle.unit_script.specs.declared.reason.Reason.{Reason as WhyBad};
 ghost use Rattle.kept_rows.specs.Others.{rows_with};
+ghost use Rattle.kept_runs.specs.declared.errors.LinesError.TheVariants as faults;
 ghost use Rattle.kept_runs.specs.Lines.{is_line_end, call_of, calls_onto, calls_of_lines, IsLineError};
 ghost use Rattle.kept_runs.specs.Runs.{is_kept, added};
 
@@ -113,6 +115,7 @@ impl Kept {
         ensures kept { OnOk result (self.new.is_written ≡ true → is_kept keep_if (added self.old.history.rows self.new.history.rows) ≡ true) }
         ensures left { OnOk result (is_kept keep_if (added self.old.history.rows self.new.history.rows) ≡ false → self.new.text ≡ self.old.text) }
         ensures fault { IfErr result (λ e. IsLineError e (calls_of_lines lines.now)) }
+        ensures bad { (n : ℕ) (reason : WhyBad) → result ≡ Err (faults.Bad n reason) → self.new ≡ self.old }
     {
         let ReadLines { calls, text } = read_lines(alloc, lines)?;
         match self.make_run(alloc, calls, &text, words, keep_if) {

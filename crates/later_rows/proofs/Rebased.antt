@@ -3,13 +3,13 @@ use Rattle.std.proofs.Common.{◌≡◌, ◌+◌, ℕ, zero, suc, Bool, List, []
 use Rattle.link_tree.specs.declared.change.Change.{Change}
 use Rattle.link_tree.specs.Trees.{Entries, AreFrom, after_changes}
 use Rattle.footprint.specs.declared.outcome.Outcome.{Outcome}
-use Rattle.footprint.specs.declared.reading.Observation.{Observation}
+use Rattle.tree_access.specs.declared.reading.Observation.{Observation}
 use Rattle.footprint.specs.Inquiry.{Inquiry}
-use Rattle.footprint.specs.Keys.{Untouched}
+use Rattle.tree_access.specs.Keys.{Untouched}
 use Rattle.footprint.specs.Operations.{Effect, OperationLaws, outcome_of}
-use Rattle.footprint.specs.Readings.{keys_of, reading_of}
-use Rattle.footprint.proofs.Outcomes.{untouched_keys}
-use Rattle.footprint.proofs.Untouched.{untouched_step}
+use Rattle.tree_access.specs.Readings.{keys_of, reading_of}
+use Rattle.tree_access.proofs.ReadingKeys.{untouched_keys}
+use Rattle.footprint.proofs.Outcomes.{untouched_step}
 use Rattle.history.specs.declared.row.Row.{Row}
 use Rattle.history.specs.declared.row.UndoRefusal.{UndoRefusal}
 use Rattle.history.specs.declared.row.RedoRefusal.{RedoRefusal}

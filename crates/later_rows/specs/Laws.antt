@@ -7,9 +7,9 @@ use Rattle.history.specs.declared.row.RedoRefusal.TheVariants.{Hindered}
 use Rattle.history.specs.Rows.{Call, row_at, survivor, meets, AreMarked, undo_refusal, redo_refusal, replay, run}
 use Rattle.link_tree.specs.Trees.{Entries, AreFrom, after_changes}
 use Rattle.footprint.specs.Inquiry.{Inquiry}
-use Rattle.footprint.specs.Keys.{Untouched}
+use Rattle.tree_access.specs.Keys.{Untouched}
 use Rattle.footprint.specs.Operations.{Effect}
-use Rattle.footprint.specs.Readings.{keys_of}
+use Rattle.tree_access.specs.Readings.{keys_of}
 
 module _ {O : Type 0} (asks : O → Bool) where
   -- One of these rows survives, and looked at what one of the changes touches.

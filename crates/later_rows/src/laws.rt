@@ -9,7 +9,8 @@ pub fn later_readers_block<O: Operation>()
     ensures { LaterReadersBlock O.asks }
 {}
 
-/// The same of the redo of a row that was undone.
+/// If the redo of an undone row was free, it is refused once a later row has looked at what that row
+/// changed: the refusal names such a later row.
 pub fn later_readers_hinder<O: Operation>()
     ensures { LaterReadersHinder O.asks }
 {}

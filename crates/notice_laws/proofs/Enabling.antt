@@ -26,7 +26,7 @@ use Rattle.install_section.specs.Wishes.{notice_key, wish, words_for}
 use Rattle.install_section.specs.Words.{skipped}
 use Rattle.install_section.proofs.Least.{closure_least, tells_of_skipped as closure_tells}
 use Rattle.install_section.proofs.WantedSets.{tells_of_skipped as wanted_tells}
-use Rattle.footprint.specs.declared.refusal.Refusal.{Refusal}
+use Rattle.tree_access.specs.declared.refusal.Refusal.{Refusal}
 use Rattle.footprint.specs.Commands.{carried_out}
 use Rattle.install_commands.specs.Check.{going_on, checked}
 use Rattle.install_commands.specs.Enable.{unless_too_many, unless_at_odds, closed_want, units_want, links_made, checked_want, units_enabled}

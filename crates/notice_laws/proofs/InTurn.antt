@@ -4,9 +4,9 @@ use Rattle.unit_file.specs.declared.notice.Notice.{Notice}
 use Rattle.unit_file.specs.Notices.{joined}
 use Rattle.link_tree.specs.Trees.{Entries}
 use Rattle.footprint.specs.declared.answer.Answer.{Answer}
-use Rattle.footprint.specs.Commands.{Command, carried_out}
+use Rattle.footprint.specs.Commands.{Command, carried_out, effect}
 use Rattle.footprint.specs.Operations.{Effect}
-use Rattle.footprint.specs.Placing.{Placed, Ruling, effect}
+use Rattle.tree_access.specs.Placing.{Placed, Ruling}
 use Rattle.install_commands.specs.Laws.{Leaves}
 use Rattle.install_commands.proofs.Composites.{leaves_placed}
 use Rattle.install_commands.proofs.InTurn.{net_effect, whole, told, more, rules_first, rules_second, left, whole_comes, whole_refused}

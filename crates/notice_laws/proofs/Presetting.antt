@@ -5,7 +5,7 @@ use Rattle.unit_file.specs.declared.notice.Notice.{Notice}
 use Rattle.unit_file.specs.Notices.{NoticeMap, line_cmp, notice_line}
 use Rattle.link_tree.specs.Trees.{Entries}
 use Rattle.install_section.proofs.Least.{IsTold, none_of}
-use Rattle.footprint.specs.declared.refusal.Refusal.{Refusal}
+use Rattle.tree_access.specs.declared.refusal.Refusal.{Refusal}
 use Rattle.footprint.specs.Commands.{Command, carried_out}
 use Rattle.footprint.specs.Inquiry.{over}
 use Rattle.install_commands.specs.declared.preset.Preset.{Preset}

@@ -2,7 +2,7 @@
 use Rattle.std.proofs.Common.{◌≡◌, false, ◌⊎◌, ◌↔◌, Result, Ok, Err, inl, inr}
 use Rattle.unit_file.specs.declared.notice.Notice.{Notice}
 use Rattle.link_tree.specs.Trees.{Entries}
-use Rattle.footprint.specs.declared.refusal.Refusal.{Refusal}
+use Rattle.tree_access.specs.declared.refusal.Refusal.{Refusal}
 use Rattle.footprint.specs.Commands.{carried_out}
 use Rattle.install_commands.specs.declared.reenable.Reenable.{Reenable}
 use Rattle.install_commands.specs.Check.{going_on, checked}

@@ -7,9 +7,9 @@ use Rattle.unit_file.specs.declared.notice.Notice.{Notice}
 use Rattle.unit_file.specs.Notices.{line_cmp, NoticeMap}
 use Rattle.link_tree.specs.Trees.{Entries}
 use Rattle.install_section.proofs.Least.{is_first}
-use Rattle.footprint.specs.declared.refusal.Refusal.{Refusal}
-use Rattle.footprint.specs.Commands.{silent, taken, unless_refused, carried_out}
-use Rattle.footprint.specs.Placing.{Ruling, effect}
+use Rattle.tree_access.specs.declared.refusal.Refusal.{Refusal}
+use Rattle.footprint.specs.Commands.{silent, taken, unless_refused, carried_out, effect}
+use Rattle.tree_access.specs.Placing.{Ruling}
 use Rattle.footprint.specs.Steps.{Step, nothing}
 use Rattle.install_commands.specs.Check.{checked}
 use Rattle.slot_commands.specs.AddTo.{add_steps}

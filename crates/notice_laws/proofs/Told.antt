@@ -16,9 +16,9 @@ use Rattle.link_tree.proofs.Shapes.{same_key}
 use Rattle.install_section.proofs.Least.{none_of, some_is}
 use Rattle.footprint.specs.declared.answer.Answer.{Answer}
 use Rattle.footprint.specs.declared.answer.Answer.TheVariants.{Done, Refused}
-use Rattle.footprint.specs.declared.refusal.Refusal.{Refusal}
-use Rattle.footprint.specs.Commands.{Command, taken, unless_refused}
-use Rattle.footprint.specs.Placing.{Ruling, effect}
+use Rattle.tree_access.specs.declared.refusal.Refusal.{Refusal}
+use Rattle.footprint.specs.Commands.{Command, taken, unless_refused, effect}
+use Rattle.tree_access.specs.Placing.{Ruling}
 use Rattle.footprint.specs.Steps.{Step}
 use Rattle.notice_laws.specs.Reports.{Reports}
 

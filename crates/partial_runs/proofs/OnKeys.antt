@@ -10,11 +10,11 @@ use Rattle.unit_paths.specs.declared.place.Place.TheVariants.{Etc, Run, Local, V
 use Rattle.unit_paths.specs.declared.place.Scope.{Scope}
 use Rattle.link_tree.specs.declared.entry.Entry.{Entry}
 use Rattle.link_tree.specs.Trees.{Entries}
-use Rattle.footprint.specs.declared.key.Key.{Key}
-use Rattle.footprint.specs.declared.key.Key.TheVariants.{Cell, Marked, Presets, Links}
-use Rattle.footprint.specs.declared.reading.Seen.TheVariants as seens
-use Rattle.footprint.specs.KeyLaws.{agree_at, agree_from}
-use Rattle.footprint.specs.Keys.{selects, shown, Agree, AgreeOn}
+use Rattle.tree_access.specs.declared.key.Key.{Key}
+use Rattle.tree_access.specs.declared.key.Key.TheVariants.{Cell, Marked, Presets, Links}
+use Rattle.tree_access.specs.declared.reading.Seen.TheVariants as seens
+use Rattle.tree_access.proofs.KeyLaws.{agree_at, agree_from}
+use Rattle.tree_access.specs.Keys.{selects, shown, Agree, AgreeOn}
 use Rattle.disk.specs.Disks.{Held}
 use Rattle.disk.specs.Partials.{IsIn, AreCaptured}
 use Rattle.disk.specs.declared.partial.Area.{Area}

@@ -4,9 +4,9 @@ use Rattle.std.proofs.Math.Seq.{take-suc}
 use Rattle.std.proofs.lemmas.List.{take_all}
 use Rattle.std.proofs.lemmas.List.Elements.{All-nil, All-cons, All-append, All-map, All-weaker}
 use Rattle.link_tree.specs.Trees.{Entries}
-use Rattle.footprint.specs.declared.reading.Observation.{Observation}
-use Rattle.footprint.specs.Keys.{Agree, AgreeOn}
-use Rattle.footprint.specs.Readings.{keys_of}
+use Rattle.tree_access.specs.declared.reading.Observation.{Observation}
+use Rattle.tree_access.specs.Keys.{Agree, AgreeOn}
+use Rattle.tree_access.specs.Readings.{keys_of}
 use Rattle.disk.specs.Disks.{Held}
 use Rattle.disk.specs.Partials.{found_in}
 use Rattle.disk.specs.declared.partial.Partial.{Partial}

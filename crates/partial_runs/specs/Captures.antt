@@ -2,8 +2,8 @@
 use Rattle.std.specs.Prelude.{List, [], ◌∷◌, Option, Result, Ok, Err, All, IfSome}
 use Rattle.unit_paths.specs.declared.place.Place.TheVariants.{Etc, Run, Local, Vendor}
 use Rattle.link_tree.specs.Trees.{Entries}
-use Rattle.footprint.specs.declared.reading.Observation.{Observation}
-use Rattle.footprint.specs.Keys.{Agree}
+use Rattle.tree_access.specs.declared.reading.Observation.{Observation}
+use Rattle.tree_access.specs.Keys.{Agree}
 use Rattle.disk.specs.Disks.{Held}
 use Rattle.disk.specs.Partials.{AreCaptured, IsIn, IsPartial, IsReasonAgainstPart, found_in}
 use Rattle.disk.specs.declared.capture_error.CaptureError.{CaptureError}

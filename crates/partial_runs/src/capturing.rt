@@ -2,7 +2,7 @@
 ghost use Rattle.std.specs.Prelude.{◌≡◌};
 ghost use Rattle.disk.specs.Captures.{failures_after_capture};
 ghost use Rattle.disk.specs.Partials.{IsIn, AreCaptured};
-ghost use Rattle.footprint.specs.Keys.{Agree};
+ghost use Rattle.tree_access.specs.Keys.{Agree};
 ghost use Rattle.partial_runs.specs.Captures.{AgreesOnReading, AreAllCaptured, Captures, everything};
 ghost use Rattle.partial_trees.specs.Parts.{AgreeOnRows};
 

@@ -9,16 +9,16 @@ use Rattle.link_tree.specs.Trees.{Entries, after_change, after_changes}
 use Rattle.link_tree.specs.Differences.{same, change, changes_between}
 use Rattle.link_tree.proofs.Changed.{after_at, get-after_changes}
 use Rattle.link_tree.proofs.Differences.{change_at, get-differences, same_differences, same-itself}
-use Rattle.footprint.specs.declared.key.Key.{Key}
-use Rattle.footprint.specs.declared.key.Key.TheVariants.{Cell}
-use Rattle.footprint.specs.declared.reading.Observation.{Observation}
+use Rattle.tree_access.specs.declared.key.Key.{Key}
+use Rattle.tree_access.specs.declared.key.Key.TheVariants.{Cell}
+use Rattle.tree_access.specs.declared.reading.Observation.{Observation}
 use Rattle.footprint.specs.Inquiry.{Inquiry}
-use Rattle.footprint.specs.Keys.{Agree, AgreeOn}
-use Rattle.footprint.specs.KeyLaws.{same_there, is_changed, unchanged, at_changed}
+use Rattle.tree_access.specs.Keys.{Agree, AgreeOn}
+use Rattle.tree_access.proofs.KeyLaws.{same_there, is_changed, unchanged, at_changed}
 use Rattle.footprint.specs.Operations.{Effect, outcome_of, OperationLaws}
-use Rattle.footprint.specs.Readings.{keys_of}
-use Rattle.footprint.proofs.KeySets.{in_order-All}
-use Rattle.footprint.proofs.Outcomes.{keys_of_reading}
+use Rattle.tree_access.specs.Readings.{keys_of}
+use Rattle.tree_access.proofs.KeySets.{in_order-All}
+use Rattle.tree_access.proofs.ReadingKeys.{keys_of_reading}
 use Rattle.history.specs.declared.row.Row.{Row}
 use Rattle.history.specs.Rows.{survivor, after, replay, AnswersHere, AnswersAlike}
 use Rattle.partial_trees.specs.Parts.{AgreeOnRows}

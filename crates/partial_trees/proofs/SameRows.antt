@@ -6,10 +6,10 @@ use Rattle.link_tree.specs.Differences.{changes_between}
 use Rattle.link_tree.proofs.Leads.{leads}
 use Rattle.footprint.specs.declared.outcome.Outcome.{Outcome}
 use Rattle.footprint.specs.Inquiry.{Inquiry}
-use Rattle.footprint.specs.Keys.{AgreeOn}
-use Rattle.footprint.specs.KeyLaws.{agree_on_after}
+use Rattle.tree_access.specs.Keys.{AgreeOn}
+use Rattle.tree_access.proofs.KeyLaws.{agree_on_after}
 use Rattle.footprint.specs.Operations.{Effect, outcome_of, OperationLaws}
-use Rattle.footprint.specs.Readings.{keys_of}
+use Rattle.tree_access.specs.Readings.{keys_of}
 use Rattle.footprint.proofs.Outcomes.{comes_to_the_same}
 use Rattle.history.specs.declared.row.UndoRefusal.{UndoRefusal}
 use Rattle.history.specs.declared.row.RedoRefusal.{RedoRefusal}

@@ -1,8 +1,8 @@
 -- When two trees agree on all that rows looked at. One of them may be a part of the other.
 use Rattle.std.specs.Prelude.{List, All}
 use Rattle.link_tree.specs.Trees.{Entries}
-use Rattle.footprint.specs.Keys.{AgreeOn}
-use Rattle.footprint.specs.Readings.{keys_of}
+use Rattle.tree_access.specs.Keys.{AgreeOn}
+use Rattle.tree_access.specs.Readings.{keys_of}
 use Rattle.history.specs.declared.row.Row.{Row}
 
 -- Each key at which one of the rows looked sees the same in both trees.

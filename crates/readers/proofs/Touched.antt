@@ -13,21 +13,19 @@ use Rattle.link_tree.specs.declared.entry.Entry.TheVariants.{File, Link}
 use Rattle.link_tree.specs.declared.change.Change.{Change}
 use Rattle.unit_paths.specs.declared.place.Scope.{Scope}
 use Rattle.unit_paths.specs.declared.place.Scope.TheVariants.{Etc, Run}
-use Rattle.unit_paths.specs.Paths.{is_slash}
+use Rattle.unit_paths.specs.Paths.{is_slash, name_at}
 use Rattle.unit_paths.specs.Canonical.{is_null_target}
-use Rattle.unit_paths.specs.Paths.{name_at}
 use Rattle.unit_paths.specs.Slots.{slot_of}
 use Rattle.link_tree.specs.Trees.{path_cmp}
 use Rattle.link_tree.proofs.Changed.{same_bytes}
-use Rattle.footprint.specs.declared.key.Key.{Key}
-use Rattle.footprint.specs.declared.key.Key.TheVariants.{Cell, Marked, Presets, Links}
-use Rattle.footprint.specs.declared.reading.Observation.{Observation}
+use Rattle.tree_access.specs.declared.key.Key.{Key}
+use Rattle.tree_access.specs.declared.key.Key.TheVariants.{Cell, Marked, Presets, Links}
+use Rattle.tree_access.specs.declared.reading.Observation.{Observation}
 use Rattle.readers.specs.declared.readers.Readers.{Readers}
 use Rattle.link_tree.specs.Links.{is_instance, is_scope, belongs}
-use Rattle.footprint.specs.Keys.{is_marked, touches}
-use Rattle.unit_paths.specs.Kinds.{is_preset, is_dependency}
+use Rattle.tree_access.specs.Keys.{is_marked, touches}
+use Rattle.unit_paths.specs.Kinds.{is_preset, is_dependency, scope_of}
 use Rattle.readers.specs.Readers.{reads, is_key, is_read, is_marked_of, is_marked_in, is_touched_in}
-use Rattle.unit_paths.specs.Kinds.{scope_of}
 use Rattle.readers.proofs.Listings.{same_text, text_itself}
 
 -- a test of keys, applied to the names of a link

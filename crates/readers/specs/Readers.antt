@@ -10,17 +10,16 @@ use Rattle.link_tree.specs.declared.entry.Entry.TheVariants.{File, Link}
 use Rattle.link_tree.specs.declared.change.Change.{Change}
 use Rattle.unit_paths.specs.declared.place.Scope.{Scope}
 use Rattle.unit_paths.specs.declared.place.Scope.TheVariants as scopes
-use Rattle.unit_paths.specs.Paths.{is_slash}
+use Rattle.unit_paths.specs.Paths.{is_slash, name_at}
 use Rattle.unit_paths.specs.Canonical.{is_null_target}
-use Rattle.unit_paths.specs.Paths.{name_at}
 use Rattle.unit_paths.specs.Slots.{slot_of}
 use Rattle.unit_paths.specs.Kinds.{is_preset, is_dependency, scope_of}
-use Rattle.footprint.specs.declared.key.Key.{Key}
-use Rattle.footprint.specs.declared.key.Key.TheVariants.{Cell, Marked, Presets, Links}
-use Rattle.footprint.specs.declared.reading.Observation.{Observation}
+use Rattle.tree_access.specs.declared.key.Key.{Key}
+use Rattle.tree_access.specs.declared.key.Key.TheVariants.{Cell, Marked, Presets, Links}
+use Rattle.tree_access.specs.declared.reading.Observation.{Observation}
 use Rattle.readers.specs.declared.readers.Readers.{Readers}
 use Rattle.link_tree.specs.Links.{is_instance}
-use Rattle.footprint.specs.Order.{key_cmp}
+use Rattle.tree_access.specs.Order.{key_cmp}
 use Rattle.readers.specs.Numbers.{Lists, has, lists}
 
 -- whether row i is listed under a key

@@ -1,14 +1,13 @@
 //! Which rows of a history looked at a key.
-ghost use Rattle.std.specs.Prelude.{◌≡◌, ◌++◌, ℕ, Bool, false, ◌||◌, ◌&&◌, not, OnOk, OnErr, IfOk};
-ghost use Rattle.std.specs.List.{after_last, list_any};
+ghost use Rattle.std.specs.Prelude.{◌≡◌, ℕ, Bool, false, ◌||◌, ◌&&◌, not, OnOk, OnErr, IfOk};
+ghost use Rattle.std.specs.List.{list_any};
 ghost use Rattle.std.specs.Ordering.{nat_cmp};
 ghost use Rattle.std.specs.BTreeMap.{is_at};
 ghost use Rattle.unit_paths.specs.Slots.{slot_of};
-ghost use Rattle.footprint.specs.declared.key.Key.{Key};
-ghost use Rattle.unit_paths.specs.Kinds.{is_preset, is_dependency};
+ghost use Rattle.tree_access.specs.declared.key.Key.{Key};
+ghost use Rattle.unit_paths.specs.Kinds.{is_preset, is_dependency, scope_of};
 ghost use Rattle.readers.specs.Numbers.{has, IsNext, AreAllAfter};
 ghost use Rattle.readers.specs.Readers.{reads, is_key, is_read, IsListed, IsUnlisted, is_named_in, is_marked_of, is_marked_in, is_touched_in};
-ghost use Rattle.unit_paths.specs.Kinds.{scope_of};
 
 use crate::numbers::{Listed, Numbers};
 use footprint::{Key, Observation, Reading};

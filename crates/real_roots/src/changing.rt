@@ -167,7 +167,9 @@ impl<'a> RootFiles<'a> {
 
     /// Writes the directories in which something was changed to the disk, each once, and removes
     /// those for dependencies that are empty now. The way to each is walked again: if it leads to
-    /// another directory than before, what was changed may be elsewhere.
+    /// another directory than before, what was changed may be elsewhere. After that, nothing is
+    /// known of this run: this process may make another one.
+    ///
     /// Error: the first; the other directories are still written.
     pub fn settle(&mut self) -> Result<(), Trouble> {
         let alloc = self.rt.alloc();
@@ -178,38 +180,64 @@ impl<'a> RootFiles<'a> {
             let one = self.settle_one(directory.as_str(), *identity);
             settled = first_of(settled, one);
         }
-        first_of(settled, self.clear_left())
+        let settled = first_of(settled, self.clear_left());
+        if settled.is_ok() {
+            self.forget_run();
+        }
+        settled
+    }
+
+    /// Forgets which directories were made, and the mode and owner of what was replaced or removed.
+    fn forget_run(&mut self) {
+        let alloc = self.rt.alloc();
+        let _made = mem::replace(&mut self.made, Vec::new(alloc));
+        let _kept = mem::replace(&mut self.kept, BTreeMap::new(alloc));
+    }
+
+    /// After some changes were made that could not be reversed: removes what is left under the name
+    /// for new things, and writes the directories in which something was changed to the disk. Those
+    /// that are empty now stay.
+    pub fn settle_half(&mut self) {
+        let alloc = self.rt.alloc();
+        let _last = self.root.forget("/");
+        // (errors are dropped on purpose: the run has failed, and its own errors are reported)
+        let _cleared = self.clear_left();
+        let directories = mem::replace(&mut self.changed, BTreeMap::new(alloc));
+        for (directory, identity) in &directories {
+            let _written = self.write_one(directory.as_str(), *identity);
+        }
+    }
+
+    /// Writes a directory in which something was changed to the disk.
+    fn write_one(&mut self, directory: &str, identity: Identity) -> Result<(), Trouble> {
+        match self.root.reach(self.rt, directory)? {
+            Reached::There(here) if here.identity == identity => self.maker.sync_changed(directory),
+            Reached::There(_) | Reached::Missing(_) | Reached::Nowhere => {
+                Err(changed(self.rt.alloc(), directory))
+            }
+        }
     }
 
     fn settle_one(&mut self, directory: &str, identity: Identity) -> Result<(), Trouble> {
         let alloc = self.rt.alloc();
-        match self.root.reach(self.rt, directory)? {
-            Reached::There(here) if here.identity == identity => {}
-            _ => return Err(changed(alloc, directory)),
-        }
-        self.maker.sync_changed(directory)?;
+        self.write_one(directory, identity)?;
         match path_of(alloc, directory)? {
             Some(path) if is_for_dependencies(alloc, &path)? => self.remove_if_empty(&path),
             _ => Ok(()),
         }
     }
 
-    /// Removes a directory, unless something is in it.
+    /// Removes a directory for dependencies, unless it may stay.
     fn remove_if_empty(&mut self, directory: &TreePath) -> Result<(), Trouble> {
         let spot = spot_of(self.rt.alloc(), directory)?;
         let Reached::There(_) = self.root.reach(self.rt, spot.directory)? else {
             return Err(changed(self.rt.alloc(), spot.directory));
         };
         let text = text_of(self.rt.alloc(), directory.text())?;
-        self.remove_directory_here(text, spot.directory, spot.name)
-    }
-
-    /// Removes a directory of the working directory, unless something is in it.
-    fn remove_directory_here(&self, path: &str, above: &str, name: &str) -> Result<(), Trouble> {
-        match fs::remove_dir(self.rt, name) {
-            Ok(()) => self.maker.sync_changed(above),
-            Err(e) if is_kept_or_gone(e.kind()) => Ok(()),
-            Err(e) => at(self.rt.alloc(), path, Err(e)),
+        match fs::remove_dir(self.rt, spot.name) {
+            Ok(()) => self.maker.sync_changed(spot.directory),
+            Err(e) if may_stay(e.kind()) => Ok(()),
+            Err(e) => at(self.rt.alloc(), text, Err(e)),
         }
     }
 
@@ -247,9 +275,18 @@ impl<'a> RootFiles<'a> {
         }
         match found_under(self.rt, path.as_str(), name.as_str())? {
             Some(found) if Identity::of(&found) == made.identity => {
-                self.remove_directory_here(path.as_str(), path.as_str(), name.as_str())
+                self.remove_made_here(path.as_str(), name.as_str())
             }
             _ => Ok(()),
+        }
+    }
+
+    /// Removes a directory of the working directory that was made, unless something is in it.
+    fn remove_made_here(&self, path: &str, name: &str) -> Result<(), Trouble> {
+        match fs::remove_dir(self.rt, name) {
+            Ok(()) => self.maker.sync_changed(path),
+            Err(e) if is_kept_or_gone(e.kind()) => Ok(()),
+            Err(e) => at(self.rt.alloc(), path, Err(e)),
         }
     }
 
@@ -281,10 +318,22 @@ impl<'a> RootFiles<'a> {
     }
 }
 
+/// Whether a directory could not be removed since something is in it, or there is none.
 fn is_kept_or_gone(kind: io::ErrorKind) -> bool {
     kind == io::ErrorKind::DirectoryNotEmpty
         || kind == io::ErrorKind::AlreadyExists
         || kind == io::ErrorKind::NotFound
+}
+
+/// Whether a directory that could not be removed may stay, since an empty one means nothing:
+/// something is in it, it is none, it is a mount point, or this user may not remove it, or nobody
+/// may where it is.
+pub fn may_stay(kind: io::ErrorKind) -> bool {
+    is_kept_or_gone(kind)
+        || kind == io::ErrorKind::NotADirectory
+        || kind == io::ErrorKind::ResourceBusy
+        || kind == io::ErrorKind::PermissionDenied
+        || kind == io::ErrorKind::ReadOnlyFilesystem
 }
 
 /// The path of a directory beneath the root, by the names on the way to it.

@@ -10,9 +10,9 @@ use Rattle.unit_file.specs.Identity.{identity_of}
 use Rattle.unit_file.specs.Listed.{stands_for_instance, as_instance, listed_name}
 use Rattle.unit_paths.specs.Places.{scope_place}
 use Rattle.link_tree.specs.Trees.{Entries}
-use Rattle.footprint.specs.declared.refusal.Refusal.{Refusal}
-use Rattle.footprint.specs.declared.refusal.Refusal.TheVariants.{NeedsInstance, Exists}
-use Rattle.footprint.specs.Placing.{Ruling}
+use Rattle.tree_access.specs.declared.refusal.Refusal.{Refusal}
+use Rattle.tree_access.specs.declared.refusal.Refusal.TheVariants.{NeedsInstance, Exists}
+use Rattle.tree_access.specs.Placing.{Ruling}
 use Rattle.footprint.specs.Units.{IsFound}
 use Rattle.slot_commands.specs.declared.add_to.AddTo.{AddTo}
 use Rattle.slot_commands.specs.AddTo.{as_dependency, default_of, name_listed, add_listed, add_file, add_unit, add_units, add_steps}

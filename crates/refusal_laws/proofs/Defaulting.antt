@@ -9,11 +9,11 @@ use Rattle.unit_file.specs.Listed.{is_template_name}
 use Rattle.link_tree.specs.declared.entry.Entry.{Entry}
 use Rattle.link_tree.specs.declared.entry.Entry.TheVariants.{File, Link}
 use Rattle.link_tree.specs.Trees.{Entries}
-use Rattle.footprint.specs.declared.refusal.Refusal.{Refusal}
-use Rattle.footprint.specs.declared.refusal.Refusal.TheVariants.{BadType, NeedsInstance, Exists}
-use Rattle.footprint.specs.declared.refusal.Subject.TheVariants as subjects
-use Rattle.footprint.specs.Placing.{ruled_at}
-use Rattle.footprint.specs.Rules.{leads_alike, relink_at}
+use Rattle.tree_access.specs.declared.refusal.Refusal.{Refusal}
+use Rattle.tree_access.specs.declared.refusal.Refusal.TheVariants.{BadType, NeedsInstance, Exists}
+use Rattle.tree_access.specs.declared.refusal.Subject.TheVariants as subjects
+use Rattle.tree_access.specs.Placing.{ruled_at}
+use Rattle.tree_access.specs.Rules.{leads_alike, relink_at}
 use Rattle.footprint.specs.Units.{IsFound}
 use Rattle.slot_commands.specs.declared.set_default.SetDefault.{SetDefault}
 use Rattle.slot_commands.specs.SetDefault.{default_slot, is_target_type, default_file, default_steps}

@@ -17,10 +17,10 @@ use Rattle.install_section.specs.WantedLaws.{IsAskedFor, NeedsName, HasTwoTarget
 use Rattle.install_section.proofs.Least.{some_is, closure_least, refused_exactly}
 use Rattle.install_section.proofs.WantedSets.{needs_least, clash_least}
 use Rattle.footprint.specs.declared.answer.Answer.TheVariants.{Refused}
-use Rattle.footprint.specs.declared.refusal.Refusal.{Refusal}
-use Rattle.footprint.specs.declared.refusal.Refusal.TheVariants.{TooMany, NeedsInstance, Clash, Exists}
+use Rattle.tree_access.specs.declared.refusal.Refusal.{Refusal}
+use Rattle.tree_access.specs.declared.refusal.Refusal.TheVariants.{TooMany, NeedsInstance, Clash, Exists}
 use Rattle.footprint.specs.Laws.{IsRefusedAt}
-use Rattle.footprint.specs.Placing.{wanted_at}
+use Rattle.tree_access.specs.Placing.{wanted_at}
 use Rattle.footprint.specs.Steps.{all_at_once}
 use Rattle.footprint.proofs.Wishes.{refused_at_the_least}
 use Rattle.install_commands.specs.declared.enable.Enable.{Enable}

@@ -12,10 +12,10 @@ use Rattle.link_tree.specs.Trees.{Entries}
 use Rattle.load_path.specs.declared.following.End.{End}
 use Rattle.load_path.specs.declared.following.End.TheVariants as ends
 use Rattle.load_path.specs.Follow.{follow}
-use Rattle.footprint.specs.declared.refusal.Refusal.{Refusal}
-use Rattle.footprint.specs.declared.refusal.Refusal.TheVariants.{NotFound, Masked, Dangling, BadType, Exists}
-use Rattle.footprint.specs.declared.refusal.Subject.TheVariants as subjects
-use Rattle.footprint.specs.Placing.{Ruling}
+use Rattle.tree_access.specs.declared.refusal.Refusal.{Refusal}
+use Rattle.tree_access.specs.declared.refusal.Refusal.TheVariants.{NotFound, Masked, Dangling, BadType, Exists}
+use Rattle.tree_access.specs.declared.refusal.Subject.TheVariants as subjects
+use Rattle.tree_access.specs.Placing.{Ruling}
 use Rattle.slot_commands.specs.LinkUnits.{link_file, link_end, link_unit, link_steps}
 use Rattle.footprint_laws.specs.Slots.{link_step}
 use Rattle.refusal_laws.specs.Reasons.{IsTaken}

@@ -10,10 +10,10 @@ use Rattle.link_tree.proofs.Changed.{same_bytes}
 use Rattle.load_path.specs.declared.finding.Found.{Found}
 use Rattle.load_path.specs.declared.finding.Found.TheVariants as founds
 use Rattle.load_path.specs.Find.{find}
-use Rattle.footprint.specs.declared.refusal.Refusal.{Refusal}
-use Rattle.footprint.specs.declared.refusal.Refusal.TheVariants.{NotFound, Masked, Dangling, IsAlias}
-use Rattle.footprint.specs.declared.refusal.Subject.TheVariants as subjects
-use Rattle.footprint.specs.Placing.{Ruling}
+use Rattle.tree_access.specs.declared.refusal.Refusal.{Refusal}
+use Rattle.tree_access.specs.declared.refusal.Refusal.TheVariants.{NotFound, Masked, Dangling, IsAlias}
+use Rattle.tree_access.specs.declared.refusal.Subject.TheVariants as subjects
+use Rattle.tree_access.specs.Placing.{Ruling}
 use Rattle.footprint.specs.Steps.{Step, unless_refused}
 use Rattle.footprint.specs.Units.{IsFound, found_unit, with_unit}
 use Rattle.install_commands.specs.Check.{as_itself, one_checked}

@@ -4,8 +4,9 @@ use Rattle.unit_file.specs.Notices.{NoticeMap}
 use Rattle.link_tree.specs.declared.entry.Entry.{Entry}
 use Rattle.link_tree.specs.Trees.{Entries}
 use Rattle.footprint.specs.declared.answer.Answer.TheVariants.{Refused}
-use Rattle.footprint.specs.declared.refusal.Refusal.{Refusal}
-use Rattle.footprint.specs.Placing.{Ruling, effect, ruled_at}
+use Rattle.tree_access.specs.declared.refusal.Refusal.{Refusal}
+use Rattle.tree_access.specs.Placing.{Ruling, ruled_at}
+use Rattle.footprint.specs.Commands.{effect}
 
 -- what a step rules if it is refused
 abbrev pub refused : Refusal → Ruling

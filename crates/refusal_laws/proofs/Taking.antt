@@ -8,9 +8,9 @@ use Rattle.link_tree.specs.declared.entry.Entry.{Entry}
 use Rattle.link_tree.specs.declared.entry.Entry.TheVariants.{File, Link}
 use Rattle.link_tree.specs.Trees.{Entries}
 use Rattle.link_tree.proofs.Changed.{same_bytes}
-use Rattle.footprint.specs.declared.refusal.Refusal.{Refusal}
-use Rattle.footprint.specs.declared.refusal.Refusal.TheVariants.{Exists}
-use Rattle.footprint.specs.Rules.{is_same_path, leads_alike, link_at}
+use Rattle.tree_access.specs.declared.refusal.Refusal.{Refusal}
+use Rattle.tree_access.specs.declared.refusal.Refusal.TheVariants.{Exists}
+use Rattle.tree_access.specs.Rules.{is_same_path, leads_alike, link_at}
 use Rattle.footprint.specs.Steps.{ruled}
 use Rattle.refusal_laws.specs.Reasons.{LeadsThere, IsTaken}
 use Rattle.refusal_laws.proofs.Rulings.{rule_refused, refused_rule}

@@ -2,8 +2,8 @@
 -- comes.
 use Rattle.std.proofs.Common.{◌≡◌, List, [], ◌∷◌, ◌++◌, ◌↔◌, Ok, Err, refl, sym, ap, ◌∙◌}
 use Rattle.link_tree.specs.Trees.{Entries}
-use Rattle.footprint.specs.declared.refusal.Refusal.{Refusal}
-use Rattle.footprint.specs.Placing.{Ruling, placed_in}
+use Rattle.tree_access.specs.declared.refusal.Refusal.{Refusal}
+use Rattle.tree_access.specs.Placing.{Ruling, placed_in}
 use Rattle.footprint.specs.Steps.{Step, each_in_turn}
 use Rattle.footprint.proofs.Turns.{left_by, goes_on, in_turn, all_turns}
 use Rattle.footprint_laws.specs.Sets.{AreTaken, HasTurn}

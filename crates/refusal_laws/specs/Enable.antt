@@ -7,8 +7,8 @@ use Rattle.link_tree.specs.Trees.{Entries}
 use Rattle.install_section.specs.Closure.{IsUnit, Reached}
 use Rattle.install_section.specs.WantedLaws.{LacksInstance, IsLeast}
 use Rattle.footprint.specs.declared.answer.Answer.TheVariants.{Refused}
-use Rattle.footprint.specs.declared.refusal.Refusal.{Refusal}
-use Rattle.footprint.specs.declared.refusal.Refusal.TheVariants.{TooMany, NeedsInstance, Clash, Exists}
+use Rattle.tree_access.specs.declared.refusal.Refusal.{Refusal}
+use Rattle.tree_access.specs.declared.refusal.Refusal.TheVariants.{TooMany, NeedsInstance, Clash, Exists}
 use Rattle.install_commands.specs.declared.enable.Enable.{Enable}
 use Rattle.install_commands.specs.Enable.{enable_meaning}
 use Rattle.install_commands.specs.Laws.{IsWantedBy}

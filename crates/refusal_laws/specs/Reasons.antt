@@ -8,9 +8,9 @@ use Rattle.link_tree.specs.declared.entry.Entry.TheVariants.{Link}
 use Rattle.link_tree.specs.Trees.{Entries}
 use Rattle.load_path.specs.declared.finding.Found.TheVariants as founds
 use Rattle.load_path.specs.Find.{find}
-use Rattle.footprint.specs.declared.refusal.Refusal.{Refusal}
-use Rattle.footprint.specs.declared.refusal.Refusal.TheVariants.{NotFound, Masked, Dangling, IsAlias}
-use Rattle.footprint.specs.declared.refusal.Subject.TheVariants as subjects
+use Rattle.tree_access.specs.declared.refusal.Refusal.{Refusal}
+use Rattle.tree_access.specs.declared.refusal.Refusal.TheVariants.{NotFound, Masked, Dangling, IsAlias}
+use Rattle.tree_access.specs.declared.refusal.Subject.TheVariants as subjects
 use Rattle.footprint.specs.Units.{IsFound}
 
 -- Why no unit is found under a name, systemd.unit(5), "Unit File Load Path": there is no entry for

@@ -17,9 +17,9 @@ use Rattle.link_tree.specs.Trees.{Entries}
 use Rattle.load_path.specs.declared.following.End.TheVariants as ends
 use Rattle.load_path.specs.Follow.{follow}
 use Rattle.footprint.specs.declared.answer.Answer.TheVariants.{Refused}
-use Rattle.footprint.specs.declared.refusal.Refusal.{Refusal}
-use Rattle.footprint.specs.declared.refusal.Refusal.TheVariants.{NotFound, Masked, Dangling, BadType, NeedsInstance, Exists}
-use Rattle.footprint.specs.declared.refusal.Subject.TheVariants as subjects
+use Rattle.tree_access.specs.declared.refusal.Refusal.{Refusal}
+use Rattle.tree_access.specs.declared.refusal.Refusal.TheVariants.{NotFound, Masked, Dangling, BadType, NeedsInstance, Exists}
+use Rattle.tree_access.specs.declared.refusal.Subject.TheVariants as subjects
 use Rattle.footprint.specs.Units.{IsFound}
 use Rattle.slot_commands.specs.declared.add_to.AddTo.{AddTo}
 use Rattle.slot_commands.specs.declared.link_units.LinkUnits.{LinkUnits}

@@ -126,7 +126,7 @@ pub fn bad_lines_of(
             all.push(bad_line(alloc, number, first.reason, line)?)?;
         }
     }
-    // No bad line comes before it, or this were not the first fault.
+    // No bad line comes before it: else that line would be the first fault.
     if let ScriptFault::Bad(number, Reason::TooManyLines) = fault {
         all.push(line_too_many(alloc, number)?)?;
     }

@@ -30,8 +30,6 @@ pub enum Reason {
     BadTarget,
     #[error("no directory, but units or links belong into it")]
     NoDirectory,
-    #[error("bad path")]
-    BadPath,
     #[error("changed meanwhile")]
     Changed,
     #[error("the vendor's: it is changed only with --vendor")]
@@ -68,6 +66,9 @@ pub enum Failure {
     NoHistory,
     #[error("there is a history already: keep --anew begins again")]
     HasHistory,
+    /// With `--history`, a root that has a history in /var/lib/unitroot too.
+    #[error("the root has a history of its own: forget removes it")]
+    HasHistoryInRoot,
     /// The directory of the history can't be used.
     #[error("{0}")]
     History(HistoryError),
@@ -91,8 +92,11 @@ pub enum Failure {
     OtherRoot(String),
     #[error("others changed the root since the last run, by {0} rows: --adopt takes them in")]
     ManyOthers(usize),
-    #[error("over 100,000 rows in the history: --history=DIR reads it, keep --anew begins again")]
+    #[error("over 100,000 rows in the history: keep --anew begins again")]
     ManyRows,
+    /// The history would have over this number of bytes.
+    #[error("over {0} bytes in the history: keep --anew begins again, --history=DIR may have 2 GiB")]
+    ManyBytes(u64),
     /// SOURCE_DATE_EPOCH, or the clock, is of no year from 1970 to 9999.
     #[error("the time of the run is none of the years 1970 to 9999")]
     BadTime,

@@ -71,7 +71,8 @@ fn push_bad_words(
     Ok(out.push(b'\n')?)
 }
 
-/// Appends a message about the whole run: a line, or an object with a status.
+/// Appends a message about the whole run: a line, or an object with a status. Each byte of it is
+/// escaped that a terminal could take for an order, and line feeds too.
 pub fn push_message(
     alloc: Global,
     out: &mut Vec<u8>,
@@ -79,16 +80,18 @@ pub fn push_message(
     status: u8,
     json: bool,
 ) -> Result<(), AllocError> {
+    let mut shown = Vec::new(alloc);
+    push_shown(&mut shown, text)?;
     if json {
         let place = ErrorPlace {
             status,
             line: None,
             word: None,
         };
-        return push_error(out, text, &place);
+        return push_error(out, &shown, &place);
     }
     out.extend_from_slice(b"unitroot: ")?;
-    out.extend_from_slice(&shown_lines(alloc, text)?)?;
+    out.extend_from_slice(&shown)?;
     Ok(out.push(b'\n')?)
 }
 

@@ -64,7 +64,7 @@ pub fn paths_of(alloc: Global, texts: &[String]) -> Result<Vec<TreePath>, Failur
         match TreePath::parse(alloc, text.as_str().as_bytes()) {
             Ok(path) => paths.push(path)?,
             Err(PathError::BadPath) => {
-                return Err(Failure::At(text.clone()?, Reason::BadPath));
+                return Err(Failure::bad_word(alloc, "bad path", text.as_str())?);
             }
             Err(PathError::OutOfMemory) => return Err(Failure::OutOfMemory),
         }
@@ -93,8 +93,9 @@ fn reasons_of(alloc: Global, troubles: &Troubles) -> Result<String, AllocError> 
     Ok(text)
 }
 
-/// Some steps are made, and the one of this number can't be reversed. That is reported even if there
-/// is no memory for its path.
+/// Some steps are made, and the one of this number can't be reversed. What is made is written to
+/// the disk, as far as that can be done. It is reported even if there is no memory for the step's
+/// path.
 fn half_done(
     alloc: Global,
     disk: RealDisk<'_>,
@@ -102,6 +103,8 @@ fn half_done(
     made: usize,
     number: usize,
 ) -> Failure {
+    let mut disk = disk;
+    disk.settle_half();
     let path = match steps.get(number) {
         Some(change) => shown_path(alloc, &change.path).unwrap_or(String::new(alloc)),
         None => String::new(alloc),

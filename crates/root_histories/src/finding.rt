@@ -12,6 +12,9 @@ use std::fs;
 /// The history's directory, beneath a root.
 const IN_ROOT: &str = "/var/lib/unitroot";
 
+/// The history that a run is about to write.
+const PROMISE: &str = "history.next";
+
 /// What is said if a run was cut short.
 const PROMISED: &str = "a run is promised: the next run that changes something finishes it";
 
@@ -31,8 +34,10 @@ pub fn place_of(cx: Context<'_>) -> Result<HistoryPlace, Failure> {
     }
 }
 
-/// Whether there is a history in a directory.
-fn has_history(directory: &HistoryDirectory<'_>) -> Result<bool, Trouble> {
+/// Whether there is a history in a directory, or one is promised.
+///
+/// Errors: the system's own.
+pub fn has_history(directory: &HistoryDirectory<'_>) -> Result<bool, Trouble> {
     Ok(directory.has(HistoryFile::Current)? || directory.has(HistoryFile::Next)?)
 }
 
@@ -73,14 +78,19 @@ pub fn take(cx: Context<'_>) -> Result<Taken<'_>, Failure> {
     }
 }
 
-/// Whether a run is promised in the history in a root. If that can't be seen, it isn't said.
-fn is_promised_in_root(rt: &HostRuntime, disk: &mut RealDisk<'_>) -> bool {
+/// Whether a file of the history in a root exists. If that can't be seen, it counts as missing.
+fn is_in_root(rt: &HostRuntime, disk: &mut RealDisk<'_>, name: &str) -> bool {
     let is_there = match disk.go_to(IN_ROOT, false) {
-        Ok(true) => fs::symlink_metadata(rt, "history.next").is_ok(),
+        Ok(true) => fs::symlink_metadata(rt, name).is_ok(),
         _ => false,
     };
     disk.leave();
     is_there
+}
+
+/// Whether a root has a history of its own, wherever `--history` is.
+pub fn has_history_in_root(rt: &HostRuntime, disk: &mut RealDisk<'_>) -> bool {
+    is_in_root(rt, disk, "history") || is_in_root(rt, disk, PROMISE)
 }
 
 /// Says on standard error if a run on a root that is only looked at was cut short.
@@ -89,7 +99,7 @@ pub fn note_promise(
     disk: &mut RealDisk<'_>,
     json: bool,
 ) -> Result<(), AllocError> {
-    if is_promised_in_root(rt, disk) {
+    if is_in_root(rt, disk, PROMISE) {
         let mut text = Vec::new(rt.alloc());
         push_message(rt.alloc(), &mut text, PROMISED.as_bytes(), 0, json)?;
         print_messages(rt, &text);

@@ -1,6 +1,7 @@
 //! The header of a history, which says for which root it was begun.
 
 use crate::marks::{label_of, new_id};
+use crate::reading::check_length;
 use kept_runs::{KeepIf, Kept, LinesError};
 use kept_texts::{Header, Run};
 use link_tree::Tree;
@@ -15,10 +16,14 @@ fn header_of(cx: Context<'_>, id: [u8; 16]) -> Result<Header, Failure> {
 
 /// A history of this root without calls, which begins with this tree.
 ///
-/// Errors: no random number can be read; no text can hold the tree; out of memory.
+/// Errors: no random number can be read; `ManyBytes`; out of memory.
 pub fn new_history(cx: Context<'_>, first: &Tree) -> Result<Kept, Failure> {
     let header = header_of(cx, new_id(cx.rt)?)?;
-    begun(cx.rt.alloc(), first, header)
+    let kept = begun(cx.rt.alloc(), first, header)?;
+    match check_length(cx, &kept) {
+        Ok(()) => Ok(kept),
+        Err(failure) => Err(failure),
+    }
 }
 
 fn begun(alloc: Global, first: &Tree, header: Header) -> Result<Kept, Failure> {

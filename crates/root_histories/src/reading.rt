@@ -8,13 +8,13 @@ use root_runs::push_shown;
 use std::alloc::{AllocError, Global};
 use unit_script::{InputFault, ScriptFault};
 
-/// A history with more rows is read only if `--history` names it.
+/// A history with more rows is read and written only if `--history` names it.
 const MOST_ROWS: usize = 100_000;
 
-/// At most this number of bytes is read if `--history` names the history.
+/// At most this number of bytes is read and written if `--history` names the history.
 const MOST_BYTES_NAMED: u64 = 1 << 31;
 
-/// At most this number of bytes of a history is read.
+/// At most this number of bytes of a history is read and written.
 pub fn most_bytes(cx: Context<'_>) -> u64 {
     if cx.asked.history.is_some() {
         MOST_BYTES_NAMED
@@ -36,16 +36,28 @@ pub fn is_of_other_root(cx: Context<'_>, kept: &Kept) -> bool {
     cx.asked.history.is_some() && kept.text().header().root.text() != cx.path.as_bytes()
 }
 
+/// Refuses a history that is very long. It is asked before one is written too, so that a later run
+/// can read what was written.
+///
+/// Errors: `ManyRows`; `ManyBytes`.
+pub fn check_length(cx: Context<'_>, kept: &Kept) -> Result<(), Failure> {
+    if cx.asked.history.is_none() && kept.history().rows().len() > MOST_ROWS {
+        return Err(Failure::ManyRows);
+    }
+    let most = most_bytes(cx);
+    if kept.text().bytes().len() as u64 > most {
+        return Err(Failure::ManyBytes(most));
+    }
+    Ok(())
+}
+
 /// Refuses a history of another root, and one that is very long.
 fn check(cx: Context<'_>, kept: &Kept) -> Result<(), Failure> {
     if is_of_other_root(cx, kept) && !cx.asked.adopt {
         let root = shown(cx.rt.alloc(), kept.text().header().root.text())?;
         return Err(Failure::OtherRoot(root));
     }
-    if cx.asked.history.is_none() && kept.history().rows().len() > MOST_ROWS {
-        return Err(Failure::ManyRows);
-    }
-    Ok(())
+    check_length(cx, kept)
 }
 
 /// How many lines of a history are before its header, the last one of which is `== calls`. A file
@@ -76,13 +88,15 @@ pub fn kept_of(alloc: Global, text: Vec<u8>) -> Result<Kept, Failure> {
     }
 }
 
-/// Whether a history can't be read because of its text, and not because the system refused
-/// something, memory ran out, or the history is that of another root.
+/// Whether the history itself is at fault, so that another one may begin in its place: its text, or
+/// that its file is missing, too large or no file. Otherwise the system refused something, memory ran
+/// out, or the history is that of another root.
 fn is_of_text(failure: &Failure) -> bool {
     match failure {
         Failure::Unreadable(_) | Failure::BadCall(..) | Failure::OnlyPromised => true,
         Failure::OtherRules(..) | Failure::OtherRows(_) => true,
-        Failure::ManyRows | Failure::ManyLines | Failure::Full => true,
+        Failure::ManyRows | Failure::ManyBytes(_) => true,
+        Failure::ManyLines | Failure::Full => true,
         Failure::History(HistoryError::NoFile(_) | HistoryError::TooLarge(..)) => true,
         _ => false,
     }

@@ -48,15 +48,33 @@ pub fn rows_text(alloc: Global, count: usize) -> Result<String, AllocError> {
     }
 }
 
-/// Says which run was finished.
-fn note_finished(
+/// Whether a run was cut short before its calls, when it wrote what others had done, or the history
+/// for this root. Such a run has no steps: the root already was as the new history says.
+fn is_before_calls(promise: &Promise) -> bool {
+    let before = promise.old.text().runs().len();
+    let added = promise.new.text().runs().get(before..).unwrap_or(&[]);
+    added.iter().all(|run| run.words.outside)
+}
+
+/// Says that the history was written, with these rows of others.
+fn note_written(cx: Context<'_>, root: &mut KeptRoot<'_>, count: usize) -> Result<(), AllocError> {
+    if count == 0 {
+        return root.notes.say("finished writing the history");
+    }
+    let alloc = cx.rt.alloc();
+    let rows = rows_text(alloc, count)?;
+    let line = format!(in alloc; "finished writing the history: {rows} by outside")?;
+    root.notes.say(line.as_str())
+}
+
+/// Says which run was finished, of this number of rows.
+fn note_run(
     cx: Context<'_>,
     root: &mut KeptRoot<'_>,
     promise: &Promise,
+    count: usize,
 ) -> Result<(), AllocError> {
     let alloc = cx.rt.alloc();
-    let before = promise.old.history().rows().len();
-    let count = promise.new.history().rows().len().saturating_sub(before);
     let rows = rows_text(alloc, count)?;
     match promise.new.text().runs().last() {
         Some(run) => {
@@ -66,6 +84,21 @@ fn note_finished(
             root.notes.say(line.as_str())
         }
         None => Ok(()),
+    }
+}
+
+/// Says what was finished.
+fn note_finished(
+    cx: Context<'_>,
+    root: &mut KeptRoot<'_>,
+    promise: &Promise,
+) -> Result<(), AllocError> {
+    let before = promise.old.history().rows().len();
+    let count = promise.new.history().rows().len().saturating_sub(before);
+    if is_before_calls(promise) {
+        note_written(cx, root, count)
+    } else {
+        note_run(cx, root, promise, count)
     }
 }
 
@@ -84,9 +117,14 @@ fn note_foreign(
     Ok(())
 }
 
-/// Finishes a run, and says so.
+/// Finishes a run, and says so. If it has no steps, what others have changed since stays as it is.
 fn finish(cx: Context<'_>, root: &mut KeptRoot<'_>, promise: &Promise) -> Result<(), Stop> {
-    match recover(cx.rt.alloc(), &mut root.disk, &promise.old, &promise.new) {
+    let from = if is_before_calls(promise) {
+        &promise.new
+    } else {
+        &promise.old
+    };
+    match recover(cx.rt.alloc(), &mut root.disk, from, &promise.new) {
         Ok(foreign) => {
             note_finished(cx, root, promise)?;
             Ok(note_foreign(cx, root, &foreign)?)
@@ -118,8 +156,8 @@ pub fn finish_before(cx: Context<'_>, root: &mut KeptRoot<'_>) -> Result<(), Sto
     }
 }
 
-/// What a run with calls does first: it finishes one that was cut short. A dry run only says that
-/// there is one.
+/// What a run that may change the root does first: it finishes one that was cut short. A dry run
+/// only says that there is one.
 ///
 /// Errors: those of `finish_before`.
 pub fn begin_run(cx: Context<'_>, root: &mut KeptRoot<'_>) -> Result<(), Stop> {

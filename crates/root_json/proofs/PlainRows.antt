@@ -9,10 +9,10 @@ use Rattle.unit_file.specs.Notices.{NoticeMap, key_text, reason_text}
 use Rattle.footprint.specs.declared.answer.Answer.{Answer}
 use Rattle.footprint.specs.declared.answer.Answer.TheVariants.{Done, State, Name, Names, Refused}
 use Rattle.footprint.specs.declared.answer.StateWord.{StateWord}
-use Rattle.footprint.specs.declared.refusal.Refusal.{Refusal}
-use Rattle.footprint.specs.declared.refusal.Refusal.TheVariants.{NotFound, Masked, Dangling, BadType, NeedsInstance, NotASlot, Absent, Exists, IsAlias, TooMany, Clash}
-use Rattle.footprint.specs.declared.refusal.Subject.{Subject}
-use Rattle.footprint.specs.declared.refusal.Subject.TheVariants.{Unit, Path}
+use Rattle.tree_access.specs.declared.refusal.Refusal.{Refusal}
+use Rattle.tree_access.specs.declared.refusal.Refusal.TheVariants.{NotFound, Masked, Dangling, BadType, NeedsInstance, NotASlot, Absent, Exists, IsAlias, TooMany, Clash}
+use Rattle.tree_access.specs.declared.refusal.Subject.{Subject}
+use Rattle.tree_access.specs.declared.refusal.Subject.TheVariants.{Unit, Path}
 use Rattle.history.specs.declared.row.UndoRefusal.{UndoRefusal}
 use Rattle.history.specs.declared.row.UndoRefusal.TheVariants.{NoSuchRow, NotACommand, AlreadyUndone, Blocked}
 use Rattle.history.specs.declared.row.RedoRefusal.{RedoRefusal}
@@ -21,9 +21,10 @@ use Rattle.history.specs.declared.row.Row.{Row}
 use Rattle.history.specs.declared.row.RowReply.{RowReply}
 use Rattle.history.specs.declared.row.RowReply.TheVariants.{Answered, Undid, UndoRefused, Redid, RedoRefused}
 use Rattle.unit_script.specs.declared.action.Action.{Action}
-use Rattle.footprint.specs.declared.key.Key.{Key}
-use Rattle.footprint.specs.declared.key.Key.TheVariants.{Cell, Marked, Presets, Links}
-use Rattle.footprint.specs.declared.reading.Observation.{Observation}
+use Rattle.tree_access.specs.declared.key.Key.{Key}
+use Rattle.tree_access.specs.declared.key.Key.TheVariants.{Cell, Marked, Presets, Links}
+use Rattle.tree_access.specs.declared.reading.Observation.{Observation}
+use Rattle.unit_lists.specs.UnitLines.{listed_state_text}
 use Rattle.unit_script.specs.Texts.{state_text, is_success, number_asked, shown_changes}
 use Rattle.unit_lists.specs.declared.status.UnitStatus.{UnitStatus}
 use Rattle.unit_lists.specs.StatusTexts.{loaded_word, loaded_path}
@@ -182,7 +183,7 @@ pub unit_file_plain : (name : List ℕ) (state : StateWord) (preset : Option (Li
 unit_file_plain name state preset =
     object_plain 4 5 _ (omega arith)
     (last 4 _ _ _ (word_plain preset)
-    (last 4 _ _ _ (string_plain 4 (state_text state))
+    (last 4 _ _ _ (string_plain 4 (listed_state_text state))
     (last 4 _ _ _ (text_plain 3 name) (none_plain 4))))
 
 named_plain : (name : List ℕ) → ArePlain 4 (unit_members name)

@@ -6,10 +6,10 @@ use Rattle.unit_file.specs.Notices.{NoticeMap, key_text, reason_text}
 use Rattle.footprint.specs.declared.answer.Answer.{Answer}
 use Rattle.footprint.specs.declared.answer.Answer.TheVariants.{Done, State, Name, Names, Refused}
 use Rattle.footprint.specs.declared.answer.StateWord.{StateWord}
-use Rattle.footprint.specs.declared.refusal.Refusal.{Refusal}
-use Rattle.footprint.specs.declared.refusal.Refusal.TheVariants.{NotFound, Masked, Dangling, BadType, NeedsInstance, NotASlot, Absent, Exists, IsAlias, TooMany, Clash}
-use Rattle.footprint.specs.declared.refusal.Subject.{Subject}
-use Rattle.footprint.specs.declared.refusal.Subject.TheVariants.{Unit, Path}
+use Rattle.tree_access.specs.declared.refusal.Refusal.{Refusal}
+use Rattle.tree_access.specs.declared.refusal.Refusal.TheVariants.{NotFound, Masked, Dangling, BadType, NeedsInstance, NotASlot, Absent, Exists, IsAlias, TooMany, Clash}
+use Rattle.tree_access.specs.declared.refusal.Subject.{Subject}
+use Rattle.tree_access.specs.declared.refusal.Subject.TheVariants.{Unit, Path}
 use Rattle.history.specs.declared.row.UndoRefusal.{UndoRefusal}
 use Rattle.history.specs.declared.row.UndoRefusal.TheVariants.{NoSuchRow, NotACommand, AlreadyUndone, Blocked}
 use Rattle.history.specs.declared.row.RedoRefusal.{RedoRefusal}

@@ -2,6 +2,7 @@
 use Rattle.std.specs.Prelude.{◌≡◌, ◌≤◌, ℕ, Bool, false, List, [], ◌∷◌, ◌++◌, Option, Some, None, option_map, codes}
 use Rattle.link_tree.specs.declared.change.Change.{Change}
 use Rattle.footprint.specs.declared.answer.StateWord.{StateWord}
+use Rattle.unit_lists.specs.UnitLines.{listed_state_text}
 use Rattle.unit_script.specs.Texts.{state_text}
 use Rattle.unit_lists.specs.declared.status.UnitStatus.{UnitStatus}
 use Rattle.unit_lists.specs.StatusTexts.{loaded_word, loaded_path}
@@ -41,11 +42,11 @@ abbrev pub word_data : Option (List ℕ) → Data
 word_data None = null
 word_data (Some word) = string word
 
--- a unit file of a list, with its state and its preset
+-- a unit file of a list, with the state that the list has, and its preset
 abbrev pub unit_file_data : List ℕ → StateWord → Option (List ℕ) → Data
 unit_file_data name state preset = object (no_members
     with codes "unit_file" being text_data name
-    with codes "state" being string (state_text state)
+    with codes "state" being string (listed_state_text state)
     with codes "preset" being word_data preset)
 
 -- a unit by its name

@@ -2,9 +2,9 @@
 use Rattle.std.specs.Prelude.{ℕ, true, List, Option, Some, None, codes, map}
 use Rattle.unit_paths.specs.declared.place.Scope.{Scope}
 use Rattle.unit_paths.specs.declared.place.Scope.TheVariants.{Etc, Run}
-use Rattle.footprint.specs.declared.key.Key.{Key}
-use Rattle.footprint.specs.declared.key.Key.TheVariants.{Cell, Marked, Presets, Links}
-use Rattle.footprint.specs.declared.reading.Observation.{Observation}
+use Rattle.tree_access.specs.declared.key.Key.{Key}
+use Rattle.tree_access.specs.declared.key.Key.TheVariants.{Cell, Marked, Presets, Links}
+use Rattle.tree_access.specs.declared.reading.Observation.{Observation}
 use Rattle.history.specs.declared.row.Row.{Row}
 use Rattle.history.specs.declared.row.UndoRefusal.{UndoRefusal}
 use Rattle.unit_script.specs.declared.action.Action.{Action}

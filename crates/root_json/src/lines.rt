@@ -15,8 +15,9 @@ use history::Row;
 use link_tree::Change;
 use serde_json::Value;
 use std::alloc::{AllocError, Global};
+use unit_lists::listed_state_text;
 use unit_name::UnitName;
-use unit_script::{Action, state_text};
+use unit_script::Action;
 
 /// How a run ended.
 #[derive(Clone, Copy, Debug, PartialEq, Eq)]
@@ -125,14 +126,15 @@ fn unit_file_value(
 {
     let mut object = Object::new(alloc);
     put_text(alloc, &mut object, "unit_file", name.text())?;
-    put_word(alloc, &mut object, "state", state_text(state))?;
+    put_word(alloc, &mut object, "state", listed_state_text(state))?;
     let preset = word_value(alloc, preset)?;
     put_value(alloc, &mut object, "preset", preset)?;
     Ok(Value::Object(object))
 }
 
-/// Appends a unit file with its state and its preset, as `list-unit-files` prints it: the preset is
-/// `enabled`, `disabled`, or none for a unit that has none. If memory runs out, nothing has been
+/// Appends a unit file with its state and its preset, as `list-unit-files` prints it. The state is the
+/// word of that list: a link that leads nowhere is `bad`. The preset is `enabled`, `disabled` or
+/// `ignored`, or none for a unit that presets don't apply to. If memory runs out, nothing has been
 /// appended.
 pub fn push_unit_file(
     out: &mut Vec<u8>,

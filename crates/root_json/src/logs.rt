@@ -1,7 +1,7 @@
 //! Rows of a history that is kept with a root.
 ghost use Rattle.std.specs.Prelude.{◌≡◌, ◌++◌, ◌∷◌, [], true, None, IfOk, OnOk, OnErr, map};
 ghost use Rattle.serde_json.specs.View.{members_view, view};
-ghost use Rattle.footprint.specs.declared.key.Key.TheVariants.{Marked};
+ghost use Rattle.tree_access.specs.declared.key.Key.TheVariants.{Marked};
 ghost use Rattle.root_json.specs.Objects.{count};
 ghost use Rattle.root_json.specs.Rows.{call_members};
 ghost use Rattle.root_json.specs.Lines.{AddsLine};

@@ -1,6 +1,6 @@
 //! Why calls were refused, as JSON.
 ghost use Rattle.std.specs.Prelude.{◌≡◌, IfOk};
-ghost use Rattle.footprint.specs.declared.refusal.Refusal.TheVariants.{IsAlias};
+ghost use Rattle.tree_access.specs.declared.refusal.Refusal.TheVariants.{IsAlias};
 ghost use Rattle.serde_json.specs.View.{members_view};
 ghost use Rattle.root_json.specs.Answers.{with_subject, kind, of_unit, of_path, of_row, by_row, refusal_members, undo_refusal_members, redo_refusal_members};
 

@@ -191,6 +191,8 @@ fn text_of(
     Ok(out)
 }
 
+/// One row as JSON, and whether it can be undone: the object that docs/JSON.md calls a row of a
+/// history.
 fn json_of(
     alloc: Global,
     kept: &Kept,

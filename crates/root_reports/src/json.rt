@@ -4,7 +4,7 @@ use crate::made::Made;
 use footprint::Answer;
 use history::{Request, Row, RowReply};
 use root_json::{CallPlace, Summary, push_row, push_state, push_summary, push_unit};
-use root_runs::count_refused;
+use root_runs::{Plan, count_refused};
 use std::alloc::{AllocError, Global};
 use unit_name::UnitName;
 use unit_script::Action;
@@ -32,14 +32,16 @@ fn push_rows(
     Ok(())
 }
 
-/// The rows of calls, and what they change in all.
+/// The rows of calls, and what the accepted ones change in all: nothing if a refused one keeps them
+/// from being made.
 pub fn rows_text(
     alloc: Global,
     made: &Made<'_>,
-    is_made: bool,
+    plan: Plan,
     dry_run: bool,
     numbers: &[usize],
 ) -> Result<Vec<u8>, AllocError> {
+    let is_made = plan == Plan::Make;
     let rows = made.rows();
     let mut out = Vec::new(alloc);
     push_rows(&mut out, made, is_made, numbers)?;
@@ -49,7 +51,7 @@ pub fn rows_text(
         dry_run,
         made: is_made,
     };
-    let changes = if made.is_refused() && !is_made {
+    let changes = if plan == Plan::Leave {
         &[]
     } else {
         made.changes.as_slice()

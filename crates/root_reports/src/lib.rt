@@ -9,6 +9,7 @@ mod plain;
 mod preset_calls;
 mod presets;
 mod report;
+mod statics;
 
 pub use made::Made;
 pub use placing::{call_for_input, path_for_input, path_of};

@@ -3,7 +3,7 @@
 use disk::{Disk, DiskError, Found as Looked};
 use footprint::Units;
 use history::{Request, Row};
-use link_tree::Place;
+use link_tree::{Change, Place};
 use root_json::push_warning;
 use root_runs::push_missing_warning;
 use std::alloc::{AllocError, Global};
@@ -36,17 +36,24 @@ fn is_missing<D: Disk>(alloc: Global, disk: &mut D, name: &UnitName) -> Result<b
     }
 }
 
-/// Appends a warning for each of the units that exists nowhere. It isn't given if the disk fails:
-/// what the calls looked at was read before.
+/// Whether an entry of this name is removed: a link in a `.wants`, or the entry at a slot.
+fn is_removed(changes: &[Change], name: &UnitName) -> bool {
+    changes.iter().any(|change| change.after.is_none() && change.path.file_name() == name.text())
+}
+
+/// Appends a warning for each of the units that exists nowhere, and of which the call removes
+/// nothing. It isn't given if the disk fails: what the calls looked at was read before.
 fn push_missing<D: Disk>(
     alloc: Global,
     out: &mut Vec<u8>,
     disk: &mut D,
     units: &Units,
+    changes: &[Change],
     json: bool,
 ) -> Result<(), AllocError> {
     for name in units.as_slice() {
-        let is_missing = is_missing(alloc, disk, name).unwrap_or(false);
+        let is_missing = !is_removed(changes, name)
+            && is_missing(alloc, disk, name).unwrap_or(false);
         if is_missing && json {
             push_warning(out, name, b"does not exist")?;
         } else if is_missing {
@@ -68,7 +75,8 @@ fn units_of(action: &Action) -> Option<&Units> {
     }
 }
 
-/// Appends warnings on the units of a `disable` or an `unmask` that changed nothing.
+/// Appends warnings on the units of a `disable` or an `unmask` that exist nowhere. The changes of
+/// the row are not made on the disk yet.
 pub fn push_warnings<D: Disk>(
     alloc: Global,
     out: &mut Vec<u8>,
@@ -76,12 +84,10 @@ pub fn push_warnings<D: Disk>(
     row: &Row<Action>,
     json: bool,
 ) -> Result<(), AllocError> {
-    if !row.changes.as_slice().is_empty() {
-        return Ok(());
-    }
+    let changes = row.changes.as_slice();
     match &row.request {
         Request::Do(action) => match units_of(action) {
-            Some(units) => push_missing(alloc, out, disk, units, json),
+            Some(units) => push_missing(alloc, out, disk, units, changes, json),
             None => Ok(()),
         },
         Request::Undo(_) | Request::Redo(_) => Ok(()),

@@ -3,6 +3,7 @@
 use crate::json::{answers_text, rows_text};
 use crate::made::Made;
 use crate::missing::push_warnings;
+use crate::statics::push_static_warnings;
 use disk::Disk;
 use root_access::{Done, Failure, print, print_messages, shown_lines};
 use root_runs::{
@@ -70,6 +71,7 @@ fn command_messages<D: Disk>(
     for row in made.rows() {
         push_warnings(alloc, &mut text, disk, row, json)?;
     }
+    push_static_warnings(alloc, &mut text, made, json)?;
     Ok(text)
 }
 
@@ -88,7 +90,7 @@ fn command_out(
             return answers_text(alloc, made.rows());
         }
         _ if asked.output.json => {
-            return rows_text(alloc, made, plan == Plan::Make, asked.how.dry_run, &[]);
+            return rows_text(alloc, made, plan, asked.how.dry_run, &[]);
         }
         _ => push_answers(&mut text, made.rows())?,
     }
@@ -120,7 +122,7 @@ fn script_out(
 ) -> Result<Vec<u8>, AllocError> {
     let dry_run = asked.how.dry_run;
     if asked.output.json {
-        return rows_text(alloc, made, plan == Plan::Make, dry_run, numbers);
+        return rows_text(alloc, made, plan, dry_run, numbers);
     }
     let mut text = Vec::new(alloc);
     match plan {

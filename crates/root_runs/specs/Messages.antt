@@ -13,8 +13,8 @@ use Rattle.link_tree.specs.declared.entry.Entry.{Entry}
 use Rattle.link_tree.specs.declared.entry.Entry.TheVariants as entries
 use Rattle.link_tree.specs.declared.change.Change.{Change}
 use Rattle.footprint.specs.declared.answer.Answer.TheVariants as answers
-use Rattle.footprint.specs.declared.refusal.Refusal.{Refusal}
-use Rattle.footprint.specs.declared.refusal.Refusal.TheVariants as refusals
+use Rattle.tree_access.specs.declared.refusal.Refusal.{Refusal}
+use Rattle.tree_access.specs.declared.refusal.Refusal.TheVariants as refusals
 use Rattle.history.specs.declared.row.Request.{Request}
 use Rattle.history.specs.declared.row.Request.TheVariants.{Do, Undo, Redo}
 use Rattle.history.specs.declared.row.UndoRefusal.{UndoRefusal}

@@ -1,24 +1,19 @@
 -- The laws that make the step an operation: src/ may not name proofs of its own crate, so they are
 -- here.
-use Rattle.std.specs.Prelude.{◌≡◌, ◌≢◌, ℕ, Bool, true, false, List, [], All, Contains, Option, refl}
-use Rattle.std.specs.List.Sorted.{IsStrictlySortedBy}
+use Rattle.std.specs.Prelude.{◌≡◌, ℕ, Bool, true, false, List, [], All, Contains, Option, refl}
 use Rattle.std.proofs.Common.{sym}
 use Rattle.std.proofs.lemmas.Bool.{true≢false}
 use Rattle.std.proofs.lemmas.List.Elements.{All-nil}
 use Rattle.link_tree.specs.Trees.{Entries}
-use Rattle.footprint.specs.declared.key.Key.TheVariants.{Cell}
+use Rattle.tree_access.specs.declared.key.Key.TheVariants.{Cell}
 use Rattle.footprint.specs.Operations.{AreChanges, OperationLaws, is_refused}
 use Rattle.footprint.specs.Steps.{ruled}
 use Rattle.footprint.proofs.Carried.{laws_of_steps}
+use Rattle.footprint.proofs.ThenLaws.{no_changes}
 use Rattle.sample_steps.specs.Samples.{left, commanded, step_meaning}
 
 commanded_laws : OperationLaws {O = Option Bool × List ℕ} (λ c. false) (λ c. commanded c.0 c.1)
 commanded_laws = laws_of_steps (λ c. ruled (left c.0) c.1)
-
--- an empty list of changes is valid for any tree
-no_changes : (t : Entries) → AreChanges t []
-unfolding IsStrictlySortedBy
-no_changes t = record { from = tt; real = All-nil (λ change. change.before ≢ change.after); in_order = tt }
 
 confined : (asks : Bool) (how : Option Bool) (slot : List ℕ) (t : Entries)
     → All (λ change. Contains ((step_meaning asks how slot).keys t) (Cell change.path)) ((step_meaning asks how slot).conclusion t).changes

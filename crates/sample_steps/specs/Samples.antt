@@ -9,12 +9,12 @@ use Rattle.unit_paths.specs.Slots.{is_slot}
 use Rattle.link_tree.specs.declared.entry.Entry.TheVariants.{File}
 use Rattle.footprint.specs.declared.answer.Answer.TheVariants.{State}
 use Rattle.footprint.specs.declared.answer.StateWord.TheVariants.{Static}
-use Rattle.footprint.specs.declared.key.Key.{Key}
-use Rattle.footprint.specs.declared.key.Key.TheVariants.{Cell}
-use Rattle.footprint.specs.declared.refusal.Refusal.TheVariants.{Exists, Absent, NotASlot}
+use Rattle.tree_access.specs.declared.key.Key.{Key}
+use Rattle.tree_access.specs.declared.key.Key.TheVariants.{Cell}
+use Rattle.tree_access.specs.declared.refusal.Refusal.TheVariants.{Exists, Absent, NotASlot}
 use Rattle.footprint.specs.Inquiry.{Inquiry, look, beside, giving, ◌>>=◌}
 use Rattle.footprint.specs.Operations.{Effect}
-use Rattle.footprint.specs.Rules.{Rule, link_at}
+use Rattle.tree_access.specs.Rules.{Rule, link_at}
 use Rattle.footprint.specs.Commands.{Command, silent, telling, carried_out}
 use Rattle.footprint.specs.Steps.{Step as OneStep, refuse, ruled}
 

@@ -1,7 +1,7 @@
 -- A plan is committed if the tree agrees with it.
 use Rattle.std.proofs.Common.{◌≡◌, ◌==◌, ℕ, Bool, true, false, MatchBool, List, Option, Some, None, length, set, sym, ap, subst, ◌∙◌, inl, inr}
 use Rattle.link_tree.specs.Trees.{Entries}
-use Rattle.footprint.specs.declared.key.Key.{Key}
+use Rattle.tree_access.specs.declared.key.Key.{Key}
 use Rattle.footprint.specs.Inquiry.{Inquiry}
 use Rattle.footprint.specs.Operations.{Effect}
 use Rattle.history.specs.declared.row.Request.TheVariants.{Do}

@@ -2,11 +2,11 @@
 use Rattle.std.proofs.Common.{◌≡◌, ◌==◌, ℕ, Bool, true, false, MatchBool, List, [], ◌∷◌, ◌++◌, Option, Some, None, length, set, slice_get, refl, sym, ap, subst, ◌∙◌, inl, inr}
 use Rattle.std.proofs.lemmas.List.Elements.{All-head, All-tail}
 use Rattle.link_tree.specs.Trees.{Entries}
-use Rattle.footprint.specs.declared.key.Key.{Key}
-use Rattle.footprint.specs.declared.reading.Observation.{Observation}
+use Rattle.tree_access.specs.declared.key.Key.{Key}
+use Rattle.tree_access.specs.declared.reading.Observation.{Observation}
 use Rattle.footprint.specs.Inquiry.{Inquiry}
 use Rattle.footprint.specs.Operations.{Effect}
-use Rattle.footprint.specs.Readings.{Holds, HoldsIn, IsFirstOther}
+use Rattle.tree_access.specs.Readings.{Holds, HoldsIn, IsFirstOther}
 use Rattle.history.specs.declared.row.Request.TheVariants.{Do, Undo, Redo}
 use Rattle.history.specs.Logs.{Log}
 use Rattle.history.specs.Plans.{Planned}

@@ -5,7 +5,7 @@ ghost use Rattle.history.specs.Rows.{rows_after, IdleStays};
 ghost use Rattle.history.specs.declared.history.CallError.TheVariants as errors;
 ghost use Rattle.history.specs.declared.row.Request.TheVariants.{Do, Undo, Redo};
 ghost use Rattle.history.specs.declared.row.RowReply.TheVariants as replies;
-ghost use Rattle.shared_admin.specs.Holds.{IsOfToggle, IsReplyOf, Settles};
+ghost use Rattle.shared_admin.specs.Holds.{IsOfToggle, IsReplyOf, IsReplyTo, KeepsPlan, Settles};
 
 use footprint::{Key, Operation};
 use history::{CallError, Commit, History, Operator, Plan, RowReply, Uncommitted, Unrun};
@@ -38,6 +38,7 @@ pub(crate) fn commit<O: Operation>(
     ensures first { history.new.first ≡ history.old.first }
     ensures limit { history.new.limit ≡ history.old.limit }
     ensures settled { IfOk result (λ settled. Settles O.asks O.meaning history.old operator plan history.new settled) }
+    ensures kept { IfOk result (λ settled. KeepsPlan plan settled) }
     ensures err { OnErr result (history.new ≡ history.old) }
     ensures handed_back { IfErr result (λ left. left.plan ≡ plan) }
     ensures full { IfErr result (λ left. (left.why ≡ errors.Full) ↔ (AgreesWith O.asks O.meaning history.old plan × (length history.old.rows ≡ history.old.limit))) }
@@ -69,6 +70,7 @@ fn commit_to_full<O: Operation>(
     ensures first { history.new.first ≡ history.old.first }
     ensures limit { history.new.limit ≡ history.old.limit }
     ensures settled { IfOk result (λ settled. Settles O.asks O.meaning history.old operator plan history.new settled) }
+    ensures kept { IfOk result (λ settled. KeepsPlan plan settled) }
     ensures err { OnErr result (history.new ≡ history.old) }
     ensures handed_back { IfErr result (λ left. left.plan ≡ plan) }
     ensures full { IfErr result (λ left. (left.why ≡ errors.Full) ↔ (AgreesWith O.asks O.meaning history.old plan × (length history.old.rows ≡ history.old.limit))) }
@@ -90,6 +92,7 @@ fn commit_stale<O: Operation>(
     ensures first { history.new.first ≡ history.old.first }
     ensures limit { history.new.limit ≡ history.old.limit }
     ensures settled { IfOk result (λ settled. Settles O.asks O.meaning history.old operator plan history.new settled) }
+    ensures kept { IfOk result (λ settled. KeepsPlan plan settled) }
     ensures err { OnErr result (history.new ≡ history.old) }
     ensures handed_back { IfErr result (λ left. left.plan ≡ plan) }
     ensures full { IfErr result (λ left. (left.why ≡ errors.Full) ↔ (AgreesWith O.asks O.meaning history.old plan × (length history.old.rows ≡ history.old.limit))) }
@@ -112,6 +115,7 @@ fn commit_with<O: Operation>(
     ensures first { history.new.first ≡ history.old.first }
     ensures limit { history.new.limit ≡ history.old.limit }
     ensures settled { IfOk result (λ settled. Settles O.asks O.meaning history.old operator plan history.new settled) }
+    ensures kept { IfOk result (λ settled. KeepsPlan plan settled) }
     ensures err { OnErr result (history.new ≡ history.old) }
     ensures handed_back { IfErr result (λ left. left.plan ≡ plan) }
     ensures full { IfErr result (λ left. (left.why ≡ errors.Full) ↔ (AgreesWith O.asks O.meaning history.old plan × (length history.old.rows ≡ history.old.limit))) }
@@ -135,6 +139,7 @@ pub(crate) fn call<O: Operation>(
     ensures rows { OnOk result (history.new.rows ≡ rows_after O.asks O.meaning history.old.first history.old.rows (operator, Do operation)) }
     ensures number { IfOk result (λ row. row.number ≡ length history.new.rows) }
     ensures reply { IfOk result (λ row. IsReplyOf history.new.rows row.number row.reply) }
+    ensures asked { IfOk result (λ row. IsReplyTo O.meaning (Do operation) row.reply) }
     ensures idle { OnOk result (IdleStays O.asks O.meaning history.old.first history.old.rows history.new.rows) }
     ensures err { OnErr result (history.new ≡ history.old) }
     ensures handed_back { IfErr result (λ unrun. unrun.operation ≡ operation) }
@@ -171,6 +176,7 @@ pub(crate) fn undo<O: Operation>(
     ensures rows { OnOk result (history.new.rows ≡ rows_after O.asks O.meaning history.old.first history.old.rows (operator, Undo n)) }
     ensures number { IfOk result (λ row. row.number ≡ length history.new.rows) }
     ensures reply { IfOk result (λ row. IsReplyOf history.new.rows row.number row.reply) }
+    ensures asked { IfOk result (λ row. IsReplyTo O.meaning (Undo n) row.reply) }
     ensures idle { OnOk result (IdleStays O.asks O.meaning history.old.first history.old.rows history.new.rows) }
     ensures err { OnErr result (history.new ≡ history.old) }
     ensures full { IfErr result (λ why. (why ≡ errors.Full) ↔ (length history.old.rows ≡ history.old.limit)) }
@@ -195,6 +201,7 @@ pub(crate) fn redo<O: Operation>(
     ensures rows { OnOk result (history.new.rows ≡ rows_after O.asks O.meaning history.old.first history.old.rows (operator, Redo n)) }
     ensures number { IfOk result (λ row. row.number ≡ length history.new.rows) }
     ensures reply { IfOk result (λ row. IsReplyOf history.new.rows row.number row.reply) }
+    ensures asked { IfOk result (λ row. IsReplyTo O.meaning (Redo n) row.reply) }
     ensures idle { OnOk result (IdleStays O.asks O.meaning history.old.first history.old.rows history.new.rows) }
     ensures err { OnErr result (history.new ≡ history.old) }
     ensures full { IfErr result (λ why. (why ≡ errors.Full) ↔ (length history.old.rows ≡ history.old.limit)) }

@@ -1,8 +1,9 @@
 //! One lock around a history.
 ghost use Rattle.std.specs.Prelude.{◌≡◌, ◌≤◌, [], IfOk, IfErr};
 ghost use Rattle.history.specs.Rows.{run, calls_of};
+ghost use Rattle.history.specs.declared.row.Request.TheVariants.{Do, Undo, Redo};
 ghost use Rattle.shared_admin.specs.Closing.{IsClosed, IsFault};
-ghost use Rattle.shared_admin.specs.Holds.{KeepsPlan};
+ghost use Rattle.shared_admin.specs.Holds.{IsReplyTo, KeepsPlan};
 ghost use Rattle.shared_admin.specs.Sharing.{MayShare, IsUnshared};
 
 use crate::close::{Unclosed, run_fault};
@@ -133,7 +134,8 @@ impl<O: Operation> SharedAdmin<O> {
         operator: Operator,
         operation: O,
     ) -> Result<NewRow, Unrun<O>>
-        ensures { IfErr result (λ unrun. unrun.operation ≡ operation) }
+        ensures reply { IfOk result (λ row. IsReplyTo O.meaning (Do operation) row.reply) }
+        ensures handed_back { IfErr result (λ unrun. unrun.operation ≡ operation) }
     {
         holds::call(&mut *self.history.lock(rt), alloc, operator, operation)
     }
@@ -150,7 +152,9 @@ impl<O: Operation> SharedAdmin<O> {
         alloc: Global,
         operator: Operator,
         n: u32,
-    ) -> Result<NewRow, CallError> {
+    ) -> Result<NewRow, CallError>
+        ensures { IfOk result (λ row. IsReplyTo O.meaning (Undo n) row.reply) }
+    {
         holds::undo(&mut *self.history.lock(rt), alloc, operator, n)
     }
 
@@ -167,7 +171,9 @@ impl<O: Operation> SharedAdmin<O> {
         alloc: Global,
         operator: Operator,
         n: u32,
-    ) -> Result<NewRow, CallError> {
+    ) -> Result<NewRow, CallError>
+        ensures { IfOk result (λ row. IsReplyTo O.meaning (Redo n) row.reply) }
+    {
         holds::redo(&mut *self.history.lock(rt), alloc, operator, n)
     }
 

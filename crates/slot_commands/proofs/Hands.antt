@@ -7,9 +7,9 @@ use Rattle.link_tree.specs.Trees.{Entries, set_entry}
 use Rattle.link_tree.proofs.Changed.{get-set}
 use Rattle.slot_commands.specs.declared.by_hand.PlaceEntry.{PlaceEntry}
 use Rattle.slot_commands.specs.declared.by_hand.RemoveEntry.{RemoveEntry}
-use Rattle.footprint.specs.declared.refusal.Refusal.TheVariants.{NotASlot, Absent, Exists}
-use Rattle.footprint.specs.Placing.{ruled_at}
-use Rattle.footprint.specs.Rules.{Rule}
+use Rattle.tree_access.specs.declared.refusal.Refusal.TheVariants.{NotASlot, Absent, Exists}
+use Rattle.tree_access.specs.Placing.{ruled_at}
+use Rattle.tree_access.specs.Rules.{Rule}
 use Rattle.slot_commands.specs.ByHand.{place_at, remove_at, ruled_slot, with_one, FillsSlot, PlaceFills, EmptiesSlot, RemoveEmpties}
 use Rattle.footprint.proofs.Turns.{left_by}
 use Rattle.slot_commands.proofs.Outcomes.{refuses, leaves_tree}

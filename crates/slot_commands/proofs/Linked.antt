@@ -24,17 +24,18 @@ use Rattle.load_path.specs.declared.finding.Found.TheVariants as founds
 use Rattle.load_path.specs.Follow.{follow}
 use Rattle.load_path.specs.Find.{find}
 use Rattle.footprint.specs.declared.answer.Answer.TheVariants.{Done}
-use Rattle.footprint.specs.declared.refusal.Refusal.{Refusal}
-use Rattle.footprint.specs.declared.refusal.Refusal.TheVariants.{Exists, NeedsInstance, BadType}
-use Rattle.footprint.specs.declared.refusal.Subject.TheVariants as subjects
-use Rattle.footprint.specs.Placing.{Ruling, effect, ruled_at}
+use Rattle.tree_access.specs.declared.refusal.Refusal.{Refusal}
+use Rattle.tree_access.specs.declared.refusal.Refusal.TheVariants.{Exists, NeedsInstance, BadType}
+use Rattle.tree_access.specs.declared.refusal.Subject.TheVariants as subjects
+use Rattle.tree_access.specs.Placing.{Ruling, ruled_at}
+use Rattle.footprint.specs.Commands.{effect}
 use Rattle.footprint.specs.Steps.{Step, ruled, unless_refused, each_in_turn}
-use Rattle.footprint.specs.Rules.{is_same_path, leads_alike, link_at, relink_at, LeadsAs}
+use Rattle.tree_access.specs.Rules.{is_same_path, leads_alike, link_at, relink_at, LeadsAs}
 use Rattle.slot_commands.specs.LinkUnits.{link_file, link_end, link_unit, IsLinked, FilesAreLinked}
 use Rattle.footprint.specs.Units.{found_unit, IsFound}
 use Rattle.unit_file.specs.Listed.{is_template_name}
 use Rattle.slot_commands.specs.AddTo.{as_dependency, default_of, name_listed, add_listed, add_file, add_unit, add_units, IsListedBetween, DependenciesAreAdded}
-use Rattle.slot_commands.specs.SetDefault.{default_slot, is_target_type, default_file, DefaultIsSet}
+use Rattle.slot_commands.specs.SetDefault.{default_slot, is_target_type, default_file, IsRelinked, DefaultIsSet}
 use Rattle.slot_commands.specs.Effects.{Keeps, AddsOnly}
 use Rattle.footprint.proofs.Turns.{left_by, leaves, goes_on, in_turn, all_turns}
 use Rattle.slot_commands.proofs.Outcomes.{placed_leads}
@@ -275,19 +276,32 @@ dependencies_are_added = λ add t done.
 -- the link of default.target is made
 module _ (t : Entries) (file : List ℕ) where
   abbrev Relinks : Entries → Type 0
-  Relinks u = LeadsAs u default_slot file × ((path : List ℕ) → bytes_eq path default_slot ≡ false → map.get u path ≡ map.get t path)
+  Relinks u = LeadsAs u default_slot file × IsRelinked t u default_slot file × ((path : List ℕ) → bytes_eq path default_slot ≡ false → map.get u path ≡ map.get t path)
 
-  relinked : (text : List ℕ) (u : Entries) → canonical default_slot text ≡ canonical default_slot file → set_entry t default_slot (Some (Link text)) ≡ u → Relinks u
-  relinked text u leads same = subst Relinks same ((text, set_here t default_slot (Link text), leads), set_away t default_slot (Link text))
+  abbrev Leaves : List ℕ → Type 0
+  Leaves text = IsRelinked t (set_entry t default_slot (Some (Link text))) default_slot file
 
-  relinked_at : (there : Option Entry) (u : Entries) → left_by (ruled_at default_slot (relink_at file default_slot there)) t ≡ Ok u → Relinks u
-  relinked_at None u is = relinked file u refl (let same : set_entry t default_slot (Some (Link file)) ≡ u = cc in same)
-  relinked_at (Some (File contents)) u is = cc
-  relinked_at (Some (Link text)) u is = elim (cases_Bool (leads_alike default_slot text file)) [
+  relinked : (text : List ℕ) (u : Entries) → canonical default_slot text ≡ canonical default_slot file → Leaves text → set_entry t default_slot (Some (Link text)) ≡ u → Relinks u
+  relinked text u leads how same = subst Relinks same ((text, set_here t default_slot (Link text), leads), how, set_away t default_slot (Link text))
+
+  -- no link at the slot leads to the file
+  replaced : ((text : List ℕ) → map.get t default_slot ≡ Some (Link text) → leads_alike default_slot text file ≡ false) → Leaves file
+  replaced none = inr (none, set_here t default_slot (Link file))
+
+  no_other : (text other : List ℕ) → map.get t default_slot ≡ Some (Link text) → leads_alike default_slot text file ≡ false → map.get t default_slot ≡ Some (Link other) → leads_alike default_slot other file ≡ false
+  no_other text other at unlike there =
+      let both : Some (Link text) ≡ Some (Link other) = sym at ∙ there in
+      let same : text ≡ other = cc in
+      subst (λ one. leads_alike default_slot one file ≡ false) same unlike
+
+  relinked_at : (there : Option Entry) (u : Entries) → map.get t default_slot ≡ there → left_by (ruled_at default_slot (relink_at file default_slot there)) t ≡ Ok u → Relinks u
+  relinked_at None u at is = relinked file u refl (replaced (λ text there. some_none (Link text) (sym at ∙ there))) (let same : set_entry t default_slot (Some (Link file)) ≡ u = cc in same)
+  relinked_at (Some (File contents)) u at is = cc
+  relinked_at (Some (Link text)) u at is = elim (cases_Bool (leads_alike default_slot text file)) [
     | inl alike ↦ (let left : Ok (set_entry t default_slot (Some (Link text))) ≡ Ok u = rw alike at is in
-        relinked text u (same_path (canonical default_slot text) (canonical default_slot file) alike) (let same : set_entry t default_slot (Some (Link text)) ≡ u = cc in same))
-    | inr other ↦ (let left : Ok (set_entry t default_slot (Some (Link file))) ≡ Ok u = rw other at is in
-        relinked file u refl (let same : set_entry t default_slot (Some (Link file)) ≡ u = cc in same))
+        relinked text u (same_path (canonical default_slot text) (canonical default_slot file) alike) (inl (text, at, alike, set_here t default_slot (Link text))) (let same : set_entry t default_slot (Some (Link text)) ≡ u = cc in same))
+    | inr unlike ↦ (let left : Ok (set_entry t default_slot (Some (Link file))) ≡ Ok u = rw unlike at is in
+        relinked file u refl (replaced (λ other there. no_other text other at unlike there)) (let same : set_entry t default_slot (Some (Link file)) ≡ u = cc in same))
   ]
 
   file_set : (name real : List ℕ) (u : Entries) → left_by ((default_file name real file).conclusion t) t ≡ Ok u → Relinks u
@@ -295,7 +309,7 @@ module _ (t : Entries) (file : List ℕ) where
   file_set name real u is = elim (cases_Bool (is_target_type (type_of name))) [
     | inl target ↦ elim (cases_Bool (is_template_name real)) [
       | inl template ↦ (let left : left_by (Err (NeedsInstance real)) t ≡ Ok u = rw (target, template) at is in cc)
-      | inr whole ↦ relinked_at (map.get t default_slot) u (rw (target, whole) at is)
+      | inr whole ↦ relinked_at (map.get t default_slot) u refl (rw (target, whole) at is)
     ]
     | inr other ↦ (let left : left_by (Err (BadType (subjects.Unit name))) t ≡ Ok u = rw other at is in cc)
   ]
@@ -306,4 +320,4 @@ default_is_set = λ set_default t done.
     let unit = was_found set_default.unit t on ((find set_default.unit).conclusion t) refl done in
     let ruling = ruling_of set_default.unit t on ((find set_default.unit).conclusion t) in
     let set = file_set t unit.1 set_default.unit unit.0 (after_changes (effect t map.empty ruling).changes t) (ap (λ v. left_by v t) (sym unit.3) ∙ left_tree t ruling done) in
-    (unit.0, unit.1, unit.2, set.0, set.1)
+    (unit.0, unit.1, unit.2, set.0, set.1, set.2)

@@ -14,10 +14,10 @@ use Rattle.link_tree.specs.Trees.{Entries, set_entry}
 use Rattle.link_tree.proofs.Changed.{same_bytes, get-set}
 use Rattle.unit_paths.specs.declared.place.Scope.{Scope}
 use Rattle.slot_commands.specs.declared.mask.Mask.{Mask}
-use Rattle.footprint.specs.declared.refusal.Refusal.{Refusal}
-use Rattle.footprint.specs.declared.refusal.Refusal.TheVariants.{Exists}
-use Rattle.footprint.specs.Placing.{ruled_at}
-use Rattle.footprint.specs.Rules.{Rule}
+use Rattle.tree_access.specs.declared.refusal.Refusal.{Refusal}
+use Rattle.tree_access.specs.declared.refusal.Refusal.TheVariants.{Exists}
+use Rattle.tree_access.specs.Placing.{ruled_at}
+use Rattle.tree_access.specs.Rules.{Rule}
 use Rattle.slot_commands.specs.Masks.{mask_link, is_mask, mask_at, unmask_at, ruled_unit, each_ruled, has_mask, is_in_the_way, masked, unmasked, slots_of, FillsEmptySlots, MaskFills, UnmaskEmpties}
 use Rattle.footprint.proofs.Turns.{left_by, goes_on, in_turn, all_turns}
 use Rattle.slot_commands.proofs.Outcomes.{refuses, leaves_tree}

@@ -4,8 +4,9 @@ use Rattle.std.specs.FinMap as map
 use Rattle.link_tree.specs.declared.entry.Entry.{Entry}
 use Rattle.link_tree.specs.Trees.{Entries, after_changes}
 use Rattle.footprint.specs.declared.answer.Answer.TheVariants.{Refused}
-use Rattle.footprint.specs.declared.refusal.Refusal.{Refusal}
-use Rattle.footprint.specs.Placing.{Placed, Ruling, placed_in, effect}
+use Rattle.tree_access.specs.declared.refusal.Refusal.{Refusal}
+use Rattle.tree_access.specs.Placing.{Placed, Ruling, placed_in}
+use Rattle.footprint.specs.Commands.{effect}
 use Rattle.slot_commands.specs.Effects.{Refuses, Leaves}
 use Rattle.link_tree.proofs.Leads.{leads}
 use Rattle.footprint.proofs.Turns.{left_by}

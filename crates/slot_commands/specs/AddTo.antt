@@ -13,11 +13,11 @@ use Rattle.unit_paths.specs.Slots.{dependency_slot}
 use Rattle.unit_paths.specs.Places.{scope_place}
 use Rattle.link_tree.specs.Trees.{Entries, after_changes}
 use Rattle.footprint.specs.declared.answer.Answer.TheVariants.{Done}
-use Rattle.footprint.specs.declared.refusal.Refusal.TheVariants.{NeedsInstance}
+use Rattle.tree_access.specs.declared.refusal.Refusal.TheVariants.{NeedsInstance}
 use Rattle.footprint.specs.Commands.{silent, carried_out}
 use Rattle.footprint.specs.Inquiry.{Inquiry, stands_at}
 use Rattle.footprint.specs.Operations.{Effect}
-use Rattle.footprint.specs.Rules.{link_at, LeadsAs}
+use Rattle.tree_access.specs.Rules.{link_at, LeadsAs}
 use Rattle.footprint.specs.Steps.{Step, refuse, ruled, each_in_turn, ◌>>=◌}
 use Rattle.slot_commands.specs.declared.add_to.AddTo.{AddTo}
 use Rattle.slot_commands.specs.declared.add_to.AddedDependency.{AddedDependency}

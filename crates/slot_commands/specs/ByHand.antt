@@ -5,11 +5,11 @@ use Rattle.std.specs.FinMap as map
 use Rattle.link_tree.specs.declared.entry.Entry.{Entry}
 use Rattle.unit_paths.specs.Slots.{is_slot}
 use Rattle.link_tree.specs.Trees.{Entries}
-use Rattle.footprint.specs.declared.refusal.Refusal.TheVariants.{NotASlot, Absent, Exists}
+use Rattle.tree_access.specs.declared.refusal.Refusal.TheVariants.{NotASlot, Absent, Exists}
 use Rattle.footprint.specs.Commands.{silent, carried_out}
 use Rattle.footprint.specs.Inquiry.{Inquiry}
 use Rattle.footprint.specs.Operations.{Effect}
-use Rattle.footprint.specs.Rules.{Rule}
+use Rattle.tree_access.specs.Rules.{Rule}
 use Rattle.footprint.specs.Steps.{Step, refuse, ruled}
 use Rattle.slot_commands.specs.declared.by_hand.PlaceEntry.{PlaceEntry}
 use Rattle.slot_commands.specs.declared.by_hand.RemoveEntry.{RemoveEntry}

@@ -4,7 +4,7 @@ use Rattle.std.specs.FinMap as map
 use Rattle.link_tree.specs.declared.entry.Entry.{Entry}
 use Rattle.link_tree.specs.Trees.{Entries, after_changes}
 use Rattle.footprint.specs.declared.answer.Answer.TheVariants.{Done, Refused}
-use Rattle.footprint.specs.declared.refusal.Refusal.{Refusal}
+use Rattle.tree_access.specs.declared.refusal.Refusal.{Refusal}
 use Rattle.footprint.specs.Operations.{Effect}
 
 -- A command is refused, and changes nothing.

@@ -14,12 +14,12 @@ use Rattle.load_path.specs.declared.following.End.{End}
 use Rattle.load_path.specs.declared.following.End.TheVariants as ends
 use Rattle.load_path.specs.Follow.{follow}
 use Rattle.footprint.specs.declared.answer.Answer.TheVariants.{Done}
-use Rattle.footprint.specs.declared.refusal.Subject.TheVariants.{Path}
-use Rattle.footprint.specs.declared.refusal.Refusal.TheVariants.{NotFound, Masked, Dangling, BadType}
+use Rattle.tree_access.specs.declared.refusal.Subject.TheVariants.{Path}
+use Rattle.tree_access.specs.declared.refusal.Refusal.TheVariants.{NotFound, Masked, Dangling, BadType}
 use Rattle.footprint.specs.Commands.{silent, carried_out}
 use Rattle.footprint.specs.Inquiry.{Inquiry, by_cells}
 use Rattle.footprint.specs.Operations.{Effect}
-use Rattle.footprint.specs.Rules.{link_at, LeadsAs}
+use Rattle.tree_access.specs.Rules.{link_at, LeadsAs}
 use Rattle.footprint.specs.Steps.{Step, nothing, refuse, ruled, each_in_turn, ◌>>=◌}
 use Rattle.slot_commands.specs.declared.link_units.LinkUnits.{LinkUnits}
 use Rattle.slot_commands.specs.Effects.{Keeps, AddsOnly}

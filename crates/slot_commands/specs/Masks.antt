@@ -11,11 +11,11 @@ use Rattle.link_tree.specs.Links.{is_null_link}
 use Rattle.unit_paths.specs.Slots.{unit_slot}
 use Rattle.unit_paths.specs.Places.{scope_place}
 use Rattle.link_tree.specs.Trees.{Entries}
-use Rattle.footprint.specs.declared.refusal.Refusal.TheVariants.{Exists}
+use Rattle.tree_access.specs.declared.refusal.Refusal.TheVariants.{Exists}
 use Rattle.footprint.specs.Commands.{silent, carried_out}
 use Rattle.footprint.specs.Inquiry.{Inquiry}
 use Rattle.footprint.specs.Operations.{Effect}
-use Rattle.footprint.specs.Rules.{Rule}
+use Rattle.tree_access.specs.Rules.{Rule}
 use Rattle.footprint.specs.Steps.{Step, each_in_turn, ruled}
 use Rattle.slot_commands.specs.declared.mask.Mask.{Mask}
 use Rattle.slot_commands.specs.declared.mask.Unmask.{Unmask}

@@ -30,7 +30,8 @@ pub fn dependencies_are_links_of_the_target()
 {}
 
 /// An accepted `set-default` has found its unit, and the link `default.target` leads to the unit's
-/// file. Nothing else changes.
+/// file: a link that led there before stays, and any other is replaced by one to the file's path.
+/// Nothing else changes.
 pub fn the_default_leads_to_the_units_file()
     ensures { DefaultIsSet }
 {}

@@ -37,7 +37,7 @@ use Rattle.install_section.specs.Wishes.{alias_by, alias_meant, has_aliases, are
 use Rattle.install_section.specs.Words.{name_or_reason, named_by}
 use Rattle.load_path.specs.RealNames.{is_same_type}
 use Rattle.install_section.proofs.Least.{some_is}
-use Rattle.footprint.specs.Rules.{LeadsAs}
+use Rattle.tree_access.specs.Rules.{LeadsAs}
 use Rattle.footprint.specs.declared.answer.StateWord.TheVariants.{Enabled, EnabledRuntime}
 use Rattle.install_commands.specs.declared.enable.Enable.{Enable}
 use Rattle.install_commands.specs.Enable.{enable_meaning}

@@ -33,7 +33,7 @@ use Rattle.unit_name.specs.Name.{instance_of}
 use Rattle.install_section.proofs.Least.{none_of, first_or_later}
 use Rattle.footprint.specs.declared.answer.Answer.{Answer}
 use Rattle.footprint.specs.declared.answer.Answer.TheVariants.{Done, Refused}
-use Rattle.footprint.specs.declared.refusal.Refusal.TheVariants.{Exists}
+use Rattle.tree_access.specs.declared.refusal.Refusal.TheVariants.{Exists}
 use Rattle.footprint.specs.declared.answer.StateWord.TheVariants.{Masked, MaskedRuntime}
 use Rattle.slot_commands.specs.declared.mask.Mask.{Mask}
 use Rattle.slot_commands.specs.Masks.{mask_link, mask_meaning, slots_of, is_in_the_way, masked, FillsEmptySlots}

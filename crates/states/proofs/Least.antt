@@ -18,10 +18,10 @@ use Rattle.link_tree.specs.declared.entry.Entry.TheVariants.{Link}
 use Rattle.link_tree.specs.Trees.{Entries}
 use Rattle.link_tree.proofs.Maps.{all_standing, all_listed}
 use Rattle.load_path.proofs.Units.{is-name}
-use Rattle.footprint.specs.declared.key.Key.TheVariants.{Links}
-use Rattle.footprint.specs.Keys.{part}
+use Rattle.tree_access.specs.declared.key.Key.TheVariants.{Links}
+use Rattle.tree_access.specs.Keys.{part}
 use Rattle.unit_paths.specs.Kinds.{is_dependency}
-use Rattle.footprint.proofs.Parts.{part_selected, part_stands, stands_in_part}
+use Rattle.tree_access.proofs.Parts.{part_selected, part_stands, stands_in_part}
 use Rattle.states.specs.declared.step.Step.{Step}
 use Rattle.states.specs.Dependencies.{HasLink, IsLinked, IsLinkedBy, Leads, Reached, turned, steps_of, ends_of, end_for, next_names, reached_names, dependencies}
 use Rattle.states.specs.Dependencies.Leads.{OwnLink, LinkOfTemplate, BetweenTemplates}

@@ -26,10 +26,10 @@ use Rattle.install_section.specs.Sections.{section_of, is_empty}
 use Rattle.install_section.proofs.Least.{some_is, is_first, is_later, first_or_later, none_of}
 use Rattle.footprint.specs.declared.answer.StateWord.{StateWord}
 use Rattle.footprint.specs.declared.answer.StateWord.TheVariants as words
-use Rattle.footprint.specs.declared.key.Key.TheVariants.{Marked}
-use Rattle.footprint.specs.Keys.{part, selects, shown}
-use Rattle.footprint.specs.KeyLaws.{get-part}
-use Rattle.footprint.proofs.Those.{shown_there, shown_chosen}
+use Rattle.tree_access.specs.declared.key.Key.TheVariants.{Marked}
+use Rattle.tree_access.specs.Keys.{part, selects, shown}
+use Rattle.tree_access.proofs.KeyLaws.{get-part}
+use Rattle.tree_access.proofs.Those.{shown_there, shown_chosen}
 use Rattle.states.specs.IsEnabled.{by_place, has_other, asks_for_none, by_lists, by_file, by_links, found_word, state_word}
 use Rattle.states.specs.Laws.{IsFound, IsLinkedIn, IsFree, LiesInside, Tells, WordsAreTold}
 use Rattle.states.specs.Laws.Tells.{Missing, Dangling, MaskedInRun, MaskedElsewhere, AnotherName, LinkedInEtc, LinkedInRun, OutsideFoundInRun, OutsideFoundElsewhere, NothingListed, UnitsListedAlone, LinksListed}

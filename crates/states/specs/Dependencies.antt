@@ -22,7 +22,7 @@ use Rattle.link_tree.specs.Trees.{Entries, path_cmp}
 use Rattle.load_path.specs.RealNames.{put_in}
 use Rattle.footprint.specs.declared.answer.Answer.{Answer}
 use Rattle.footprint.specs.declared.answer.Answer.TheVariants.{Names}
-use Rattle.footprint.specs.declared.key.Key.TheVariants.{Links}
+use Rattle.tree_access.specs.declared.key.Key.TheVariants.{Links}
 use Rattle.footprint.specs.Inquiry.{Inquiry, entries_seen, giving}
 use Rattle.footprint.specs.Operations.{Effect}
 use Rattle.states.specs.declared.step.Step.{Step}

@@ -5,8 +5,8 @@ use Rattle.unit_name.specs.declared.kind.Kind.TheVariants.{Template}
 use Rattle.unit_name.specs.Parts.{kind_of}
 use Rattle.unit_name.specs.Name.{is_unit_name, instance_of}
 use Rattle.link_tree.specs.Trees.{Entries}
-use Rattle.footprint.specs.declared.key.Key.TheVariants.{Links}
-use Rattle.footprint.specs.Keys.{part}
+use Rattle.tree_access.specs.declared.key.Key.TheVariants.{Links}
+use Rattle.tree_access.specs.Keys.{part}
 use Rattle.states.specs.Dependencies.{IsLinked, IsDependency, dependencies}
 
 -- The walk lists the dependencies of a unit, and no other names: the least set that is closed under

@@ -20,7 +20,7 @@ use Rattle.footprint.specs.declared.answer.Answer.{Answer}
 use Rattle.footprint.specs.declared.answer.Answer.TheVariants.{State}
 use Rattle.footprint.specs.declared.answer.StateWord.{StateWord}
 use Rattle.footprint.specs.declared.answer.StateWord.TheVariants.{NotFound, Masked, MaskedRuntime, Alias, Enabled, EnabledRuntime, Linked, LinkedRuntime, Static, Indirect, Disabled}
-use Rattle.footprint.specs.declared.key.Key.TheVariants.{Marked}
+use Rattle.tree_access.specs.declared.key.Key.TheVariants.{Marked}
 use Rattle.footprint.specs.Inquiry.{Inquiry, over, by_cells, entries_seen, giving, ◌>>=◌}
 use Rattle.footprint.specs.Operations.{Effect}
 use Rattle.states.specs.declared.is_enabled.IsEnabled.{IsEnabled}

@@ -2,9 +2,9 @@
 ghost use Rattle.std.specs.Prelude.{◌≡◌, ◌∷◌, [], All, true, IfOk};
 ghost use Rattle.unit_paths.specs.Slots.{is_slot};
 ghost use Rattle.link_tree.specs.Trees.{Entries};
-ghost use Rattle.footprint.specs.declared.reading.Seen.TheVariants as sees;
-ghost use Rattle.footprint.specs.Keys.{seen};
-ghost use Rattle.footprint.specs.Readings.{reading_of};
+ghost use Rattle.tree_access.specs.declared.reading.Seen.TheVariants as sees;
+ghost use Rattle.tree_access.specs.Keys.{seen};
+ghost use Rattle.tree_access.specs.Readings.{reading_of};
 
 use footprint::{Answer, Changes, Key, Outcome, Reading};
 use link_tree::TreePart;

@@ -13,9 +13,9 @@ use Rattle.std.proofs.lemmas.Map.Lookups.{exact_bytes}
 use Rattle.unit_paths.specs.Slots.{is_slot}
 use Rattle.link_tree.specs.Trees.{path_cmp, Entries}
 use Rattle.link_tree.proofs.Maps.{all_standing}
-use Rattle.footprint.specs.Keys.{StandAtSlots}
-use Rattle.footprint.specs.Placing.{Wanted, cleared}
-use Rattle.footprint.proofs.Those.{Standing}
+use Rattle.tree_access.specs.Keys.{StandAtSlots}
+use Rattle.tree_access.specs.Placing.{Wanted, cleared}
+use Rattle.tree_access.proofs.Those.{Standing}
 
 -- the paths of these entries must be empty too
 abbrev pub with_none : Wanted → List Standing → Wanted

@@ -1,20 +1,18 @@
 -- Commands that have ended: their outcomes are those of what they mean.
-use Rattle.std.proofs.Common.{◌≡◌, List, [], Result, Ok, Err, refl, sym, ap, ◌∙◌, subst}
+use Rattle.std.proofs.Common.{◌≡◌, List, [], Result, Ok, Err, sym, ap, ◌∙◌, subst}
 use Rattle.unit_file.specs.Notices.{NoticeMap}
 use Rattle.link_tree.specs.Differences.{changes_between}
 use Rattle.link_tree.specs.Trees.{Entries}
 use Rattle.footprint.specs.declared.answer.Answer.TheVariants as answers
-use Rattle.footprint.specs.declared.key.Key.{Key}
+use Rattle.tree_access.specs.declared.key.Key.{Key}
 use Rattle.footprint.specs.declared.outcome.Outcome.{Outcome}
-use Rattle.footprint.specs.declared.refusal.Refusal.{Refusal}
-use Rattle.footprint.specs.Commands.{Command, carried_out}
+use Rattle.tree_access.specs.declared.refusal.Refusal.{Refusal}
 use Rattle.footprint.specs.Inquiry.{Inquiry}
 use Rattle.footprint.specs.Operations.{Effect}
-use Rattle.footprint.specs.Placing.{Ruling, effect}
-use Rattle.footprint.specs.Readings.{reading_of}
+use Rattle.tree_access.specs.Readings.{reading_of}
 use Rattle.transaction.specs.declared.stop.Stop.{Stop}
 use Rattle.transaction.specs.declared.stop.Stop.TheVariants.{Refused, OutOfMemory}
-use Rattle.transaction.specs.Runs.{Run, Runs, Closes, doing, reported_by}
+use Rattle.transaction.specs.Runs.{Run, Runs, Closes}
 use Rattle.transaction.specs.Seen.{Transacted}
 
 -- the effect of what a run leaves of a tree
@@ -50,11 +48,3 @@ module _ (run : Run NoticeMap) (meaning : Inquiry Effect) (t : Entries) (means :
   pub comes_to : (old new : Transacted) (done : Result NoticeMap Stop) → old ≡ begun t → Runs run old new done → (outcome : Outcome) → Closes new done outcome
       → outcome ≡ outcome_by (meaning.conclusion t) (meaning.keys t) t
   comes_to old new done from runs = from_begun new done (subst (λ old. Runs run old new done) from runs)
-
-effect_reported : (t : Entries) (notices : NoticeMap) (ruling : Ruling) → effect_of t (reported_by notices ruling t) ≡ effect t notices ruling
-effect_reported t notices (Ok placed) = refl
-effect_reported t notices (Err refusal) = refl
-
--- one command
-pub command_means : (command : Command) (t : Entries) → Means (doing command) (carried_out command) t
-command_means command t = record { concludes = effect_reported t (command.conclusion t).0 ((command.conclusion t).1.conclusion t); looks = refl }

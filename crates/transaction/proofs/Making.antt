@@ -1,23 +1,20 @@
 -- Links that are wanted, and are made one after another.
-use Rattle.std.proofs.Common.{◌≡◌, ℕ, true, cond, List, [], ◌∷◌, All, Option, Some, None, Result, Ok, Err, sym, ap, subst, ◌∙◌, inl, inr}
+use Rattle.std.proofs.Common.{◌≡◌, ℕ, true, cond, List, [], ◌∷◌, All, Option, Some, None, Result, Ok, sym, ap, subst, ◌∙◌, inl, inr}
 use Rattle.std.specs.FinMap as map
 use Rattle.std.specs.Cmp.Lexicographic.{nat_list_cmp_total}
 use Rattle.std.proofs.lemmas.Bool.{cases_Bool}
 use Rattle.std.proofs.lemmas.List.Elements.{All-head, All-tail, All-weaker}
 use Rattle.unit_paths.specs.Slots.{is_slot}
 use Rattle.link_tree.specs.declared.entry.Entry.{Entry}
-use Rattle.link_tree.specs.declared.change.Change.{Change}
 use Rattle.link_tree.specs.Trees.{path_cmp, Entries, set_entry}
 use Rattle.link_tree.proofs.Changed.{is_at}
 use Rattle.link_tree.proofs.Maps.{none_some, all_standing}
 use Rattle.link_tree.proofs.Shapes.{same_key}
-use Rattle.footprint.specs.declared.refusal.Refusal.{Refusal}
-use Rattle.footprint.specs.Placing.{Wanted, ruled_at, concluded_after, all_wanted}
+use Rattle.tree_access.specs.declared.refusal.Refusal.{Refusal}
+use Rattle.tree_access.specs.Placing.{Wanted, ruled_at, concluded_after, all_wanted}
 use Rattle.footprint.proofs.Wishes.{Link, ruling_at}
-use Rattle.transaction.specs.declared.stop.Stop.{Stop}
-use Rattle.transaction.specs.declared.stop.Stop.TheVariants.{Refused, OutOfMemory}
-use Rattle.transaction.specs.Edits.{AreAtSlots, Places}
-use Rattle.transaction.specs.Runs.{Gives, placed_by}
+use Rattle.transaction.specs.Edits.{AreAtSlots}
+use Rattle.transaction.specs.Runs.{placed_by}
 use Rattle.transaction.proofs.Turns.{placed_more}
 
 -- The remaining links are at slots, and making them in the tree as it is now leaves what making all
@@ -70,9 +67,3 @@ module _ (before now : Entries) (link : Link) (rest all : List Link) (come : Are
     leave = sym (placed_more ((link.0, entry) ∷ []) (all_wanted rest before) now) ∙ leaves (Ok entry) at;
     at_slots = All-tail (λ link. is_slot link.0 ≡ true) link rest come.at_slots;
   }
-
-  -- something is in the way of one link, or memory ran out
-  pub one_stopped : (first after : Entries) (changes : map.FinMap path_cmp Change) (stop : Stop) → Gives (ruling_at before link) (Err stop)
-      → Places (all_wanted all before) first before after changes (Err stop)
-  one_stopped first after changes (Refused refusal) at = sym (leaves (Err refusal) at)
-  one_stopped first after changes OutOfMemory at = tt

@@ -2,9 +2,9 @@
 use Rattle.std.proofs.Common.{◌≡◌, ℕ, false, List, [], ◌∷◌, All, map as list_map, refl}
 use Rattle.std.proofs.lemmas.List.Elements.{All-nil, All-cons}
 use Rattle.unit_paths.specs.declared.place.Scope.{Scope}
-use Rattle.footprint.specs.declared.key.Key.{Key}
-use Rattle.footprint.specs.declared.key.Key.TheVariants.{Marked}
-use Rattle.footprint.specs.Keys.{is_cell}
+use Rattle.tree_access.specs.declared.key.Key.{Key}
+use Rattle.tree_access.specs.declared.key.Key.TheVariants.{Marked}
+use Rattle.tree_access.specs.Keys.{is_cell}
 
 -- none of them is a cell
 pub none_is_cell : (scope : Scope) (names : List (List ℕ)) → All (λ key. is_cell key ≡ false) (list_map (Marked scope) names)

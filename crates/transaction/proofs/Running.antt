@@ -4,11 +4,11 @@ use Rattle.std.proofs.lemmas.List.{append_assoc}
 use Rattle.unit_file.specs.Notices.{NoticeMap}
 use Rattle.link_tree.specs.declared.entry.Entry.{Entry}
 use Rattle.link_tree.specs.Trees.{Entries}
-use Rattle.footprint.specs.declared.refusal.Refusal.{Refusal}
+use Rattle.tree_access.specs.declared.refusal.Refusal.{Refusal}
 use Rattle.footprint.specs.Commands.{Command, telling, unless_refused}
 use Rattle.footprint.specs.Inquiry.{Inquiry, stands_at, ◌>>=◌}
-use Rattle.footprint.specs.Placing.{Ruling, ruled_at}
-use Rattle.footprint.specs.Rules.{Rule}
+use Rattle.tree_access.specs.Placing.{Ruling, ruled_at}
+use Rattle.tree_access.specs.Rules.{Rule}
 use Rattle.footprint.specs.Steps.{Step, ruled}
 use Rattle.transaction.specs.declared.stop.Stop.{Stop}
 use Rattle.transaction.specs.declared.stop.Stop.TheVariants.{Refused, OutOfMemory}

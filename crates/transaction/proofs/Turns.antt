@@ -2,9 +2,9 @@
 -- the loop computes one step.
 use Rattle.std.proofs.Common.{◌≡◌, List, [], ◌∷◌, ◌++◌, Result, Ok, Err, refl, sym, ap, ◌∙◌}
 use Rattle.link_tree.specs.Trees.{Entries}
-use Rattle.footprint.specs.declared.key.Key.{Key}
-use Rattle.footprint.specs.declared.refusal.Refusal.{Refusal}
-use Rattle.footprint.specs.Placing.{Placed, Ruling, placed_in, placed_before, concluded_after, keys_after}
+use Rattle.tree_access.specs.declared.key.Key.{Key}
+use Rattle.tree_access.specs.declared.refusal.Refusal.{Refusal}
+use Rattle.tree_access.specs.Placing.{Placed, Ruling, placed_in, placed_before, concluded_after, keys_after}
 use Rattle.footprint.specs.Steps.{Step, each_in_turn}
 use Rattle.footprint.proofs.Turns.{left_more}
 use Rattle.transaction.specs.Runs.{Run, taking, placed_by}

@@ -6,7 +6,7 @@ use Rattle.link_tree.specs.declared.change.Change.{Change}
 use Rattle.link_tree.specs.Trees.{path_cmp, Entries}
 use Rattle.unit_paths.specs.Slots.{is_slot}
 use Rattle.link_tree.specs.Differences.{DifferAtSlots, differences}
-use Rattle.footprint.specs.Placing.{Ruling, Wanted}
+use Rattle.tree_access.specs.Placing.{Ruling, Wanted}
 use Rattle.transaction.specs.Runs.{placed_by}
 use Rattle.transaction.specs.declared.stop.Stop.{Stop}
 use Rattle.transaction.specs.declared.stop.Stop.TheVariants.{Refused, OutOfMemory}

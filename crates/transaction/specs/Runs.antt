@@ -8,13 +8,13 @@ use Rattle.link_tree.specs.declared.entry.Entry.{Entry}
 use Rattle.link_tree.specs.Differences.{changes_between}
 use Rattle.footprint.specs.declared.answer.Answer.{Answer}
 use Rattle.footprint.specs.declared.answer.Answer.TheVariants as answers
-use Rattle.footprint.specs.declared.key.Key.{Key}
+use Rattle.tree_access.specs.declared.key.Key.{Key}
 use Rattle.footprint.specs.declared.outcome.Outcome.{Outcome}
-use Rattle.footprint.specs.declared.refusal.Refusal.{Refusal}
+use Rattle.tree_access.specs.declared.refusal.Refusal.{Refusal}
 use Rattle.footprint.specs.Commands.{Command}
 use Rattle.footprint.specs.Inquiry.{Inquiry}
-use Rattle.footprint.specs.Placing.{Ruling, placed_in}
-use Rattle.footprint.specs.Readings.{reading_of}
+use Rattle.tree_access.specs.Placing.{Ruling, placed_in}
+use Rattle.tree_access.specs.Readings.{reading_of}
 use Rattle.footprint.specs.Steps.{Step}
 use Rattle.transaction.specs.declared.stop.Stop.{Stop}
 use Rattle.transaction.specs.declared.stop.Stop.TheVariants.{Refused, OutOfMemory}

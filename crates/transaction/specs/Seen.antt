@@ -1,7 +1,7 @@
 -- What contracts see of a transaction.
 use Rattle.std.specs.Prelude.{◌≡◌, List, Option, Some, None}
 use Rattle.link_tree.specs.Trees.{Entries}
-use Rattle.footprint.specs.declared.key.Key.{Key}
+use Rattle.tree_access.specs.declared.key.Key.{Key}
 
 -- the tree as it was at first, the tree as it is now, and the keys of what was looked at, in order
 pub record Transacted : Type 0 where

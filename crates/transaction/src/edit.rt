@@ -4,7 +4,7 @@ ghost use Rattle.std.specs.FinMap as map;
 ghost use Rattle.unit_paths.specs.Slots.{is_slot};
 ghost use Rattle.link_tree.specs.Trees.{set_entry};
 ghost use Rattle.link_tree.specs.Differences.{changes_between, with_change};
-ghost use Rattle.footprint.specs.Placing.{all_wanted};
+ghost use Rattle.tree_access.specs.Placing.{all_wanted};
 ghost use Rattle.transaction.specs.Edits.{Edits};
 
 use crate::stop::Stop;

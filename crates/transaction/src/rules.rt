@@ -2,8 +2,8 @@
 ghost use Rattle.std.specs.Prelude.{◌≡◌, IfOk};
 ghost use Rattle.std.specs.Option.{option_copied};
 ghost use Rattle.link_tree.specs.declared.entry.Entry.TheVariants as entries;
-ghost use Rattle.footprint.specs.Placing.{wanted_at};
-ghost use Rattle.footprint.specs.Rules.{leads_alike, link_at, relink_at};
+ghost use Rattle.tree_access.specs.Placing.{wanted_at};
+ghost use Rattle.tree_access.specs.Rules.{leads_alike, link_at, relink_at};
 ghost use Rattle.transaction.specs.Runs.{Gives};
 
 use crate::stop::Stop;

@@ -3,10 +3,10 @@ ghost use Rattle.std.specs.Prelude.{◌≡◌, ◌++◌, [], true, false, Ok, Al
 ghost use Rattle.unit_paths.specs.Slots.{is_slot};
 ghost use Rattle.load_path.specs.Find.{find};
 ghost use Rattle.load_path.specs.Follow.{follow};
-ghost use Rattle.footprint.specs.declared.key.Key.TheVariants.{Cell, Marked, Presets};
+ghost use Rattle.tree_access.specs.declared.key.Key.TheVariants.{Cell, Marked, Presets};
 ghost use Rattle.footprint.specs.Inquiry.{by_cells, entries_of_all, entries_seen, giving, stands_at};
-ghost use Rattle.footprint.specs.Keys.{is_cell, StandAtSlots};
-ghost use Rattle.footprint.specs.Readings.{reading_of};
+ghost use Rattle.tree_access.specs.Keys.{is_cell, StandAtSlots};
+ghost use Rattle.tree_access.specs.Readings.{reading_of};
 ghost use Rattle.footprint.specs.Steps.{all_at_once};
 ghost use Rattle.footprint.specs.Units.{found_unit};
 ghost use Rattle.transaction.specs.Seen.{tree_of, StartsAt};

@@ -2,9 +2,9 @@
 ghost use Rattle.std.specs.Prelude.{◌≡◌, ◌++◌, true, Some, None, map as list_map, IfOk, OnOk, OnErr};
 ghost use Rattle.std.specs.FinMap as map;
 ghost use Rattle.unit_paths.specs.Slots.{is_slot};
-ghost use Rattle.footprint.specs.declared.key.Key.TheVariants.{Cell};
-ghost use Rattle.footprint.specs.Keys.{StandAtSlots};
-ghost use Rattle.footprint.specs.Placing.{all_wanted, cleared};
+ghost use Rattle.tree_access.specs.declared.key.Key.TheVariants.{Cell};
+ghost use Rattle.tree_access.specs.Keys.{StandAtSlots};
+ghost use Rattle.tree_access.specs.Placing.{all_wanted, cleared};
 ghost use Rattle.transaction.specs.Edits.{IsEdit, Places};
 
 use crate::edit::put_noted;

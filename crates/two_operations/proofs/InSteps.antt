@@ -1,7 +1,6 @@
 -- The outcome of two operations, one after the other, and of three.
-use Rattle.std.proofs.Common.{◌≡◌, Bool, true, false, cond, List, [], ◌++◌, map as list_map, All, refl, sym, ap, subst, ◌∙◌}
+use Rattle.std.proofs.Common.{◌≡◌, Bool, true, false, cond, List, [], ◌++◌, map as list_map, All, refl, sym, ap, subst, ◌∙◌, inl, inr}
 use Rattle.std.proofs.lemmas.Bool.{cases_Bool, false≢true}
-use Rattle.std.proofs.Common.{inl, inr}
 use Rattle.std.proofs.lemmas.List.{append_assoc, append-nil}
 use Rattle.unit_file.proofs.NoticeMaps.{joined-joined}
 use Rattle.link_tree.specs.declared.change.Change.{Change}
@@ -12,20 +11,20 @@ use Rattle.link_tree.specs.Trees.{Entries, after_changes}
 use Rattle.link_tree.proofs.Leads.{leads}
 use Rattle.footprint.specs.declared.answer.Answer.{Answer}
 use Rattle.footprint.specs.declared.answer.Answer.TheVariants.{Done, State, Name, Names, Refused}
-use Rattle.footprint.specs.declared.key.Key.{Key}
+use Rattle.tree_access.specs.declared.key.Key.{Key}
 use Rattle.two_operations.specs.declared.then.Then.{Then}
 use Rattle.footprint.specs.Inquiry.{Inquiry, over, giving, after}
 use Rattle.two_operations.specs.Laws.{ThenLeads, ThenAnswers, ThenInSteps}
 use Rattle.footprint.specs.Net.{net}
 use Rattle.footprint.specs.Operations.{Effect, AreChanges, OperationLaws, is_refused, is_question, outcome_of}
-use Rattle.footprint.specs.Readings.{in_order, observed, reading_of, keys_of}
+use Rattle.tree_access.specs.Readings.{in_order, observed, reading_of, keys_of}
 use Rattle.footprint.specs.Then.{answer_of_both, effect_of_both, outcome_of_both, continued, followed_by}
 use Rattle.two_operations.specs.Then.{then_meaning}
 use Rattle.footprint.proofs.ThenLaws.{refused_of_both, changes_between_are, both_at, sound_of}
 use Rattle.footprint.proofs.NetLaws.{net_between}
-use Rattle.footprint.proofs.KeySets.{in_order-both}
-use Rattle.footprint.proofs.Outcomes.{keys_of_reading, untouched_keys}
-use Rattle.footprint.proofs.Untouched.{agree_on_untouched}
+use Rattle.tree_access.proofs.KeySets.{in_order-both}
+use Rattle.tree_access.proofs.ReadingKeys.{keys_of_reading, untouched_keys}
+use Rattle.tree_access.proofs.Untouched.{agree_on_untouched}
 
 -- nothing follows a refusal
 continued_off : (q : Inquiry Effect) (e : Effect) → is_refused e.answer ≡ true → continued q e ≡ over e

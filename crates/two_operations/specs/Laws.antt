@@ -2,10 +2,10 @@
 use Rattle.std.specs.Prelude.{◌≡◌, false}
 use Rattle.link_tree.specs.Laws.{Leads}
 use Rattle.link_tree.specs.Trees.{Entries, after_changes}
-use Rattle.footprint.specs.Keys.{Untouched}
+use Rattle.tree_access.specs.Keys.{Untouched}
 use Rattle.footprint.specs.Inquiry.{Inquiry}
 use Rattle.footprint.specs.Operations.{Effect, is_refused, is_question, outcome_of}
-use Rattle.footprint.specs.Readings.{keys_of}
+use Rattle.tree_access.specs.Readings.{keys_of}
 use Rattle.footprint.specs.Then.{answer_of_both}
 use Rattle.two_operations.specs.declared.then.Then.{Then}
 use Rattle.two_operations.specs.Then.{then_meaning}

@@ -1,7 +1,7 @@
 -- Which rows must be undone so that a row can be.
 use Rattle.std.specs.Prelude.{◌≡◌, ◌<◌, ◌↔◌, ℕ, Bool, false, List, [], ◌∷◌, All, Option, Some, None}
 use Rattle.std.specs.List.{Contains, list_any}
-use Rattle.footprint.specs.declared.reading.Observation.{Observation}
+use Rattle.tree_access.specs.declared.reading.Observation.{Observation}
 use Rattle.history.specs.declared.row.Row.{Row}
 use Rattle.history.specs.declared.row.UndoRefusal.TheVariants as refusals
 use Rattle.history.specs.Rows.{row_at, meets}

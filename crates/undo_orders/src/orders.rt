@@ -1,7 +1,7 @@
 //! The rows that must be undone so that a row can be, from the last one to the first.
 ghost use Rattle.std.specs.Prelude.{◌≡◌, ◌≤◌, ◌&&◌, IfOk, IfErr, length, is_some};
 ghost use Rattle.std.specs.List.{list_any};
-ghost use Rattle.footprint.specs.Keys.{touches};
+ghost use Rattle.tree_access.specs.Keys.{touches};
 ghost use Rattle.history.specs.Rows.{row_at, meets, survivor};
 ghost use Rattle.undo_orders.specs.ToUndo.{IsSurvivor, AreToUndo, TellsWhy, IsToldBy, row_meets, some_meets};
 

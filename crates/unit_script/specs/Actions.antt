@@ -38,4 +38,14 @@ abbrev pub asks : Action → Bool
 asks (IsEnabled question) = true
 asks (GetDefault question) = true
 asks (Dependencies question) = true
-asks command = false
+asks (Enable enable) = false
+asks (Disable disable) = false
+asks (Reenable reenable) = false
+asks (Preset preset) = false
+asks (Mask mask) = false
+asks (Unmask unmask) = false
+asks (LinkUnits link) = false
+asks (AddTo add) = false
+asks (SetDefault set) = false
+asks (PlaceEntry place) = false
+asks (RemoveEntry remove) = false

@@ -11,10 +11,10 @@ use Rattle.footprint.specs.declared.answer.Answer.TheVariants.{Done, State, Name
 use Rattle.footprint.specs.declared.answer.StateWord.{StateWord}
 use Rattle.footprint.specs.declared.answer.StateWord.TheVariants as states
 use Rattle.unit_file.specs.Notices.{notice_lines}
-use Rattle.footprint.specs.declared.refusal.Refusal.{Refusal}
-use Rattle.footprint.specs.declared.refusal.Refusal.TheVariants.{NotFound, Masked, Dangling, BadType, NeedsInstance, NotASlot, Absent, Exists, IsAlias, TooMany, Clash}
-use Rattle.footprint.specs.declared.refusal.Subject.{Subject}
-use Rattle.footprint.specs.declared.refusal.Subject.TheVariants.{Unit, Path}
+use Rattle.tree_access.specs.declared.refusal.Refusal.{Refusal}
+use Rattle.tree_access.specs.declared.refusal.Refusal.TheVariants.{NotFound, Masked, Dangling, BadType, NeedsInstance, NotASlot, Absent, Exists, IsAlias, TooMany, Clash}
+use Rattle.tree_access.specs.declared.refusal.Subject.{Subject}
+use Rattle.tree_access.specs.declared.refusal.Subject.TheVariants.{Unit, Path}
 use Rattle.history.specs.declared.row.Request.{Request}
 use Rattle.history.specs.declared.row.Request.TheVariants.{Do, Undo, Redo}
 use Rattle.history.specs.declared.row.UndoRefusal.{UndoRefusal}
@@ -84,7 +84,12 @@ is_success states.Enabled = true
 is_success states.EnabledRuntime = true
 is_success states.Static = true
 is_success states.Indirect = true
-is_success state = false
+is_success states.NotFound = false
+is_success states.Masked = false
+is_success states.MaskedRuntime = false
+is_success states.Linked = false
+is_success states.LinkedRuntime = false
+is_success states.Disabled = false
 
 abbrev pub success_text : Bool → List ℕ
 success_text true = codes " yes"

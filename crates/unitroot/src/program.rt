@@ -3,7 +3,9 @@
 use crate::commands::{place_input, run_command, run_preset_all};
 use crate::scripts::run_script;
 use history::Operator;
-use root_histories::{Context, Failure, canonical_root, print_messages, recover_root, variable};
+use root_histories::{
+    Context, Failure, canonical_root, paths_of, print_messages, recover_root, variable,
+};
 use root_log::{show_log, show_row};
 use root_reports::path_for_input;
 use root_runs::login_operator;
@@ -111,8 +113,15 @@ fn run_on_root(cx: Context<'_>) -> Result<u8, Failure> {
     }
 }
 
+/// Refuses a bad path of `--with`, also if the command captures nothing.
+fn check_with(rt: &HostRuntime, asked: &Asked) -> Result<(), Failure> {
+    let _paths = paths_of(rt.alloc(), &asked.with)?;
+    Ok(())
+}
+
 /// Does what is asked for, and returns the status.
 pub(crate) fn run_asked(rt: &HostRuntime, asked: &Asked) -> Result<u8, Failure> {
+    check_with(rt, asked)?;
     let root = root_of(rt, asked)?;
     let root = root.as_str();
     if !asked.output.quiet && !asked.output.json {

@@ -1,13 +1,13 @@
 //! `keep`: a history begins.
 
 use disk::capture;
-use kept_roots::{HistoryDirectory, HistoryPlace, make_directory};
+use kept_roots::{HistoryDirectory, HistoryFile, HistoryPlace, make_directory};
 use link_tree::Tree;
 use real_roots::RealDisk;
 use root_histories::{
     Context, Failure, Kept, KeptRoot, Stop, Taken, after_nothing, captured_in, end, finish_before,
-    is_of_nothing, new_history, paths_of, patience_of, place_of, read_kept, rows_text, set_aside,
-    take_any, unless_of_text,
+    has_history, has_history_in_root, is_of_nothing, new_history, paths_of, patience_of, place_of,
+    read_kept, rows_text, set_aside, take_any, unless_of_text,
 };
 use std::alloc::{AllocError, Global};
 
@@ -38,24 +38,31 @@ fn note_lost(
     root.notes.say(line.as_str())
 }
 
-/// Finishes a run that was cut short. If the text of its history is at fault, its promise is
-/// withdrawn, since a new history begins with the root as it is.
-fn finish_or_withdraw(cx: Context<'_>, root: &mut KeptRoot<'_>) -> Result<(), Stop> {
+/// Finishes a run that was cut short. Returns whether it can't be finished, since its history is at
+/// fault.
+fn finish_or_leave(cx: Context<'_>, root: &mut KeptRoot<'_>) -> Result<bool, Stop> {
     match finish_before(cx, root) {
+        Ok(()) => Ok(false),
         Err(Stop::Failed(failure)) => {
             unless_of_text(failure)?;
-            Ok(withdraw(root)?)
+            Ok(true)
         }
-        finished => finished,
+        Err(stop) => Err(stop),
     }
 }
 
+/// Says that a run which was cut short is not finished: a new history begins with the root as it is.
+fn warn_unfinished(root: &mut KeptRoot<'_>) -> Result<(), AllocError> {
+    let line = "a run was promised whose history can't be read: it is not finished";
+    root.notes.warn(line)
+}
+
+/// Withdraws the promise of a run that can't be finished.
 fn withdraw(root: &mut KeptRoot<'_>) -> Result<(), Failure> {
     let directory = root.disk.directory();
     directory.withdraw()?;
     directory.sync()?;
-    let line = "a run was promised whose history can't be read: it is not finished";
-    Ok(root.notes.warn(line)?)
+    Ok(warn_unfinished(root)?)
 }
 
 /// How many rows the history so far has; `None` if its text is at fault.
@@ -84,25 +91,55 @@ fn text_of_another(cx: Context<'_>, root: &mut KeptRoot<'_>) -> Result<Vec<u8>, 
     }
 }
 
-/// Lets another history begin with the root as it is. The one so far becomes `history.N`, and N is
-/// returned.
-fn begin_another(cx: Context<'_>, root: &mut KeptRoot<'_>) -> Result<u32, Stop> {
-    let text = text_of_another(cx, root)?;
-    Ok(set_aside(root, &text)?)
+/// Begins a history where only the promise of a run is left. Its text takes the place of the promise
+/// first, so that one of the two files is always there.
+fn begin_for_promise(root: &mut KeptRoot<'_>, text: &[u8]) -> Result<(), Failure> {
+    warn_unfinished(root)?;
+    let directory = root.disk.directory();
+    directory.promise(text)?;
+    directory.sync()?;
+    directory.commit()?;
+    match directory.sync() {
+        Ok(()) => Ok(()),
+        Err(trouble) => Err(Failure::Unsynced(trouble)),
+    }
+}
+
+/// Lets another history begin with this text, and withdraws the promise of a run if one is left. The
+/// history so far becomes `history.N`, and N is returned; `None` if it is gone.
+fn replace(
+    root: &mut KeptRoot<'_>,
+    text: &[u8],
+    is_promised: bool,
+) -> Result<Option<u32>, Failure> {
+    if !root.disk.directory().has(HistoryFile::Current)? {
+        begin_for_promise(root, text)?;
+        return Ok(None);
+    }
+    if is_promised {
+        withdraw(root)?;
+    }
+    Ok(Some(set_aside(root, text)?))
 }
 
 /// Begins again on a root with a history.
 fn keep_anew(cx: Context<'_>, root: &mut KeptRoot<'_>) -> Result<u8, Stop> {
-    finish_or_withdraw(cx, root)?;
+    let is_promised = finish_or_leave(cx, root)?;
     let rows = rows_so_far(cx, root)?;
-    let number = begin_another(cx, root)?;
-    note_lost(cx, root, number, rows)?;
+    let text = text_of_another(cx, root)?;
+    if let Some(number) = replace(root, &text, is_promised)? {
+        note_lost(cx, root, number, rows)?;
+    }
     note_place(cx, root)?;
     Ok(0)
 }
 
-/// Begins a history in a directory that was made for it.
+/// Begins a history in a directory that was made for it, unless another run has begun one there
+/// since this one looked.
 fn begin_in(cx: Context<'_>, root: &mut KeptRoot<'_>, text: &[u8]) -> Result<u8, Failure> {
+    if has_history(root.disk.directory())? {
+        return Err(Failure::HasHistory);
+    }
     root.disk.directory().begin(text)?;
     note_place(cx, root)?;
     Ok(0)
@@ -147,10 +184,25 @@ fn made_directory<'a>(
     }
 }
 
+/// Refuses a second history of a root: one in the root, and one that `--history` names.
+fn refuse_second(cx: Context<'_>, disk: &mut RealDisk<'_>) -> Result<(), Failure> {
+    if cx.asked.history.is_some() && has_history_in_root(cx.rt, disk) {
+        Err(Failure::HasHistoryInRoot)
+    } else {
+        Ok(())
+    }
+}
+
+/// The text of the first history of a root, which begins with the root as it is.
+fn first_text(cx: Context<'_>, disk: &mut RealDisk<'_>) -> Result<Vec<u8>, Failure> {
+    refuse_second(cx, disk)?;
+    text_of_today(cx, disk)
+}
+
 /// Begins the first history of a root.
 fn keep_first(cx: Context<'_>, disk: RealDisk<'_>, place: &HistoryPlace) -> Result<u8, Failure> {
     let mut disk = disk;
-    let text = text_of_today(cx, &mut disk)?;
+    let text = first_text(cx, &mut disk)?;
     match made_directory(cx, &mut disk, place) {
         Ok(directory) => begin_first(cx, KeptRoot::new(cx, disk, directory), &text),
         Err(failure) => Err(after_nothing(&mut disk, failure)),
@@ -177,8 +229,8 @@ fn take_back(root: &mut KeptRoot<'_>, failure: Failure) -> Failure {
 
 /// Begins a history, or with `--anew` another one.
 ///
-/// Errors: `HasHistory` if there is one, without `--anew`; the root can't be captured; the system's
-/// own.
+/// Errors: `HasHistory` if there is one, without `--anew`; `HasHistoryInRoot`; `ManyBytes`; the root
+/// can't be captured; the system's own.
 pub fn keep(cx: Context<'_>, anew: bool) -> Result<u8, Failure> {
     let place = place_of(cx)?;
     match take_any(cx, &place)? {

@@ -29,6 +29,12 @@ fn are_same_at(one: &Tree, other: &Tree, path: &TreePath) -> bool {
     }
 }
 
+/// Whether a path has its row already: a link that leads nowhere is a unit's path, and one of its
+/// links too.
+fn has_maker(makers: &[MadeBy], path: &TreePath) -> bool {
+    makers.iter().any(|made| made.path.text() == path.text())
+}
+
 /// Adds the row that made what is at a path of the root, if one did. What others changed since the
 /// last run has no row yet.
 fn push_maker(
@@ -37,7 +43,7 @@ fn push_maker(
     tree: &Tree,
     path: &TreePath,
 ) -> Result<(), AllocError> {
-    if !are_same_at(history.tree(), tree, path) {
+    if has_maker(makers, path) || !are_same_at(history.tree(), tree, path) {
         return Ok(());
     }
     let Some(row) = maker_of(history, path) else {

@@ -1,5 +1,6 @@
 use Rattle.std.proofs.Common.{subst, ap, inl, ◌∙◌}
 use Rattle.disk.specs.Applied.{Applies, AppliesAs, failures_after_apply}
+use Rattle.disk.proofs.Ways.{were_seen}
 use Rattle.disk.proofs.applying.apply.Goals as goal
 
 pub returns-in-Ok-clause-applies : goal.returns-in-Ok-clause-applies
@@ -18,3 +19,6 @@ returns-in-Err-clause-applies g c = (c.in-Err.ensures.kept, c.in-Err.ensures.sto
 
 pub returns-in-Err-clause-done : goal.returns-in-Err-clause-done
 returns-in-Err-clause-done g c = inl c.in-Err.ensures.done
+
+pub returns-in-Ok-clause-looked : goal.returns-in-Ok-clause-looked
+returns-in-Ok-clause-looked g c = were_seen (g.D.Disk.holds c.args.disk.now) c.make_or_reverse.result c.args.steps.now c.in-Ok.ensures.looked

@@ -1,5 +1,5 @@
 use Rattle.std.proofs.Common.{◌<◌, ◌+◌, ◌-◌, List, take, drop, sym, ap, ◌∙◌, arith}
-use Rattle.footprint.specs.declared.reading.Observation.{Observation}
+use Rattle.tree_access.specs.declared.reading.Observation.{Observation}
 use Rattle.link_tree.specs.declared.change.Change.{Change}
 use Rattle.history.specs.Rows.{undoer_before, first_flipped, first_met}
 use Rattle.history.proofs.Kept.{row_at_read}

@@ -1,10 +1,10 @@
 use Rattle.std.proofs.Common.{ℕ, List, Ok, Err, map as list_map, sym, subst}
 use Rattle.unit_paths.specs.declared.place.Scope.{Scope}
 use Rattle.link_tree.proofs.Stops.{returned}
-use Rattle.footprint.specs.declared.key.Key.TheVariants.{Marked}
+use Rattle.tree_access.specs.declared.key.Key.TheVariants.{Marked}
 use Rattle.footprint.specs.Commands.{telling}
 use Rattle.footprint.specs.Inquiry.{Inquiry, entries_of_all, giving}
-use Rattle.footprint.specs.Placing.{Wanted, cleared}
+use Rattle.tree_access.specs.Placing.{Wanted, cleared}
 use Rattle.footprint.specs.Steps.{all_at_once}
 use Rattle.transaction.specs.Runs.{Runs, asking, doing}
 use Rattle.install_commands.specs.Disable.{but_at}

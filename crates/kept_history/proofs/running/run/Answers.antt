@@ -1,5 +1,6 @@
 use Rattle.std.proofs.Common.{ap, subst, ◌∙◌}
 use Rattle.kept_history.specs.Doing.{Runs, Leaves, failures_after_run}
+use Rattle.kept_history.proofs.Seen.{were_seen}
 use Rattle.kept_history.proofs.running.run.Goals as goal
 
 pub returns-in-Ok-clause-runs : goal.returns-in-Ok-clause-runs
@@ -15,3 +16,6 @@ returns-in-Ok-clause-counted g c = c.promise_and_make.ensures.counted ∙ ap (λ
 
 pub returns-in-Err-clause-leaves : goal.returns-in-Err-clause-leaves
 returns-in-Err-clause-leaves g c = (c.in-Err.ensures.kept, c.in-Err.ensures.stops)
+
+pub returns-in-Ok-clause-looked : goal.returns-in-Ok-clause-looked
+returns-in-Ok-clause-looked g c = were_seen (g.D.Disk.holds c.args.disk.now) c.promise_and_make.result c.args.steps.now c.in-Ok.ensures.looked

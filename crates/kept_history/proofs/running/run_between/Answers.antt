@@ -2,7 +2,7 @@ use Rattle.std.proofs.Common.{◌≡◌, Err, sym, refl, subst, ◌∙◌}
 use Rattle.tree_steps.specs.Steps.{steps_between}
 use Rattle.disk.specs.declared.error.DiskError.TheVariants.{OutOfMemory}
 use Rattle.kept_history.specs.declared.running.RunError.TheVariants.{NotPromised}
-use Rattle.kept_history.specs.Doing.{Runs, Leaves, failures_after_run}
+use Rattle.kept_history.specs.Doing.{Runs, Leaves, WereSeen, failures_after_run}
 use Rattle.kept_history.proofs.Fronts.{returned}
 use Rattle.kept_history.proofs.Since.{never_half_since}
 use Rattle.kept_history.proofs.running.run_between.Goals as goal
@@ -38,3 +38,12 @@ returns-clause-runs g c =
 pub returns-clause-leaves : goal.returns-clause-leaves
 returns-clause-leaves g c =
     subst (λ steps. Leaves (g.D.Disk.holds c.args.disk.now) (g.D.Disk.holds c.run.new.disk) c.run.result steps) (c.deref.ensures.value ∙ c.in_ok-steps.ensures.steps) c.run.ensures.leaves
+
+pub returns-in_err-steps-clause-looked : goal.returns-in_err-steps-clause-looked
+returns-in_err-steps-clause-looked g c =
+    subst (λ r. WereSeen (g.D.Disk.holds c.args.disk.now) r (steps_between c.args.old.now c.args.new.now))
+    (sym (returned c.from_residual.result (NotPromised OutOfMemory) c.from_residual.ensures)) tt
+
+pub returns-clause-looked : goal.returns-clause-looked
+returns-clause-looked g c =
+    subst (λ steps. WereSeen (g.D.Disk.holds c.args.disk.now) c.run.result steps) (c.deref.ensures.value ∙ c.in_ok-steps.ensures.steps) c.run.ensures.looked

@@ -1,5 +1,5 @@
 use Rattle.std.proofs.Common.{◌≡◌, sym, subst}
-use Rattle.footprint.specs.Keys.{Agree}
+use Rattle.tree_access.specs.Keys.{Agree}
 use Rattle.disk.specs.Partials.{IsIn, AreCaptured, found_in}
 use Rattle.disk.specs.declared.partial.Area.TheVariants.{Units, Presets}
 use Rattle.partial_runs.specs.Captures.{AreAllCaptured, links}

@@ -1,7 +1,7 @@
 use Rattle.std.proofs.Common.{◌∙◌, Ok, Err, refl, subst, sym, take}
 use Rattle.link_tree.proofs.Stops.{returned}
-use Rattle.footprint.specs.declared.reading.Observation.{Observation}
-use Rattle.footprint.specs.Keys.{Agree}
+use Rattle.tree_access.specs.declared.reading.Observation.{Observation}
+use Rattle.tree_access.specs.Keys.{Agree}
 use Rattle.partial_runs.specs.Captures.{AgreesOnReading, Captures}
 use Rattle.partial_runs.proofs.Captured.{captures_last}
 use Rattle.partial_runs.proofs.OnKeys.{agree_stays}

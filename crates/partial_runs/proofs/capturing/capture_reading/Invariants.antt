@@ -1,6 +1,6 @@
 use Rattle.std.proofs.Common.{◌≡◌, Ok, take}
-use Rattle.footprint.specs.declared.reading.Observation.{Observation}
-use Rattle.footprint.specs.Keys.{Agree}
+use Rattle.tree_access.specs.declared.reading.Observation.{Observation}
+use Rattle.tree_access.specs.Keys.{Agree}
 use Rattle.partial_runs.specs.Captures.{Captures}
 use Rattle.partial_runs.proofs.Turns.{OfEach}
 use Rattle.partial_runs.proofs.capturing.capture_reading.Given as goal

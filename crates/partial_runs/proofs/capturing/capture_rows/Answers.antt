@@ -1,7 +1,7 @@
 use Rattle.std.proofs.Common.{◌∙◌, Ok, Err, refl, subst, sym, take}
 use Rattle.link_tree.proofs.Stops.{returned}
-use Rattle.footprint.specs.Keys.{AgreeOn}
-use Rattle.footprint.specs.Readings.{keys_of}
+use Rattle.tree_access.specs.Keys.{AgreeOn}
+use Rattle.tree_access.specs.Readings.{keys_of}
 use Rattle.history.specs.declared.row.Row.{Row}
 use Rattle.disk.specs.Partials.{found_in}
 use Rattle.partial_trees.specs.Parts.{AgreeOnRows}

@@ -1,6 +1,6 @@
 use Rattle.std.proofs.Common.{◌≡◌, Ok, take}
-use Rattle.footprint.specs.Keys.{AgreeOn}
-use Rattle.footprint.specs.Readings.{keys_of}
+use Rattle.tree_access.specs.Keys.{AgreeOn}
+use Rattle.tree_access.specs.Readings.{keys_of}
 use Rattle.history.specs.declared.row.Row.{Row}
 use Rattle.partial_runs.specs.Captures.{Captures}
 use Rattle.partial_runs.proofs.Turns.{OfEach}

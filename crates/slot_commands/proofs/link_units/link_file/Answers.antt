@@ -5,9 +5,9 @@ use Rattle.unit_paths.specs.Kinds.{is_unit_slot}
 use Rattle.unit_paths.specs.Slots.{unit_slot, slot_of}
 use Rattle.link_tree.specs.declared.entry.Entry.{Entry}
 use Rattle.link_tree.proofs.Stops.{returned}
-use Rattle.footprint.specs.declared.refusal.Refusal.TheVariants.{BadType}
-use Rattle.footprint.specs.declared.refusal.Subject.TheVariants.{Path}
-use Rattle.footprint.specs.Rules.{link_at}
+use Rattle.tree_access.specs.declared.refusal.Refusal.TheVariants.{BadType}
+use Rattle.tree_access.specs.declared.refusal.Subject.TheVariants.{Path}
+use Rattle.tree_access.specs.Rules.{link_at}
 use Rattle.footprint.specs.Steps.{nothing, refuse, ruled}
 use Rattle.transaction.specs.Runs.{Runs, Gives, taking}
 use Rattle.slot_commands.specs.LinkUnits.{link_file}

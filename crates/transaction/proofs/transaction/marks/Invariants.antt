@@ -1,5 +1,5 @@
 use Rattle.std.proofs.Common.{◌≡◌, ◌++◌, drop, map as list_map}
-use Rattle.footprint.specs.declared.key.Key.TheVariants.{Marked}
+use Rattle.tree_access.specs.declared.key.Key.TheVariants.{Marked}
 use Rattle.transaction.proofs.transaction.marks.Given as goal
 
 abbrev pub invariant-loop-name : goal.invariant-loop-name

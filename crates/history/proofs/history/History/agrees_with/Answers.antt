@@ -1,8 +1,8 @@
 use Rattle.std.proofs.Common.{List, refl, subst}
 use Rattle.std.proofs.lemmas.Bool.{false≢true}
 use Rattle.link_tree.specs.Trees.{Entries}
-use Rattle.footprint.specs.declared.reading.Observation.{Observation}
-use Rattle.footprint.specs.Readings.{HoldsIn, IsFirstOther}
+use Rattle.tree_access.specs.declared.reading.Observation.{Observation}
+use Rattle.tree_access.specs.Readings.{HoldsIn, IsFirstOther}
 use Rattle.history.specs.Rows.{replay}
 use Rattle.history.proofs.Agreed.{other_off}
 use Rattle.history.proofs.history.History.agrees_with.Goals as goal

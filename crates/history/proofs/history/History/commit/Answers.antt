@@ -1,7 +1,7 @@
 use Rattle.std.proofs.Common.{◌≡◌, List, length, subst}
 use Rattle.link_tree.specs.Trees.{Entries}
-use Rattle.footprint.specs.declared.reading.Observation.{Observation}
-use Rattle.footprint.specs.Readings.{IsFirstOther}
+use Rattle.tree_access.specs.declared.reading.Observation.{Observation}
+use Rattle.tree_access.specs.Readings.{IsFirstOther}
 use Rattle.history.specs.Rows.{replay}
 use Rattle.history.proofs.Agreed.{stale_not_full}
 use Rattle.history.proofs.history.History.commit.Goals as goal

@@ -2,9 +2,9 @@ use Rattle.std.proofs.Common.{ℕ, Bool, true, false, if◌then◌else◌, List,
 use Rattle.unit_file.specs.Listed.{is_template_name}
 use Rattle.link_tree.specs.declared.entry.Entry.{Entry}
 use Rattle.link_tree.proofs.Stops.{returned}
-use Rattle.footprint.specs.declared.refusal.Refusal.TheVariants.{BadType, NeedsInstance}
-use Rattle.footprint.specs.declared.refusal.Subject.TheVariants.{Unit as OfUnit}
-use Rattle.footprint.specs.Rules.{relink_at}
+use Rattle.tree_access.specs.declared.refusal.Refusal.TheVariants.{BadType, NeedsInstance}
+use Rattle.tree_access.specs.declared.refusal.Subject.TheVariants.{Unit as OfUnit}
+use Rattle.tree_access.specs.Rules.{relink_at}
 use Rattle.footprint.specs.Steps.{refuse, ruled}
 use Rattle.transaction.specs.Runs.{Runs, Gives, taking}
 use Rattle.slot_commands.specs.SetDefault.{default_slot, default_file}

@@ -1,8 +1,8 @@
 use Rattle.std.proofs.Common.{◌≡◌, false, All, sym, subst}
 use Rattle.link_tree.specs.Trees.{Entries}
-use Rattle.footprint.specs.declared.key.Key.{Key}
-use Rattle.footprint.specs.Keys.{is_cell, StandAtSlots}
-use Rattle.footprint.proofs.Parts.{any_stand_at_slots}
+use Rattle.tree_access.specs.declared.key.Key.{Key}
+use Rattle.tree_access.specs.Keys.{is_cell, StandAtSlots}
+use Rattle.tree_access.proofs.Parts.{any_stand_at_slots}
 use Rattle.transaction.proofs.Marks.{none_is_cell}
 use Rattle.transaction.proofs.transaction.Transaction.links_of_all.Goals as goal
 

@@ -3,7 +3,7 @@ use Rattle.std.specs.Prelude.{IsPermutation}
 use Rattle.std.specs.FinMap as map
 use Rattle.std.proofs.lemmas.List.Elements.{All-head, All-tail}
 use Rattle.unit_paths.specs.Slots.{is_slot}
-use Rattle.footprint.proofs.Those.{Standing}
+use Rattle.tree_access.proofs.Those.{Standing}
 use Rattle.transaction.proofs.Cleared.{with_none, all_cleared, all_at_slots}
 use Rattle.transaction.proofs.wanted.WantedLinks.cleared.Goals as goal
 

@@ -1,7 +1,7 @@
 use Rattle.std.proofs.Common.{sym, ap, ◌∙◌, subst}
 use Rattle.std.specs.FinMap as map
 use Rattle.link_tree.proofs.Maps.{entries_again}
-use Rattle.footprint.specs.Placing.{wanted_at}
+use Rattle.tree_access.specs.Placing.{wanted_at}
 use Rattle.footprint.proofs.Wishes.{Link}
 use Rattle.transaction.specs.Edits.{AreAtSlots}
 use Rattle.transaction.proofs.Edited.{one_more}

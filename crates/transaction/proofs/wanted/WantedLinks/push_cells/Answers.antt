@@ -2,7 +2,7 @@ use Rattle.std.proofs.Common.{◌++◌, sym, ap, ◌∙◌, map as list_map}
 use Rattle.std.specs.FinMap as map
 use Rattle.std.proofs.lemmas.List.{append-nil}
 use Rattle.link_tree.proofs.Maps.{entries_again}
-use Rattle.footprint.specs.declared.key.Key.TheVariants.{Cell}
+use Rattle.tree_access.specs.declared.key.Key.TheVariants.{Cell}
 use Rattle.transaction.proofs.wanted.WantedLinks.push_cells.Goals as goal
 
 pub returns : goal.returns

@@ -1,5 +1,5 @@
 use Rattle.std.proofs.Common.{◌≡◌, ◌++◌, map}
-use Rattle.footprint.specs.declared.key.Key.TheVariants.{Cell}
+use Rattle.tree_access.specs.declared.key.Key.TheVariants.{Cell}
 use Rattle.transaction.proofs.wanted.WantedLinks.push_cells.Given as goal
 
 abbrev pub invariant-loop-slot : goal.invariant-loop-slot

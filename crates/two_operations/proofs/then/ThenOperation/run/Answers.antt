@@ -4,9 +4,9 @@ use Rattle.unit_paths.specs.Slots.{is_slot}
 use Rattle.link_tree.specs.Trees.{after_changes}
 use Rattle.footprint.specs.declared.outcome.Outcome.{Outcome}
 use Rattle.footprint.specs.Operations.{outcome_of, is_refused}
-use Rattle.footprint.specs.Merging.{IsReading}
+use Rattle.tree_access.specs.Merging.{IsReading}
 use Rattle.footprint.specs.Then.{outcome_of_both}
-use Rattle.footprint.proofs.Merged.{is_reading}
+use Rattle.tree_access.proofs.Merged.{is_reading}
 use Rattle.two_operations.proofs.InSteps.{then_outcome, then_at_slots}
 use Rattle.two_operations.proofs.then.ThenOperation.run.Goals as goal
 

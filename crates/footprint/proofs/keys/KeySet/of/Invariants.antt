@@ -1,5 +1,0 @@
-use Rattle.footprint.proofs.KeySets.{AreGathered}
-use Rattle.footprint.proofs.keys.KeySet.of.Given as goal
-
-abbrev pub invariant-loop-key : goal.invariant-loop-key
-invariant-loop-key l = AreGathered l.these l.key-iterator l.fn.keys

@@ -1,7 +1,0 @@
-use Rattle.std.proofs.Common.{◌≡◌, ◌++◌, map, All}
-use Rattle.footprint.specs.Readings.{observed}
-use Rattle.footprint.specs.Seeing.{SeesTheSame}
-use Rattle.footprint.proofs.keys.KeySet.read.Given as goal
-
-abbrev pub invariant-loop-key : goal.invariant-loop-key
-invariant-loop-key l = (l.reading ++ map (observed l.tree) l.key-iterator ≡ map (observed l.tree) l.initial.key-iterator) × All (SeesTheSame l.gathered l.tree) l.key-iterator

@@ -1,7 +1,0 @@
-use Rattle.std.proofs.Common.{◌≡◌, drop}
-use Rattle.footprint.specs.Keys.{any_selects}
-use Rattle.footprint.specs.Seeing.{taken_all}
-use Rattle.footprint.proofs.keys.Keys.take_all.Given as goal
-
-abbrev pub invariant-loop-path : goal.invariant-loop-path
-invariant-loop-path l = taken_all (any_selects l.self) l.tree (drop l.path-index l.paths) l.found ≡ taken_all (any_selects l.self) l.tree l.paths l.fn.found

@@ -1,0 +1,13 @@
+pub mod OrderLaws
+pub mod KeyLaws
+pub mod PlacingLaws
+pub mod WantedLaws
+pub mod KeySets
+pub mod ReadingKeys
+pub mod Those
+pub mod Parts
+pub mod LookedUp
+pub mod Gathered
+pub mod Agreed
+pub mod Untouched
+pub mod Merged
