@@ -78,6 +78,15 @@ def status_rows(unitroot, root):
                    'unit': 'cron.service'}], 'the objects have row, operator and path', made)
 
 
+def dangling_link(unitroot, root):
+    """A link that leads nowhere is a unit's path, and one of its links: its row is named once."""
+    path = ETC + '/lost.service'
+    unitroot.on(root, 'place', path, 'link', '/nowhere/lost.service', env=at(TUESDAY))
+    ended = unitroot.on(root, 'status', 'lost', '--json')
+    made = [it for it in map(json.loads, ended[1].splitlines()) if 'made_by' in it]
+    hold([it['path'] for it in made] == [path], 'a link that leads nowhere has one row', ended)
+
+
 def status_without_rows(unitroot, root):
     """What others changed since has no row yet, and a history that can't be read names none."""
     os.unlink(root + SSH)
@@ -122,6 +131,7 @@ def later(unitroot, unitadm, room):
         pass
     status_rows(unitroot, root)
     other_user(unitroot, root)
+    dangling_link(unitroot, root)
     status_without_rows(unitroot, root)
     root = small(room, 'later')
     for _ in tell(unitroot, root, ROWS):

@@ -4,6 +4,7 @@ changed.
 A case has the message as it is on the page, what makes the root odd, the words of a run, and the
 path in what is printed.
 """
+import concurrent.futures
 import fcntl
 import os
 import re
@@ -124,6 +125,73 @@ def cases(other):
     ]
 
 
+def of_another_user(unitroot, room, base):
+    """What only root can try: the history of root, and a run of another user."""
+    title = "message: DIR: belongs to another user: one that can't be opened"
+    root = copied(base, '%s/of-root' % room)
+    if os.geteuid():
+        skipped(title, 'not root')
+        return
+    ended = unitroot.on(root, *MASK, under=('setpriv', '--reuid=65534', '--clear-groups'))
+    said = 'unitroot: %s: belongs to another user than the one who runs unitroot\n' % HOME
+    hold(ended == (1, '', said), title, ended)
+
+
+def of_an_unmapped_user(unitroot, room):
+    """In a user namespace a file can't be given back to a user who has no number there."""
+    title = 'a file of a user without a number here is replaced'
+    root, unit = small(room, 'unmapped'), ETC + '/x.service'
+    with open(root + unit, 'w') as it:
+        it.write('[Unit]\n')
+    if os.geteuid() or os.system('unshare --user --map-root-user true 2>/dev/null'):
+        skipped(title, 'no user namespace')
+        return
+    inventory = unitroot.on(root, 'capture')[1].replace(unit + '\n[Unit]', unit + '\n[unit]')
+    os.chown(root + unit, 12345, 12345)
+    ended = unitroot.on(root, 'apply', given=inventory, under=('unshare', '--user',
+                                                              '--map-root-user'))
+    with open(root + unit) as it:
+        hold(ended[0] == 0 and it.read() == '[unit]\n' and os.stat(root + unit).st_uid == 0,
+             title, ended)
+
+
+def of_a_finished_run(unitroot, room, base, tracer):
+    """Modes are kept for the run that replaces a file, and not for the next one of the process."""
+    unit = ETC + '/x.service'
+
+    def readied(name):
+        root = copied(base, '%s/%s' % (room, name))
+        unitroot.on(root, 'place', unit, 'file', '[Unit]\\n', env=at(TUESDAY))
+        os.chmod(root + unit, 0o600)
+        return root
+
+    root = readied('finished')
+    calls = unitroot.disturbed(tracer, readied('finished-first'), 0, 'kill', 'remove', unit)[1]
+    number = [int(call[0]) for call in calls if call[1] == 'unlink' and call[4] == 'x.service'][0]
+    unitroot.disturbed(tracer, root, number, 'kill', 'remove', unit)
+    hold(os.path.lexists(root + PROMISE) and os.path.lexists(root + unit),
+         'a run that removes a file is killed before it does')
+    ended = unitroot.on(root, 'place', unit, 'file', '[Unit]\\n#')
+    mode = oct(os.stat(root + unit).st_mode & 0o777)
+    hold(ended[0] == 0 and mode == '0o644',
+         'the mode of a file that a finished run removed is not that of a new one', (mode, ended))
+
+
+def of_two_begins(unitroot, room):
+    """Two runs that begin the history of two roots in one directory, side by side."""
+    both, kept = [small(room, 'begin-%d' % number) for number in (1, 2)], '%s/begun' % room
+    words = ('keep', '--history=%s' % kept)
+    with concurrent.futures.ThreadPoolExecutor(2) as pool:
+        for _ in range(20):
+            ended = list(pool.map(lambda root: unitroot.on(root, *words), both))
+            winner = [root for root, (status, *_) in zip(both, ended) if status == 0]
+            if len(winner) != 1 or b'root=%s ' % winner[0].encode() not in text_of(kept):
+                hold(False, 'of two runs that begin a history in one directory, one does', ended)
+                return
+            rid_of(kept)
+    hold(True, 'of two runs that begin a history in one directory, one does')
+
+
 def owners(other):
     return [('DIR: belongs to another user than the one who runs unitroot', 'the second user',
              lambda root: os.chown(root + HOME, 1, 1), MASK,
@@ -181,7 +249,12 @@ def messages(unitroot, unitadm, room, is_slow):
     of_times(unitroot, room)
     of_modes(unitroot, room)
     of_two_roots(unitroot, room)
+    of_two_begins(unitroot, room)
+    of_another_user(unitroot, room, base)
+    of_an_unmapped_user(unitroot, room)
+    of_a_finished_run(unitroot, room, base, tracer_in(room))
     of_a_disk(unitroot, room, base)
+    of_a_reversed_run(unitroot, room, base, tracer_in(room))
     of_a_mounted_directory(unitroot, copied(base, '%s/mounted' % room))
     of_an_odd_entry(unitroot, copied(base, '%s/odd' % room))
     if not is_slow:
@@ -216,6 +289,8 @@ def of_promises(unitroot, room, base):
             'message: a run is promised, but its history is gone: without history')
     of_a_lost_history(unitroot, copied(gone, '%s/lost' % room), tracer)
     of_a_damaged_promise(unitroot, copied(root, '%s/damaged' % room))
+    of_another_promise(unitroot, base, tracer)
+    of_an_unreadable_promise(unitroot, copied(root, '%s/unreadable' % room))
     applied = copied(root, '%s/applied' % room)
     ended = unitroot.on(applied, 'apply', given=unitroot.on(applied, 'capture')[1])
     hold(ended[0] == 0 and 'finished a run of ' in ended[2]
@@ -241,7 +316,7 @@ def of_a_lost_history(unitroot, root, tracer):
              'keep --anew is killed before its call %d, and made again' % number, (left, ended))
         rid_of(killed)
     ended = unitroot.on(root, 'keep', '--anew')
-    said = "unitroot: a run was promised whose history can't be read: it is not finished\n"
+    said = "unitroot: a run was promised that can't be finished: it was given up\n"
     hold(ended[0] == 0 and said in ended[2] and not os.path.lexists(root + PROMISE)
          and os.path.isfile(root + HISTORY) and not os.path.lexists(root + HISTORY + '.1'),
          'keep --anew begins a history if the one so far is gone', ended)
@@ -254,10 +329,64 @@ def of_a_damaged_promise(unitroot, root):
     text = text_of(root + HOME)[:-3]
     write_text(root + HOME, text)
     ended = unitroot.on(root, 'keep', '--anew')
-    said = "unitroot: a run was promised whose history can't be read: it is not finished\n"
+    said = "unitroot: a run was promised that can't be finished: it was given up\n"
     hold(ended[0] == 0 and said in ended[2] and not os.path.lexists(root + PROMISE)
          and text_of(root + HOME, 'history.1') == text,
          'keep --anew withdraws a promise whose history was damaged', ended)
+
+
+def promised_after(unitroot, tracer, base, name, *masks):
+    """A root on which these units were masked, and then a run was killed after it was promised."""
+    roots = [copied(base, '%s-%s' % (base, it)) for it in (name, name + '-first')]
+    for root in roots:
+        for unit in masks:
+            unitroot.on(root, 'mask', unit, env=at(TUESDAY))
+    calls = unitroot.disturbed(tracer, roots[1], 0, 'kill', 'mask', 'ssh')[1]
+    number = [int(call[0]) for call in calls if call[1] == 'symlink'
+              and call[4] == 'ssh.service'][0]
+    unitroot.disturbed(tracer, roots[0], number, 'kill', 'mask', 'ssh')
+    return roots[0]
+
+
+def of_another_promise(unitroot, base, tracer):
+    """A promised run next to a history that was brought back, with fewer runs, as many, or more."""
+    said = ("unitroot: history.next doesn't go on where history ends: remove it, or rename it to "
+            'history\n')
+    for promised, brought in ((('y.service',), 'a'), ((), 'a'), ((), 'abc')):
+        name = 'another-%d-%d' % (len(promised), len(brought))
+        root = promised_after(unitroot, tracer, base, name, *promised)
+        other = copied(base, '%s-%s-other' % (base, name))
+        for unit in brought:
+            unitroot.on(other, 'mask', '%s.service' % unit, env=at(TUESDAY))
+        write_text(root + HOME, text_of(other + HOME))
+        before, anew, next_one = whole(root), copied(root, root + '-anew'), copied(root,
+                                                                                  root + '-next')
+        for words in (MASK, ('recover',)):
+            refused(unitroot.on(root, *words), 1, said, root, before,
+                    "message: history.next doesn't go on where history ends: %s, %s"
+                    % (name, words[0]))
+        ended = unitroot.on(anew, 'keep', '--anew')
+        hold(ended[0] == 0 and "that can't be finished: it was given up\n" in ended[2]
+             and not os.path.lexists(anew + PROMISE)
+             and text_of(anew + HOME, 'history.1') == text_of(root + HOME),
+             'keep --anew withdraws a promise that does not go on where the history ends', ended)
+        os.rename(next_one + PROMISE, next_one + HISTORY)
+        os.unlink(root + PROMISE)
+        for one in (root, next_one):
+            ended = unitroot.on(one, *MASK)
+            hold(ended[0] == 0, 'with one of the two histories a run goes on: %s' % name, ended)
+
+
+def of_an_unreadable_promise(unitroot, root):
+    """A promised run whose own text others have cut."""
+    with open(root + PROMISE, 'rb+') as it:
+        it.truncate(os.path.getsize(root + PROMISE) - 3)
+    before = whole(root)
+    said = ("unitroot: history.next, with the run that is promised, can't be read\n"
+            'unitroot: history: line ')
+    ended = unitroot.on(root, 'recover')
+    refused(ended, 1, said, root, before, 'a damaged history.next is named')
+    hold(ended[2].startswith(said), 'a damaged history.next is named first', ended)
 
 
 def of_others_meanwhile(unitroot, room, base, tracer):
@@ -401,6 +530,7 @@ def of_two_roots(unitroot, room):
          '--adopt takes a history over', ended)
     moved = copied(one, '%s/moved' % room)
     unitroot.on(moved, 'keep')
+    of_two_histories(unitroot, moved, there, kept)
     again = copied(moved, '%s/again' % room)
     unitroot.on(moved, 'mask', 'ssh')
     ended = unitroot.on(again, 'mask', 'ssh')
@@ -415,6 +545,61 @@ def of_two_roots(unitroot, room):
     ended = unitroot.on(again, 'forget')
     hold(ended == (0, '', '') and os.listdir(again + HOME) == ['notes'],
          'forget leaves a directory in which others have a file', ended)
+
+
+def of_two_histories(unitroot, root, there, kept):
+    """A root with a history of its own, and one outside of it."""
+    before, text = whole(root), text_of(kept)
+    for words in (('keep', there), ('keep', '--anew', there)):
+        refused(unitroot.on(root, *words), 1,
+                'the root has a history of its own: forget removes it', root, before,
+                'message: the root has a history of its own: %s' % ' '.join(words[:-1]))
+    hold(text_of(kept) == text, 'keep --anew leaves the other history of a root with its own')
+    ring = copied(root, root + '-ring')
+    shutil.rmtree(ring + HOME)
+    os.symlink('unitroot', ring + HOME)
+    before = whole(ring)
+    refused(unitroot.on(ring, 'keep', '--history=%s-ring' % kept), 1, 'too many links', ring,
+            before, 'no history outside of a root is begun if the one in it may exist')
+    hold(not os.path.lexists(kept + '-ring'), 'no directory is made for it')
+
+
+def of_a_reversed_run(unitroot, room, base, tracer):
+    """A step fails, the steps before it are reversed, and that can't be synced."""
+    title = 'message: all steps were reversed since one failed, and that may not last'
+    wants = ETC + '/multi-user.target.wants'
+    script = 'anna mask a.service\nanna enable cron.service\n'
+
+    def readied(name):
+        root = copied(base, '%s/%s' % (room, name))
+        os.makedirs(root + wants)
+        os.unlink('%s%s/cron.service' % (root, ETC))
+        place = root + wants
+        mounts = '(mount --bind %s %s && mount -o remount,bind,ro %s) 2>/dev/null'
+        return root, not os.system(mounts % (place, place, place))
+
+    root, is_mounted = readied('reversed-first')
+    try:
+        if os.geteuid() or not is_mounted:
+            skipped(title, 'no mount')
+            return
+        unitroot.on(root, *MASK, env=at(TUESDAY))
+        ended, calls = unitroot.disturbed(tracer, root, 0, 'kill', 'run', given=script)
+        hold(ended[0] == 1 and 'Read-only file system' in ended[2], 'a step that fails is named',
+             ended)
+    finally:
+        os.system('umount %s 2>/dev/null' % (root + wants))
+    last = [int(call[0]) for call in calls if call[1] == 'fsync'][-1]
+    root, _ = readied('reversed')
+    try:
+        unitroot.on(root, *MASK, env=at(TUESDAY))
+        ended, _ = unitroot.disturbed(tracer, root, last, 5, 'run', given=script)
+        said = ('unitroot: %s: Input/output error (os error 5): all steps were reversed since one '
+                'failed (%s/cron.service: Read-only file system (os error 30)), and that may not '
+                'last\n' % (HOME, wants))
+        hold(ended[0] == 5 and ended[2].endswith(said), title, ended)
+    finally:
+        os.system('umount %s 2>/dev/null' % (root + wants))
 
 
 def of_a_disk(unitroot, room, base):

@@ -1,14 +1,14 @@
 -- What the call for recovery does.
-use Rattle.std.specs.Prelude.{◌≡◌, ℕ, List, [], ◌∷◌, Option, Result, Ok, Err, IfSome}
+use Rattle.std.specs.Prelude.{◌≡◌, ℕ, List, [], ◌∷◌, Option, Some, Result, Ok, Err, IfSome}
 use Rattle.link_tree.specs.declared.change.Change.{Change}
 use Rattle.link_tree.specs.Trees.{Entries}
 use Rattle.tree_steps.specs.Steps.{steps_between}
 use Rattle.disk.specs.declared.disk.Oddity.{Oddity}
 use Rattle.disk.specs.Disks.{Held, StandsOddly, of_disk}
 use Rattle.disk.specs.Steps.{failures_with}
-use Rattle.disk.specs.Applied.{Stops}
+use Rattle.disk.specs.Applied.{Stops, after_steps}
 use Rattle.disk.specs.Events.{Event}
-use Rattle.kept_history.specs.Recovery.{due_steps, finishing}
+use Rattle.kept_history.specs.Recovery.{due_steps, foreign_steps, finishing}
 use Rattle.kept_history.specs.Doing.{Does}
 use Rattle.kept_history.specs.declared.recovery.FinishError.{FinishError}
 use Rattle.kept_history.specs.declared.recovery.FinishError.TheVariants.{DiskFailed, NotMade}
@@ -42,3 +42,15 @@ abbrev pub failures_after_finish : {T : Type 0} → ℕ → Result T FinishError
 failures_after_finish old (Ok x) = old
 failures_after_finish old (Err (DiskFailed why)) = failures_with old (of_disk why)
 failures_after_finish old (Err (NotMade why)) = failures_with old why
+
+-- The steps that were due are made, if nothing odd is at the paths of the steps.
+abbrev pub IsFinished : (old new : Option Held) → (before after : Entries) → Type 0
+IsFinished old new before after =
+    IfSome old (λ h. HasNothingOdd h (steps_between before after)
+    → new ≡ Some (after_steps (due_steps before after h.entries) h))
+
+-- These are the steps at whose paths somebody else has changed what is there, if nothing odd is.
+abbrev pub AreForeign : Option Held → (foreign : List Change) → (before after : Entries) → Type 0
+AreForeign held foreign before after =
+    IfSome held (λ h. HasNothingOdd h (steps_between before after)
+    → foreign ≡ foreign_steps before after h.entries)

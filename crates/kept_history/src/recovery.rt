@@ -1,15 +1,14 @@
 //! What a run does first: it finishes one that was cut short.
-ghost use Rattle.std.specs.Prelude.{◌≡◌, [], ◌∷◌, Some, IfOk, IfSome, OnOk};
+ghost use Rattle.std.specs.Prelude.{◌≡◌, [], ◌∷◌, IfOk, IfSome, OnOk};
 ghost use Rattle.std.specs.FinMap as map;
 ghost use Rattle.std.specs.Option.{option_map};
 ghost use Rattle.disk.specs.Disks.{failures_after};
 ghost use Rattle.disk.specs.Applied.{after_steps};
 ghost use Rattle.link_tree.specs.Differences.{same};
-ghost use Rattle.tree_steps.specs.Steps.{steps_between};
 ghost use Rattle.disk.specs.Events.{SyncHistory, Clear};
-ghost use Rattle.kept_history.specs.Recovery.{due_steps, foreign_steps, finishing};
+ghost use Rattle.kept_history.specs.Recovery.{finishing};
 ghost use Rattle.kept_history.specs.Doing.{Does};
-ghost use Rattle.kept_history.specs.Finishing.{IsPlain, HasNothingOdd, HasCause, Finishes, failures_after_finish};
+ghost use Rattle.kept_history.specs.Finishing.{IsPlain, HasNothingOdd, HasCause, Finishes, IsFinished, AreForeign, failures_after_finish};
 ghost use Rattle.kept_history.specs.Sorting.{SortsOne, Sorts};
 
 use crate::kept_disk::KeptDisk;
@@ -176,8 +175,8 @@ pub fn finish<D: KeptDisk>(
     new: &Tree,
 ) -> Result<Vec<Change>, FinishError>
     ensures finishes { Finishes (D.holds disk.old) (D.done disk.old) (D.done disk.new) result old.now new.now }
-    ensures made { OnOk result (IfSome (D.holds disk.old) (λ h. HasNothingOdd h (steps_between old.now new.now) → D.holds disk.new ≡ Some (after_steps (due_steps old.now new.now h.entries) h))) }
-    ensures foreign { IfOk result (λ foreign. IfSome (D.holds disk.old) (λ h. HasNothingOdd h (steps_between old.now new.now) → foreign.items ≡ foreign_steps old.now new.now h.entries)) }
+    ensures made { OnOk result (IsFinished (D.holds disk.old) (D.holds disk.new) old.now new.now) }
+    ensures foreign { IfOk result (λ foreign. AreForeign (D.holds disk.old) foreign.items old.now new.now) }
     ensures counted { D.failures disk.new ≡ failures_after_finish (D.failures disk.old) result }
 {
     let steps = steps_between(alloc, old, new)?;

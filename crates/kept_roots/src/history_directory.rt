@@ -165,7 +165,8 @@ impl<'a> HistoryDirectory<'a> {
             Ok(()) => self.rename(NEW, name),
             Err(trouble) => Err(trouble),
         };
-        if put.is_err() {
+        // (it may not have been entered)
+        if put.is_err() && self.held.enter().is_ok() {
             // (if this fails too, the next run removes it)
             let _removed = fs::remove_file(self.held.rt, NEW);
         }

@@ -148,7 +148,8 @@ fn remove_made(rt: &HostRuntime, name: Name<'_>) -> Result<(), Trouble> {
     sync_above(rt, name, GivenTime::of_environment(rt)?)
 }
 
-/// Makes a directory, and locks it. If that fails, it is removed.
+/// Makes a directory, and locks it. If that fails, it is removed, unless another run holds it: that
+/// one uses it.
 fn make<'a>(
     rt: &'a HostRuntime,
     name: Name<'_>,
@@ -159,6 +160,7 @@ fn make<'a>(
     at(rt.alloc(), name.shown, builder.create(rt, name.opened))?;
     match finish_and_hold(rt, name, patience) {
         Ok(held) => HistoryDirectory::made(held),
+        Err(HistoryError::Busy) => Err(HistoryError::Busy),
         Err(e) => {
             let _removed = remove_made(rt, name);
             Err(e)
@@ -192,8 +194,8 @@ fn make_at<'a>(
 }
 
 /// Locks the directory of a history alone. If there is none, one with mode 700 is made. If that
-/// fails, it is removed, and `RealDisk::settle_back` removes the directories that were made above
-/// it.
+/// fails, it is removed, unless another run holds it, and `RealDisk::settle_back` removes the
+/// directories that were made above it.
 ///
 /// Errors: those of `open_directory`.
 pub fn make_directory<'a>(

@@ -1,10 +1,11 @@
 //! What others did since the last run.
-ghost use Rattle.std.specs.Prelude.{◌≡◌, true, length, IfOk, IfErr, OnOk};
+ghost use Rattle.std.specs.Prelude.{◌≡◌, ◌≢◌, ℕ, List, [], Err, true, length, IfOk, IfErr, OnOk};
 ghost use Rattle.kept_rows.specs.Others.{calls_of_others, rows_with, rows_with_others};
 ghost use Rattle.tree_steps.specs.Steps.{slot_changes_between};
 ghost use Rattle.unit_script.specs.Machine.{replay};
 ghost use Rattle.kept_runs.specs.Runs.{added};
 ghost use Rattle.kept_runs.specs.Others.{IsNotWritable};
+ghost use Rattle.kept_runs.specs.declared.errors.OthersError.TheVariants as others;
 
 use crate::errors::OthersError;
 use crate::keeping::KeepIf;
@@ -40,6 +41,7 @@ impl Kept {
         ensures count { IfOk result (λ n. n ≡ length (added self.old.history.rows self.new.history.rows)) }
         ensures before { self.new.is_written ≡ true → self.old.is_written ≡ true }
         ensures fault { IfErr result (λ e. IsNotWritable e changes.now) }
+        ensures written { (path : List ℕ) → result ≢ Err (others.NotWritable path) }
     {
         let mut lines = Vec::new(alloc);
         push_lines_of_others(&mut lines, changes)?;
@@ -70,6 +72,8 @@ impl Kept {
         ensures count { IfOk result (λ n. n ≡ length (added self.old.history.rows self.new.history.rows)) }
         ensures before { self.new.is_written ≡ true → self.old.is_written ≡ true }
         ensures fault { IfErr result (λ e. IsNotWritable e (slot_changes_between (replay self.old.history.first self.old.history.rows) captured.now)) }
+        ensures refused { (path : List ℕ) → result ≡ Err (others.NotWritable path) → self.new ≡ self.old }
+        ensures none { slot_changes_between (replay self.old.history.first self.old.history.rows) captured.now ≡ [] → self.new ≡ self.old }
     {
         let changes = slot_changes_between(alloc, self.history.tree(), captured)?;
         if changes.is_empty() {

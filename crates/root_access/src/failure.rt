@@ -87,6 +87,9 @@ pub enum Failure {
     OnlyPromised,
     #[error("a run is promised: recover finishes it")]
     StillPromised,
+    /// One of the two was replaced since the run was promised.
+    #[error("history.next doesn't go on where history ends: remove it, or rename it to history")]
+    OtherPromise,
     /// The history was begun for the root at this path.
     #[error("the history is that of {0}: --adopt takes it over")]
     OtherRoot(String),
@@ -145,6 +148,9 @@ pub enum Failure {
     /// All steps were reversed, but a directory that was made is left, or that may not last.
     #[error("{0}: all steps were reversed, but a new directory is left, or that may not last")]
     NotSettledBack(Trouble),
+    /// On a root with a history: a step failed, all steps were reversed, and that may not last.
+    #[error("{0}: all steps were reversed since one failed ({1}), and that may not last")]
+    ReversedUnsynced(Trouble, String),
     /// Standard output failed, and nothing was changed.
     #[error("standard output: write fault")]
     Output,
@@ -183,7 +189,7 @@ impl Failure {
             Failure::At(_, Reason::Changed) => 4,
             Failure::HalfDone(..) | Failure::NotSettled(..) => 5,
             Failure::NotSettledBack(_) | Failure::Promised(_) => 5,
-            Failure::Unsynced(_) => 5,
+            Failure::ReversedUnsynced(..) | Failure::Unsynced(_) => 5,
             Failure::OutputAfter => 6,
             _ => 1,
         }

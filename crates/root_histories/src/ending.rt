@@ -3,7 +3,7 @@
 use crate::kept_root::KeptRoot;
 use disk::{CaptureError, StepError};
 use kept_history::{FinishError, RunError};
-use real_roots::RealDisk;
+use real_roots::{RealDisk, Trouble, Troubles};
 use root_access::{Context, Failure, Reason, capture_failure, read_trouble};
 use std::alloc::{AllocError, AllocFailed, Global};
 
@@ -83,29 +83,59 @@ fn unsynced(disk: &mut RealDisk<'_>) -> Failure {
     }
 }
 
-/// All was taken back, and that may not last.
-fn unsynced_back(disk: &mut RealDisk<'_>) -> Failure {
-    match disk.take_trouble() {
-        Some(trouble) => Failure::NotSettledBack(trouble),
-        None => Failure::OutOfMemory,
+/// Why a step was not made, and its path.
+fn step_text(
+    alloc: Global,
+    why: StepError,
+    trouble: Option<Trouble>,
+    path: Option<String>,
+) -> Result<String, AllocError> {
+    match why {
+        StepError::Failed => match trouble {
+            Some(trouble) => format!(in alloc; "{trouble}"),
+            None => String::from_str(alloc, "the system's error is not known"),
+        },
+        StepError::Changed | StepError::Odd => match path {
+            Some(path) => format!(in alloc; "{path}: changed meanwhile"),
+            None => String::from_str(alloc, "changed meanwhile"),
+        },
+        StepError::OutOfMemory => String::from_str(alloc, "out of memory"),
+    }
+}
+
+/// All was taken back since a step failed, and that may not last.
+fn unsynced_back(
+    alloc: Global,
+    disk: RealDisk<'_>,
+    why: StepError,
+    path: Option<String>,
+) -> Failure {
+    let Troubles { last, before } = disk.into_troubles();
+    let Some(trouble) = last else {
+        return Failure::OutOfMemory;
+    };
+    match step_text(alloc, why, before, path) {
+        Ok(step) => Failure::ReversedUnsynced(trouble, step),
+        Err(AllocError) => Failure::NotSettledBack(trouble),
     }
 }
 
 fn unmade_failure(
     alloc: Global,
-    disk: &mut RealDisk<'_>,
+    disk: RealDisk<'_>,
     is_ending: bool,
     error: RunError,
     path: Option<String>,
 ) -> Failure {
+    let mut disk = disk;
     match error {
         RunError::Refused { why, .. } | RunError::Withdrawn { why, .. } => {
-            step_failure(alloc, disk, why, path)
+            step_failure(alloc, &mut disk, why, path)
         }
-        RunError::NotPromised(why) => step_failure(alloc, disk, StepError::from(why), path),
-        RunError::Unfinished(_) if is_ending => unsynced(disk),
-        RunError::HalfWithdrawn { .. } if is_ending => unsynced_back(disk),
-        RunError::Unfinished(_) | RunError::HalfWithdrawn { .. } => promised(alloc, disk),
+        RunError::NotPromised(why) => step_failure(alloc, &mut disk, StepError::from(why), path),
+        RunError::Unfinished(_) if is_ending => unsynced(&mut disk),
+        RunError::HalfWithdrawn { why, .. } if is_ending => unsynced_back(alloc, disk, why, path),
+        RunError::Unfinished(_) | RunError::HalfWithdrawn { .. } => promised(alloc, &mut disk),
     }
 }
 
@@ -134,7 +164,7 @@ fn failure_of(alloc: Global, root: KeptRoot<'_>, stop: Stop) -> Failure {
     match stop {
         Stop::Failed(failure) => after_nothing(&mut disk, failure),
         Stop::Uncaptured(e) => capture_failure(alloc, &mut disk, e),
-        Stop::Unmade(error, path) => unmade_failure(alloc, &mut disk, is_ending, error, path),
+        Stop::Unmade(error, path) => unmade_failure(alloc, disk, is_ending, error, path),
         Stop::Unfinished(_) if is_ending => unsynced(&mut disk),
         Stop::Unfinished(_) => promised(alloc, &mut disk),
         Stop::NotBegun => read_trouble(alloc, &mut disk),

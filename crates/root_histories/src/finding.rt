@@ -2,15 +2,17 @@
 
 use crate::kept_root::KeptRoot;
 use kept_roots::{HistoryDirectory, HistoryFile, HistoryPlace, open_directory};
-use real_roots::{RealDisk, Trouble};
+use real_roots::{RealDisk, Trouble, at};
 use root_access::{
     Context, Failure, hold_of, patience_of, print_messages, push_message, take_root,
 };
 use std::alloc::AllocError;
-use std::fs;
+use std::{fs, io};
 
 /// The history's directory, beneath a root.
 const IN_ROOT: &str = "/var/lib/unitroot";
+
+const HISTORY: &str = "history";
 
 /// The history that a run is about to write.
 const PROMISE: &str = "history.next";
@@ -55,11 +57,15 @@ pub fn directory_of<'a>(
     }
 }
 
-/// Locks a root, and its history if it has one at this place.
+/// A root that is locked, with its history, which is locked too, if it has one at this place.
 ///
-/// Errors: the root or its history can't be locked, or can't be looked at.
-pub fn take_any<'a>(cx: Context<'a>, place: &HistoryPlace) -> Result<Taken<'a>, Failure> {
-    let mut disk = take_root(cx.rt, cx.asked, cx.root)?;
+/// Errors: the history can't be locked, or can't be looked at.
+pub fn with_history<'a>(
+    cx: Context<'a>,
+    disk: RealDisk<'a>,
+    place: &HistoryPlace,
+) -> Result<Taken<'a>, Failure> {
+    let mut disk = disk;
     match directory_of(cx, &mut disk, place) {
         Ok(Some(directory)) => Ok(Taken::Kept(KeptRoot::new(cx, disk, directory))),
         Ok(None) => Ok(Taken::Plain(disk)),
@@ -69,37 +75,52 @@ pub fn take_any<'a>(cx: Context<'a>, place: &HistoryPlace) -> Result<Taken<'a>, 
 
 /// Locks a root, and its history if it has one.
 ///
-/// Error: `NoHistory` if `--history` names a directory without one.
+/// Errors: the root or its history can't be locked, or can't be looked at; `NoHistory` if
+/// `--history` names a directory without one.
 pub fn take(cx: Context<'_>) -> Result<Taken<'_>, Failure> {
     let place = place_of(cx)?;
-    match take_any(cx, &place)? {
+    let disk = take_root(cx.rt, cx.asked, cx.root)?;
+    match with_history(cx, disk, &place)? {
         Taken::Plain(_) if cx.asked.history.is_some() => Err(Failure::NoHistory),
         taken => Ok(taken),
     }
 }
 
-/// Whether a file of the history in a root exists. If that can't be seen, it counts as missing.
-fn is_in_root(rt: &HostRuntime, disk: &mut RealDisk<'_>, name: &str) -> bool {
+/// Whether a file of the history in a root exists.
+fn is_in_root(rt: &HostRuntime, disk: &mut RealDisk<'_>, name: &str) -> Result<bool, Trouble> {
     let is_there = match disk.go_to(IN_ROOT, false) {
-        Ok(true) => fs::symlink_metadata(rt, name).is_ok(),
-        _ => false,
+        Ok(true) => exists(rt, name),
+        Ok(false) => Ok(false),
+        Err(trouble) => Err(trouble),
     };
     disk.leave();
     is_there
 }
 
-/// Whether a root has a history of its own, wherever `--history` is.
-pub fn has_history_in_root(rt: &HostRuntime, disk: &mut RealDisk<'_>) -> bool {
-    is_in_root(rt, disk, "history") || is_in_root(rt, disk, PROMISE)
+/// Whether the working directory has a file of this name, or anything else.
+fn exists(rt: &HostRuntime, name: &str) -> Result<bool, Trouble> {
+    match fs::symlink_metadata(rt, name) {
+        Ok(_) => Ok(true),
+        Err(e) if e.kind() == io::ErrorKind::NotFound => Ok(false),
+        Err(e) => at(rt.alloc(), IN_ROOT, Err(e)),
+    }
 }
 
-/// Says on standard error if a run on a root that is only looked at was cut short.
+/// Whether a root has a history of its own, wherever `--history` is.
+///
+/// Errors: the system's own.
+pub fn has_history_in_root(rt: &HostRuntime, disk: &mut RealDisk<'_>) -> Result<bool, Trouble> {
+    Ok(is_in_root(rt, disk, HISTORY)? || is_in_root(rt, disk, PROMISE)?)
+}
+
+/// Says on standard error if a run on a root that is only looked at was cut short. If that can't be
+/// seen, it says nothing: others may look at a root, too.
 pub fn note_promise(
     rt: &HostRuntime,
     disk: &mut RealDisk<'_>,
     json: bool,
 ) -> Result<(), AllocError> {
-    if is_in_root(rt, disk, PROMISE) {
+    if is_in_root(rt, disk, PROMISE).unwrap_or(false) {
         let mut text = Vec::new(rt.alloc());
         push_message(rt.alloc(), &mut text, PROMISED.as_bytes(), 0, json)?;
         print_messages(rt, &text);

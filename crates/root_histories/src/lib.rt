@@ -15,7 +15,7 @@ mod setting_aside;
 pub use ending::{Stop, after_nothing, end, is_of_nothing};
 pub use finding::{
     Taken, directory_of, has_history, has_history_in_root, note_promise, note_promise_of, place_of,
-    take, take_any,
+    take, with_history,
 };
 pub use headers::{adopted, new_history};
 pub use kept_root::KeptRoot;

@@ -88,12 +88,13 @@ pub fn kept_of(alloc: Global, text: Vec<u8>) -> Result<Kept, Failure> {
     }
 }
 
-/// Whether the history itself is at fault, so that another one may begin in its place: its text, or
-/// that its file is missing, too large or no file. Otherwise the system refused something, memory ran
-/// out, or the history is that of another root.
-fn is_of_text(failure: &Failure) -> bool {
+/// Whether the history itself is at fault, so that another one may begin in its place: its text,
+/// that of a promised run, or that its file is missing, too large or no file. Otherwise the system
+/// refused something, memory ran out, or the history is that of another root.
+pub fn is_of_text(failure: &Failure) -> bool {
     match failure {
-        Failure::Unreadable(_) | Failure::BadCall(..) | Failure::OnlyPromised => true,
+        Failure::Unreadable(_) | Failure::BadCall(..) => true,
+        Failure::OnlyPromised | Failure::OtherPromise => true,
         Failure::OtherRules(..) | Failure::OtherRows(_) => true,
         Failure::ManyRows | Failure::ManyBytes(_) => true,
         Failure::ManyLines | Failure::Full => true,

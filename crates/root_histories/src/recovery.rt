@@ -3,13 +3,17 @@
 use crate::ending::{Stop, disk_after, end};
 use crate::finding::{Taken, note_promise_of, take};
 use crate::kept_root::KeptRoot;
-use crate::reading::{kept_of, most_bytes, read_kept, shown};
+use crate::reading::{is_of_text, kept_of, most_bytes, read_kept, shown};
 use kept_roots::HistoryFile;
 use kept_runs::{Kept, recover};
+use kept_texts::Run;
 use link_tree::Change;
 use real_roots::RealDisk;
 use root_access::{Context, Failure};
 use std::alloc::{AllocError, Global};
+
+/// What is said before the failure if the history of a promised run can't be read.
+const UNREADABLE: &str = "history.next, with the run that is promised, can't be read";
 
 /// The history on the disk, and the one that a run was about to write.
 #[derive(Drop)]
@@ -27,14 +31,60 @@ fn promised_text(cx: Context<'_>, root: &mut KeptRoot<'_>) -> Result<Option<Vec<
     Ok(directory.read(HistoryFile::Next, most)?)
 }
 
+/// The history that a run was about to write. If its text is at fault, that is said first, since
+/// the failure itself names lines of "history" alone.
+fn read_new(cx: Context<'_>, root: &mut KeptRoot<'_>, next: Vec<u8>) -> Result<Kept, Failure> {
+    match kept_of(cx.rt.alloc(), next) {
+        Ok(new) => Ok(new),
+        Err(failure) => {
+            if is_of_text(&failure) {
+                root.notes.warn(UNREADABLE)?;
+            }
+            Err(failure)
+        }
+    }
+}
+
+/// Whether two runs are the same: of the same moment and user, with as many calls, and the same
+/// tree after them.
+fn is_same_run(one: &Run, other: &Run) -> bool {
+    let (words, others) = (&one.words, &other.words);
+    one.calls == other.calls
+        && one.tree == other.tree
+        && words.outside == others.outside
+        && words.time.text() == others.time.text()
+        && words.login.text() == others.login.text()
+}
+
+/// Whether one history goes on where another one ends, as that of a run always does: it has the
+/// same runs first. (Its text may have another path of the root, if that was moved.)
+fn goes_on(old: &Kept, new: &Kept) -> bool {
+    let (old, new) = (old.text(), new.text());
+    new.header().id == old.header().id
+        && new.runs().len() >= old.runs().len()
+        && old
+            .runs()
+            .iter()
+            .zip(new.runs().iter())
+            .all(|(one, other)| is_same_run(one, other))
+}
+
+fn promise_of(old: Kept, new: Kept) -> Result<Promise, Failure> {
+    if goes_on(&old, &new) {
+        Ok(Promise { old, new })
+    } else {
+        Err(Failure::OtherPromise)
+    }
+}
+
 fn read_promise(
     cx: Context<'_>,
     root: &mut KeptRoot<'_>,
     next: Vec<u8>,
 ) -> Result<Promise, Failure> {
-    let new = kept_of(cx.rt.alloc(), next)?;
+    let new = read_new(cx, root, next)?;
     match read_kept(cx, root) {
-        Ok(old) => Ok(Promise { old, new }),
+        Ok(old) => promise_of(old, new),
         Err(failure) => Err(failure),
     }
 }

@@ -3,7 +3,7 @@
 use disk::{Disk, DiskError, Found as Looked};
 use footprint::Units;
 use history::{Request, Row};
-use link_tree::{Change, Place};
+use link_tree::{Change, Entry, Place, TreePath, last_part};
 use root_json::push_warning;
 use root_runs::push_missing_warning;
 use std::alloc::{AllocError, Global};
@@ -36,9 +36,21 @@ fn is_missing<D: Disk>(alloc: Global, disk: &mut D, name: &UnitName) -> Result<b
     }
 }
 
-/// Whether an entry of this name is removed: a link in a `.wants`, or the entry at a slot.
+/// Whether an entry is one of this name, or a link to one.
+fn is_of(path: &TreePath, entry: &Entry, name: &UnitName) -> bool {
+    match entry {
+        Entry::Link(target) if last_part(target.text()) == name.text() => true,
+        _ => path.file_name() == name.text(),
+    }
+}
+
+/// Whether an entry of this name is removed: a link in a `.wants`, an alias, or the entry at a
+/// slot.
 fn is_removed(changes: &[Change], name: &UnitName) -> bool {
-    changes.iter().any(|change| change.after.is_none() && change.path.file_name() == name.text())
+    changes.iter().any(|change| match (&change.before, &change.after) {
+        (Some(before), None) => is_of(&change.path, before, name),
+        _ => false,
+    })
 }
 
 /// Appends a warning for each of the units that exists nowhere, and of which the call removes

@@ -75,8 +75,8 @@ fn command_messages<D: Disk>(
     Ok(text)
 }
 
-/// What standard output gets for a command: the answers to questions, unless `is-enabled` is to print
-/// none; with `--json` the rows of commands too.
+/// What standard output gets for a command: the answers to questions, unless `is-enabled` is to
+/// print none; with `--json` the rows of commands too.
 fn command_out(
     alloc: Global,
     asked: &Asked,
@@ -111,8 +111,8 @@ fn script_messages(
     Ok(text)
 }
 
-/// What standard output gets for a script: the rows, and what they change in all. If nothing is made
-/// since calls were refused, the first line says it.
+/// What standard output gets for a script: the rows, and what they change in all; nothing if the
+/// run must be quiet. If nothing is made since calls were refused, the first line says it.
 fn script_out(
     alloc: Global,
     asked: &Asked,
@@ -125,6 +125,9 @@ fn script_out(
         return rows_text(alloc, made, plan, dry_run, numbers);
     }
     let mut text = Vec::new(alloc);
+    if asked.output.quiet {
+        return Ok(text);
+    }
     match plan {
         Plan::Leave => push_unmade(&mut text, made.history, made.before)?,
         Plan::Forbid | Plan::Report | Plan::Make => {

@@ -7,7 +7,7 @@ use real_roots::RealDisk;
 use root_histories::{
     Context, Failure, Kept, KeptRoot, Stop, Taken, after_nothing, captured_in, end, finish_before,
     has_history, has_history_in_root, is_of_nothing, new_history, paths_of, patience_of, place_of,
-    read_kept, rows_text, set_aside, take_any, unless_of_text,
+    read_kept, rows_text, set_aside, take_root, unless_of_text, with_history,
 };
 use std::alloc::{AllocError, Global};
 
@@ -51,9 +51,10 @@ fn finish_or_leave(cx: Context<'_>, root: &mut KeptRoot<'_>) -> Result<bool, Sto
     }
 }
 
-/// Says that a run which was cut short is not finished: a new history begins with the root as it is.
+/// Says that a run which was cut short is not finished: a new history begins with the root as it
+/// is.
 fn warn_unfinished(root: &mut KeptRoot<'_>) -> Result<(), AllocError> {
-    let line = "a run was promised whose history can't be read: it is not finished";
+    let line = "a run was promised that can't be finished: it was given up";
     root.notes.warn(line)
 }
 
@@ -91,8 +92,8 @@ fn text_of_another(cx: Context<'_>, root: &mut KeptRoot<'_>) -> Result<Vec<u8>, 
     }
 }
 
-/// Begins a history where only the promise of a run is left. Its text takes the place of the promise
-/// first, so that one of the two files is always there.
+/// Begins a history where only the promise of a run is left. Its text takes the place of the
+/// promise first, so that one of the two files is always there.
 fn begin_for_promise(root: &mut KeptRoot<'_>, text: &[u8]) -> Result<(), Failure> {
     warn_unfinished(root)?;
     let directory = root.disk.directory();
@@ -105,8 +106,8 @@ fn begin_for_promise(root: &mut KeptRoot<'_>, text: &[u8]) -> Result<(), Failure
     }
 }
 
-/// Lets another history begin with this text, and withdraws the promise of a run if one is left. The
-/// history so far becomes `history.N`, and N is returned; `None` if it is gone.
+/// Lets another history begin with this text, and withdraws the promise of a run if one is left.
+/// The history so far becomes `history.N`, and N is returned; `None` if it is gone.
 fn replace(
     root: &mut KeptRoot<'_>,
     text: &[u8],
@@ -186,23 +187,28 @@ fn made_directory<'a>(
 
 /// Refuses a second history of a root: one in the root, and one that `--history` names.
 fn refuse_second(cx: Context<'_>, disk: &mut RealDisk<'_>) -> Result<(), Failure> {
-    if cx.asked.history.is_some() && has_history_in_root(cx.rt, disk) {
+    if cx.asked.history.is_some() && has_history_in_root(cx.rt, disk)? {
         Err(Failure::HasHistoryInRoot)
     } else {
         Ok(())
     }
 }
 
-/// The text of the first history of a root, which begins with the root as it is.
-fn first_text(cx: Context<'_>, disk: &mut RealDisk<'_>) -> Result<Vec<u8>, Failure> {
-    refuse_second(cx, disk)?;
-    text_of_today(cx, disk)
+/// Locks a root, and its history if it has one at this place.
+///
+/// Error: `HasHistoryInRoot` if the root has another one.
+fn take<'a>(cx: Context<'a>, place: &HistoryPlace) -> Result<Taken<'a>, Failure> {
+    let mut disk = take_root(cx.rt, cx.asked, cx.root)?;
+    match refuse_second(cx, &mut disk) {
+        Ok(()) => with_history(cx, disk, place),
+        Err(failure) => Err(failure),
+    }
 }
 
 /// Begins the first history of a root.
 fn keep_first(cx: Context<'_>, disk: RealDisk<'_>, place: &HistoryPlace) -> Result<u8, Failure> {
     let mut disk = disk;
-    let text = first_text(cx, &mut disk)?;
+    let text = text_of_today(cx, &mut disk)?;
     match made_directory(cx, &mut disk, place) {
         Ok(directory) => begin_first(cx, KeptRoot::new(cx, disk, directory), &text),
         Err(failure) => Err(after_nothing(&mut disk, failure)),
@@ -229,11 +235,11 @@ fn take_back(root: &mut KeptRoot<'_>, failure: Failure) -> Failure {
 
 /// Begins a history, or with `--anew` another one.
 ///
-/// Errors: `HasHistory` if there is one, without `--anew`; `HasHistoryInRoot`; `ManyBytes`; the root
-/// can't be captured; the system's own.
+/// Errors: `HasHistory` if there is one, without `--anew`; `HasHistoryInRoot`; `ManyBytes`; the
+/// root can't be captured; the system's own.
 pub fn keep(cx: Context<'_>, anew: bool) -> Result<u8, Failure> {
     let place = place_of(cx)?;
-    match take_any(cx, &place)? {
+    match take(cx, &place)? {
         Taken::Plain(disk) => keep_first(cx, disk, &place),
         Taken::Kept(_) if !anew => Err(Failure::HasHistory),
         Taken::Kept(root) => {

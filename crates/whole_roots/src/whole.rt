@@ -97,8 +97,8 @@ fn changes_from_taken(
     changes_to_taken(rt.alloc(), asked, &tree, &mut other)
 }
 
-/// The changes from the tree of a root to that of another root. Both are found before one is entered,
-/// since a path may be relative.
+/// The changes from the tree of a root to that of another root. Both are found before one is
+/// entered, since a path may be relative.
 fn changes_to_root(
     rt: &HostRuntime,
     asked: &Asked,
@@ -184,10 +184,12 @@ fn slot_changes(
     Ok(changes)
 }
 
-/// What an `apply` prints.
+/// What an `apply` prints: nothing if the run must be quiet.
 fn applied(alloc: Global, asked: &Asked, changes: &[Change]) -> Result<Vec<u8>, Failure> {
     if asked.output.json {
         Ok(applied_text(alloc, changes, asked.how.dry_run)?)
+    } else if asked.output.quiet {
+        Ok(Vec::new(alloc))
     } else {
         text_of(alloc, changes)
     }
@@ -210,8 +212,8 @@ fn make_all(
     make_tree(alloc, disk, captured, &tree)
 }
 
-/// Makes the changes, or only reports them. The text is made first, so that only writing it can fail
-/// after the changes.
+/// Makes the changes, or only reports them. The text is made first, so that only writing it can
+/// fail after the changes.
 fn make_or_report(
     cx: Context<'_>,
     disk: RealDisk<'_>,
@@ -239,8 +241,8 @@ fn make_slots(cx: Context<'_>, disk: RealDisk<'_>, inventory: &Tree) -> Result<u
     make_or_report(cx, disk, &captured, inventory)
 }
 
-/// The files of a root. If it has a history, a run that was cut short is finished first; the history
-/// takes what is changed now as done by others.
+/// The files of a root. If it has a history, a run that was cut short is finished first; the
+/// history takes what is changed now as done by others.
 fn disk_of(cx: Context<'_>) -> Result<RealDisk<'_>, Failure> {
     match take(cx)? {
         Taken::Plain(disk) => Ok(disk),
