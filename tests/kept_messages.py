@@ -167,7 +167,7 @@ def of_a_finished_run(unitroot, room, base, tracer):
 
     root = readied('finished')
     calls = unitroot.disturbed(tracer, readied('finished-first'), 0, 'kill', 'remove', unit)[1]
-    number = [int(call[0]) for call in calls if call[1] == 'unlink' and call[4] == 'x.service'][0]
+    number = number_of(calls, 'unlink', 'x.service')
     unitroot.disturbed(tracer, root, number, 'kill', 'remove', unit)
     hold(os.path.lexists(root + PROMISE) and os.path.lexists(root + unit),
          'a run that removes a file is killed before it does')
@@ -267,11 +267,17 @@ def messages(unitroot, unitadm, room, is_slow):
                '--history=%s/outside' % room)
 
 
+def number_of(calls, name, path, which=0):
+    """The number of a system call among those of a run: of this name, on this path, the first or
+    another."""
+    return [int(call[0]) for call in calls if call[1] == name and call[4] == path][which]
+
+
 def of_promises(unitroot, room, base):
     """What the system refuses in the middle of a run, after all its steps were made."""
     tracer, words = tracer_in(room), ('mask', 'ssh')
     calls = unitroot.disturbed(tracer, copied(base, '%s/promise' % room), 0, 'kill', *words)[1]
-    last = [int(call[0]) for call in calls if call[1] == 'rename' and call[4] == 'history.next'][-1]
+    last = number_of(calls, 'rename', 'history.next', -1)
     root = copied(base, '%s/promised' % room)
     ended, _ = unitroot.disturbed(tracer, root, last, 5, *words)
     hold(ended[0] == 5 and 'promised: the next run finishes it: ' in ended[2]
@@ -304,8 +310,10 @@ def of_promises(unitroot, room, base):
 
 
 def of_a_lost_history(unitroot, root, tracer):
-    """A run is promised, and its history is gone: keep --anew is the remedy, also if it is killed."""
-    calls = unitroot.disturbed(tracer, copied(root, root + '-first'), 0, 'kill', 'keep', '--anew')[1]
+    """A run is promised, and its history is gone: keep --anew is the remedy, also if it is killed.
+    """
+    calls = unitroot.disturbed(tracer, copied(root, root + '-first'), 0, 'kill', 'keep',
+                               '--anew')[1]
     numbers = [int(call[0]) for call in calls if call[1] in ('rename', 'unlink', 'fsync')]
     for number in numbers:
         killed = copied(root, '%s-%d' % (root, number))
@@ -342,8 +350,7 @@ def promised_after(unitroot, tracer, base, name, *masks):
         for unit in masks:
             unitroot.on(root, 'mask', unit, env=at(TUESDAY))
     calls = unitroot.disturbed(tracer, roots[1], 0, 'kill', 'mask', 'ssh')[1]
-    number = [int(call[0]) for call in calls if call[1] == 'symlink'
-              and call[4] == 'ssh.service'][0]
+    number = number_of(calls, 'symlink', 'ssh.service')
     unitroot.disturbed(tracer, roots[0], number, 'kill', 'mask', 'ssh')
     return roots[0]
 
@@ -393,8 +400,7 @@ def of_others_meanwhile(unitroot, room, base, tracer):
     root = copied(base, '%s/meanwhile' % room)
     calls = unitroot.disturbed(tracer, copied(base, '%s/meanwhile-first' % room), 0, 'kill',
                                'mask', 'ssh')[1]
-    number = [int(call[0]) for call in calls if call[1] == 'symlink'
-              and call[4] == 'ssh.service'][0]
+    number = number_of(calls, 'symlink', 'ssh.service')
     unitroot.disturbed(tracer, root, number, 'kill', 'mask', 'ssh')
     with open('%s%s/ssh.service' % (root, ETC), 'w') as it:
         it.write('[Unit]\n')
@@ -414,7 +420,7 @@ def of_others_after_their_rows(unitroot, room, base, tracer):
     for one in (first, root):
         os.unlink('%s%s/cron.service' % (one, ETC))
     calls = unitroot.disturbed(tracer, first, 0, 'kill', 'mask', 'ssh')[1]
-    number = [int(call[0]) for call in calls if call[1] == 'rename' and call[4] == 'history.next'][0]
+    number = number_of(calls, 'rename', 'history.next')
     unitroot.disturbed(tracer, root, number, 'kill', 'mask', 'ssh')
     hold(os.path.lexists(root + PROMISE), 'a run is killed once it has promised the rows of others')
     os.symlink('/dev/null', link)
