@@ -3,12 +3,12 @@
 use Rattle.std.specs.FinMap as map
 use Rattle.std.specs.Prelude.{◌≡◌, ℕ, List, [], ◌∷◌, ◌++◌, map as list_map, Result, Ok, Err}
 use Rattle.link_tree.specs.Trees.{Entries}
+use Rattle.link_tree.proofs.Agreeing.{both_agree}
 use Rattle.tree_access.specs.declared.key.Key.{Key}
 use Rattle.tree_access.specs.declared.key.Key.TheVariants.{Cell}
 use Rattle.tree_access.specs.declared.refusal.Refusal.{Refusal}
 use Rattle.footprint.specs.Inquiry.{Inquiry, over, giving, stands_at}
-use Rattle.tree_access.specs.Keys.{AgreeOn}
-use Rattle.tree_access.proofs.KeyLaws.{both_agree}
+use Rattle.tree_access.specs.Keys.{Agree, AgreeOn}
 use Rattle.tree_access.specs.Placing.{Ruling, IsLookedAt, ruled_at, concluded_after, keys_after, Wanted, all_wanted}
 use Rattle.tree_access.proofs.PlacingLaws.{none_looked_at, path_looked_at, looked_before, agreement_after, looked_after}
 use Rattle.tree_access.specs.Rules.{Rule}
@@ -43,7 +43,7 @@ abbrev pub ◌>>=◌ : {X : Type 0} → Inquiry X → (X → Step) → Step
 q >>= f = record {
   conclusion = λ t. (f (q.conclusion t)).conclusion t;
   keys = λ t. q.keys t ++ (f (q.conclusion t)).keys t;
-  agreement = both_agree q.conclusion q.keys (λ x. (f x).conclusion) (λ x. (f x).keys) q.agreement (λ x. (f x).agreement);
+  agreement = both_agree Agree q.conclusion q.keys (λ x. (f x).conclusion) (λ x. (f x).keys) q.agreement (λ x. (f x).agreement);
   looked = λ t. looked_before (q.keys t) ((f (q.conclusion t)).keys t) ((f (q.conclusion t)).conclusion t) ((f (q.conclusion t)).looked t);
 }
 
@@ -57,7 +57,7 @@ abbrev pub and_then : (first second : Step) → Step
 and_then first second = record {
   conclusion = λ t. concluded_after (first.conclusion t) second.conclusion t;
   keys = λ t. first.keys t ++ keys_after (first.conclusion t) second.keys t;
-  agreement = both_agree first.conclusion first.keys (λ ruling. concluded_after ruling second.conclusion) (λ ruling. keys_after ruling second.keys) first.agreement
+  agreement = both_agree Agree first.conclusion first.keys (λ ruling. concluded_after ruling second.conclusion) (λ ruling. keys_after ruling second.keys) first.agreement
       (agreement_after second.conclusion second.keys second.agreement second.looked);
   looked = λ t. looked_after second.conclusion second.keys second.agreement second.looked (first.keys t) (first.conclusion t) t (first.looked t);
 }

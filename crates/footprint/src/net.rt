@@ -12,7 +12,7 @@ use link_tree::{Change, Entry, Tree, TreePath, copy_of};
 use std::alloc::{AllocError, Global};
 use std::collections::BTreeMap;
 use std::marker::Model;
-use tree_access::copied;
+use tree_access::copy_entry;
 
 /// Changes from a first tree to a later one, at most one for each path. Contracts see a finite map.
 #[derive(Drop)]
@@ -73,7 +73,7 @@ impl NetChanges {
             path.copy()?,
             Change {
                 path: path.copy()?,
-                before: copied(before)?,
+                before: copy_entry(before)?,
                 after: copy_of(after)?,
             },
         )

@@ -27,7 +27,7 @@ use Rattle.tree_access.specs.Placing.{Placed, Ruling, Wanted, placed_in, cleared
 use Rattle.footprint.specs.Commands.{effect}
 use Rattle.tree_access.specs.Rules.{is_same_path, leads_alike, link_at}
 use Rattle.footprint.specs.Steps.{all_at_once}
-use Rattle.footprint.proofs.Wishes.{refused_at_the_least, left_all_at_once}
+use Rattle.footprint.proofs.Wishes.{left_all_at_once}
 use Rattle.install_commands.specs.Enable.{with_links, to_stand}
 
 same_path : (one other : Option (List ℕ)) → is_same_path one other ≡ true → one ≡ other
@@ -126,12 +126,3 @@ find_bare (e ∷ es) path = elim (cases_Bool (is_at path e.0)) [
 pub get-cleared : (t : Entries) (path : List ℕ) → map.get (cleared t) path ≡ bare_of (map.get t path)
 unfolding cleared
 get-cleared t path = get-from_entries nat_list_cmp_total (list_map (λ e. (e.0, None)) (map.entries t)) path ∙ find_bare (map.entries t) path ∙ ap bare_of (sym (map.get-entries t path))
-
--- clearing paths is never refused
-pub cleared_refuses : {P : Type 0} (gone t : Entries) (refusal : Refusal) → (all_at_once (cleared gone)).conclusion t ≡ Err refusal → P
-cleared_refuses gone t refusal is = let least = (refused_at_the_least (cleared gone) t refusal).0 is in by_link least.0 (map.get t least.0) (map.get gone least.0) least.1.0 (sym (get-cleared gone least.0) ∙ least.1.1) least.1.2
-  where
-    by_link : {P : Type 0} (path : List ℕ) (there : Option Entry) (entry : Option Entry) (link : Option (List ℕ)) → bare_of entry ≡ Some link → wanted_at link path there ≡ Err refusal → P
-    by_link path there None link at way = cc
-    by_link path there (Some entry) None at way = cc
-    by_link path there (Some entry) (Some file) at way = cc

@@ -16,7 +16,7 @@ use Rattle.load_path.specs.RealNames.{named, put_in}
 use Rattle.load_path.proofs.Units.{is-name}
 use Rattle.install_section.proofs.Least.{some_is, is_first, is_later}
 use Rattle.states.specs.declared.step.Step.{Step}
-use Rattle.states.specs.Dependencies.{Reached, named_step, step_at, turned, steps_of, ends_of, end_for, ends_for, next_names, within, names_around, reached_names}
+use Rattle.states.specs.Dependencies.{Reached, step_at, turned, steps_of, ends_of, end_for, ends_for, next_names, within, names_around, reached_names}
 use Rattle.states.specs.Dependencies.Reached.{Next, Further}
 use Rattle.states.specs.Reaching.{AreSame, AreReached}
 use Rattle.states.proofs.Linked.{step_link}
@@ -93,15 +93,6 @@ of_ends steps name to here =
 
 pub in_ends : (steps : List Step) (step : Step) → Contains steps step → Contains (ends_of steps step.from) step.to
 in_ends steps step here = in_filter_map (λ other. if bytes_eq other.from step.from then Some other.to else None) steps step step.to here (rw (nat_list_eq_equiv.refl step.from) refl)
-
--- both names of a step are valid
-named_step_is : (from to : Name) (step : Step) → named_step from to ≡ Some step → (step.from ≡ from) × (step.to ≡ to) × (is_unit_name from ≡ true) × (is_unit_name to ≡ true)
-named_step_is from to step h = by_tests (is_unit_name from) (is_unit_name to) refl refl
-  where
-    by_tests : (a b : Bool) → is_unit_name from ≡ a → is_unit_name to ≡ b → (step.from ≡ from) × (step.to ≡ to) × (is_unit_name from ≡ true) × (is_unit_name to ≡ true)
-    by_tests true true ha hb = (let same : Some (record { from = from; to = to }) ≡ Some step = rw (ha, hb) at h in (cc, cc, ha, hb))
-    by_tests true false ha hb = (let none : None ≡ Some step = rw (ha, hb) at h in absurd (cc))
-    by_tests false b ha hb = (let none : None ≡ Some step = rw ha at h in absurd (cc))
 
 -- the ends of steps are valid names
 abbrev pub AreNamed : List Step → Type 0

@@ -20,6 +20,7 @@ use link_tree::{Entry, Scope, Tree, TreePart, TreePath};
 use load_path::{Cells, End, Found, find_into, follow_into};
 use std::alloc::{AllocError, Global};
 use std::marker::Model;
+use tree_access::copy_entry;
 use unit_name::UnitName;
 
 /// A tree that a command reads and edits: as it was at first, as it is now, and the keys of what
@@ -61,7 +62,7 @@ fn current<'a>(first: &'a Tree, edit: &'a Option<Edit<'_>>) -> &'a Tree
 }
 
 /// The edit so far; a new one if nothing was edited.
-fn begun<'t>(alloc: Global, first: &'t Tree, edit: Option<Edit<'t>>) -> Result<Edit<'t>, AllocError>
+fn begin<'t>(alloc: Global, first: &'t Tree, edit: Option<Edit<'t>>) -> Result<Edit<'t>, AllocError>
     requires { StartsAt first.now edit }
     ensures { IfOk result (λ begun. begun ≡ (first.now, tree_of first.now edit.entry)) }
 {
@@ -101,10 +102,7 @@ impl<'t> Transaction<'t> {
         ensures err { OnErr result (self.new.first ≡ self.old.first) }
     {
         self.keys.push(Key::Cell(path.copy()?))?;
-        match current(self.first, &self.edit).get(path) {
-            Some(entry) => Ok(Some(entry.copy()?)),
-            None => Ok(None),
-        }
+        copy_entry(current(self.first, &self.edit).get(path))
     }
 
     /// Looks up a unit that the command needs, and returns its own name and the path of its file:
@@ -228,7 +226,7 @@ impl<'t> Transaction<'t> {
         ensures ok { OnOk result (self.new ≡ put slot.now entry self.old) }
         ensures err { OnErr result (self.new.first ≡ self.old.first) }
     {
-        let edit = begun(alloc, self.first, self.edit.take())?;
+        let edit = begin(alloc, self.first, self.edit.take())?;
         self.edit = Some(edit.with(slot, entry)?);
         Ok(())
     }
@@ -240,7 +238,7 @@ impl<'t> Transaction<'t> {
         ensures { Runs (taking (all_at_once wanted.now)) self.old self.new result }
     {
         wanted.push_cells(&mut self.keys)?;
-        let edit = begun(alloc, self.first, self.edit.take())?;
+        let edit = begin(alloc, self.first, self.edit.take())?;
         self.edit = Some(edit.with_all(alloc, wanted)?);
         Ok(())
     }
@@ -252,19 +250,19 @@ impl<'t> Transaction<'t> {
         ensures slots { IfOk result (λ outcome. All (λ change. is_slot change.path ≡ true) outcome.changes) }
     {
         match done {
-            Ok(notices) => self.carried_out(alloc, notices),
+            Ok(notices) => self.carry_out(alloc, notices),
             Err(Stop::Refused(refusal)) => self.answer(alloc, Answer::Refused(refusal)),
             Err(Stop::OutOfMemory) => Err(AllocError),
         }
     }
 
     /// The outcome of a command that was carried out.
-    fn carried_out(self, alloc: Global, notices: Notices) -> Result<Outcome, AllocError>
+    fn carry_out(self, alloc: Global, notices: Notices) -> Result<Outcome, AllocError>
         ensures outcome { IfOk result (Closes self.entry (Ok notices)) }
         ensures slots { IfOk result (λ outcome. All (λ change. is_slot change.path ≡ true) outcome.changes) }
     {
         let Transaction { first, edit, keys } = self;
-        let changes = begun(alloc, first, edit)?.into_changes(alloc)?;
+        let changes = begin(alloc, first, edit)?.into_changes(alloc)?;
         let reading = Reading::of(alloc, first, keys)?;
         Ok(Outcome {
             answer: Answer::Done(notices),

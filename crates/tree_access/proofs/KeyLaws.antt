@@ -1,10 +1,10 @@
 -- What keys see in trees, path by path, and after changes.
-use Rattle.std.proofs.Common.{◌≡◌, All, ℕ, Bool, true, false, ◌||◌, cond, List, [], ◌∷◌, ◌++◌, map as list_map, Contains, Option, Some, None, refl, sym, ap, ◌∙◌, inl, inr, subst}
+use Rattle.std.proofs.Common.{◌≡◌, All, ℕ, Bool, true, false, ◌||◌, cond, List, [], ◌∷◌, map as list_map, Option, Some, None, refl, sym, ap, ◌∙◌, inl, inr, subst}
 use Rattle.std.specs.FinMap as map
 use Rattle.std.specs.FinMap.{get-retain_keys}
 use Rattle.std.specs.Str.{bytes_eq}
 use Rattle.std.proofs.lemmas.Bool.{cases_Bool, false≢true}
-use Rattle.std.proofs.lemmas.List.Elements.{All-head, All-tail, All-nil, All-cons, All-weaker, All-contains, All-contains_itself, Contains-append_left, Contains-append_right}
+use Rattle.std.proofs.lemmas.List.Elements.{All-head, All-tail, All-nil, All-cons, All-weaker}
 use Rattle.std.proofs.lemmas.Map.Lookups.{exact_bytes}
 use Rattle.std.proofs.lemmas.Slice.Eq.{bytes_eq-Decides}
 use Rattle.link_tree.specs.declared.entry.Entry.{Entry}
@@ -170,26 +170,33 @@ same_cells (cell ∷ cells) t u agree =
     (same_there cell t u (All-head (λ key. Agree key t u) (Cell cell) (list_map Cell cells) agree))
     (same_cells cells t u (All-tail (λ key. Agree key t u) (Cell cell) (list_map Cell cells) agree))
 
-agree_on_first : (first second : List Key) (t u : Entries) → AgreeOn (first ++ second) t u → AgreeOn first t u
-agree_on_first first second t u agree =
-    All-weaker (λ key. Contains first key) (λ key. Agree key t u)
-    (λ key here. All-contains (λ key. Agree key t u) (first ++ second) key agree (Contains-append_left first second key here)) first (All-contains_itself first)
+-- What a search by cells finds, and what else is found with it: trees that agree on the cells' keys
+-- give the same.
+module _ {X : Type 0} (found : Entries → X) (cells : Entries → List (List ℕ)) (agrees : (t u : Entries) → SameAt (cells t) t u → (found t ≡ found u) × (cells t ≡ cells u)) where
+  pub by_cells_agree : (t u : Entries) → AgreeOn (list_map Cell (cells t)) t u → (found t ≡ found u) × (list_map Cell (cells t) ≡ list_map Cell (cells u))
+  by_cells_agree t u agree = let same = agrees t u (same_cells (cells t) t u agree) in (same.0, ap (list_map Cell) same.1)
 
-agree_on_second : (first second : List Key) (t u : Entries) → AgreeOn (first ++ second) t u → AgreeOn second t u
-agree_on_second first second t u agree =
-    All-weaker (λ key. Contains second key) (λ key. Agree key t u)
-    (λ key here. All-contains (λ key. Agree key t u) (first ++ second) key agree (Contains-append_right first second key here)) second (All-contains_itself second)
+  -- the cells themselves
+  pub with_cells_agree : (t u : Entries) → AgreeOn (list_map Cell (cells t)) t u
+      → (◌≡◌ {A = X × List (List ℕ)} (found t, cells t) (found u, cells u)) × (list_map Cell (cells t) ≡ list_map Cell (cells u))
+  with_cells_agree t u agree = let same = agrees t u (same_cells (cells t) t u agree) in (λ i. (same.0 i, same.1 i), ap (list_map Cell) same.1)
 
--- What is looked up by keys, and then further keys that depend on the result: trees that agree on
--- all these keys give the same result.
-pub both_agree : {X Y : Type 0} (first : Entries → X) (keys : Entries → List Key) (second : X → Entries → Y) (more : X → Entries → List Key)
-    → ((t u : Entries) → AgreeOn (keys t) t u → (first t ≡ first u) × (keys t ≡ keys u))
-    → ((x : X) (t u : Entries) → AgreeOn (more x t) t u → (second x t ≡ second x u) × (more x t ≡ more x u))
-    → (t u : Entries) → AgreeOn (keys t ++ more (first t) t) t u
-    → (second (first t) t ≡ second (first u) u) × (keys t ++ more (first t) t ≡ keys u ++ more (first u) u)
-both_agree first keys second more agreement later t u agree =
-    let before = agreement t u (agree_on_first (keys t) (more (first t) t) t u agree) in
-    let after = later (first t) t u (agree_on_second (keys t) (more (first t) t) t u agree) in (
-      after.0 ∙ ap (λ x. second x u) before.0,
-      ap (λ keys. keys ++ more (first t) t) before.1 ∙ ap (λ more_keys. keys u ++ more_keys) after.1 ∙ ap (λ x. keys u ++ more x u) before.0,
-    )
+-- nothing, and these keys are looked at
+pub keys_agree : (keys : List Key) (t u : Entries) → AgreeOn keys t u → (◌≡◌ {A = Unit {0}} tt tt) × (keys ≡ keys)
+keys_agree keys t u agree = (refl, refl)
+
+-- a part of the tree
+pub part_agrees : (key : Key) (t u : Entries) → AgreeOn (key ∷ []) t u → (part key t ≡ part key u) × (key ∷ [] ≡ key ∷ [])
+part_agrees key t u agree = (same_part key t u (agree_at key t u (All-head (λ key. Agree key t u) key [] agree)), refl)
+
+-- the parts of several keys together
+pub parts_agree : (keys : List Key) (t u : Entries) → AgreeOn keys t u → (those (any_selects keys) t ≡ those (any_selects keys) u) × (keys ≡ keys)
+parts_agree keys t u agree = (same_any keys t u agree, refl)
+
+-- what is found in the tree after changes
+pub after_agrees : {X : Type 0} (found : Entries → X) (keys : Entries → List Key) (changes : List Change)
+    → ((t u : Entries) → AgreeOn (keys t) t u → (found t ≡ found u) × (keys t ≡ keys u))
+    → (t u : Entries) → AgreeOn (keys (after_changes changes t)) t u
+    → (found (after_changes changes t) ≡ found (after_changes changes u)) × (keys (after_changes changes t) ≡ keys (after_changes changes u))
+after_agrees found keys changes agrees t u agree =
+    agrees (after_changes changes t) (after_changes changes u) (agree_on_after (keys (after_changes changes t)) changes t u agree)

@@ -15,5 +15,5 @@ pub use key::Key;
 pub use keys::Keys;
 pub use reading::{Observation, Reading, Seen, agrees};
 pub use refusal::{Refusal, Subject};
-pub use seeing::copied;
+pub use seeing::copy_entry;
 pub use touching::touches;

@@ -33,7 +33,7 @@ impl Key {
         ensures { IfOk result (λ seen. seen ≡ keys.seen self.now tree.now) }
     {
         match self {
-            Key::Cell(path) => Ok(Seen::Entry(copied(tree.get(path))?)),
+            Key::Cell(path) => Ok(Seen::Entry(copy_entry(tree.get(path))?)),
             Key::Marked(..) => Ok(Seen::Entries(self.entries(alloc, tree)?)),
             key => Ok(Seen::Entries(key.walk(alloc, gathered)?)),
         }
@@ -324,7 +324,7 @@ impl Observation {
 }
 
 /// A copy of the entry, or `None` if there is none. Fails only if memory runs out.
-pub fn copied(entry: Option<&Entry>) -> Result<Option<Entry>, AllocError>
+pub fn copy_entry(entry: Option<&Entry>) -> Result<Option<Entry>, AllocError>
     ensures { IfOk result (λ copy. copy ≡ option_copied entry.entry) }
 {
     match entry {
