@@ -52,25 +52,24 @@ impl Keys {
         Ok(self.items.push(key)?)
     }
 
-    /// Adds a key for each of the cells, in order. If memory runs out, some of them may have been
-    /// added.
+    /// Adds a key for each of the cells, in order. If memory runs out, the list stays as it was.
     pub fn push_cells(&mut self, cells: Cells) -> Result<(), AllocError>
-        ensures { OnOk result (self.new ≡ self.old ++ list_map keys.Cell cells) }
+        ensures ok { OnOk result (self.new ≡ self.old ++ list_map keys.Cell cells) }
+        ensures err { OnErr result (self.new ≡ self.old) }
     {
+        let mut more = Keys::none(*self.items.allocator());
         for path in cells.into_paths() {
-            self.push(Key::Cell(path))?;
+            more.push(Key::Cell(path))?;
         }
-        Ok(())
+        self.append(more)
     }
 
-    /// Adds these keys, in their order. If memory runs out, some of them may have been added.
-    pub fn append(&mut self, more: Keys) -> Result<(), AllocError>
-        ensures { OnOk result (self.new ≡ self.old ++ more) }
+    /// Adds these keys, in their order. If memory runs out, the list stays as it was.
+    pub fn append(&mut self, mut more: Keys) -> Result<(), AllocError>
+        ensures ok { OnOk result (self.new ≡ self.old ++ more) }
+        ensures err { OnErr result (self.new ≡ self.old) }
     {
-        for key in more.items {
-            self.push(key)?;
-        }
-        Ok(())
+        self.items.append(&mut more.items)
     }
 
     /// The keys, in the order in which they were added.
