@@ -17,3 +17,4 @@ mod Counting
 mod Policies
 mod Presets
 mod Discovered
+mod Whole

@@ -3,3 +3,4 @@ pub mod Questions
 pub mod Slots
 pub mod Installs
 pub mod Discovery
+pub mod Whole

@@ -5,6 +5,7 @@ ghost use Rattle.footprint_laws.specs.Discovery.{ClosureLooksInOrder};
 ghost use Rattle.footprint_laws.specs.Installs.{CheckLooks, ClosureLooks, DisableLooks, EnableLooks, PresetLooks, ReenableLooks};
 ghost use Rattle.footprint_laws.specs.Questions.{DependenciesLook, GetDefaultLooks, IsEnabledLooks};
 ghost use Rattle.footprint_laws.specs.Slots.{AddLooks, LinkLooks, MaskLooks, PlaceLooks, RemoveLooks, SetDefaultLooks, UnmaskLooks};
+ghost use Rattle.footprint_laws.specs.Whole.{OthersNeverLookAtAllLinks};
 
 use footprint::Operation;
 
@@ -29,6 +30,12 @@ pub fn is_enabled_looks_at_its_unit_and_its_links()
 /// `list-dependencies` looks at all slots of dependencies, and at nothing else.
 pub fn dependencies_look_at_all_links()
     ensures { DependenciesLook }
+{}
+
+/// No other operation looks at all slots of dependencies, in any tree: a key of them in what it
+/// looks at makes this false.
+pub fn other_operations_never_look_at_all_links()
+    ensures { OthersNeverLookAtAllLinks }
 {}
 
 /// `mask` looks at exactly the slots of its units, up to the first that has anything but a link to
