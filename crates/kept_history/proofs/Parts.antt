@@ -22,6 +22,11 @@ pub not_begun : (old new : Option Held) (steps : List Change) → new ≡ old �
 not_begun None new steps same = (zero, same)
 not_begun (Some h) new steps same = (zero, same)
 
+-- all steps were taken back
+pub none_left : (old new : Option Held) (steps : List Change) → new ≡ old → new ≡ option_map (after_steps (take zero steps)) old
+none_left None new steps same = same
+none_left (Some h) new steps same = same
+
 -- Some front of these events was done, and the first of them was.
 abbrev pub DoesBegin : (old new : Option (List Event)) → List Event → Type 0
 DoesBegin old new events = (n : ℕ) × (1 ≤ n) × (new ≡ with_events old (take n events))

@@ -30,14 +30,16 @@ Runs old new (Err (Unfinished why)) text steps =
 Runs old new (Err (HalfWithdrawn step why back)) text steps =
     (n : ℕ) × (1 ≤ n) × (new ≡ with_events old (take n (withdrawn_events text (take step steps))))
 
--- What a run left in the root, and why a step was not made.
+-- What a run left in the root, and why a step was not made. If it ended in the middle, the first n
+-- steps are still in place.
 abbrev pub Leaves : (old new : Option Held) → Result (Unit {0}) RunError → List Change → Type 0
 Leaves old new (Ok done) steps = IfSome old (λ h. AreDue h steps) × (new ≡ option_map (after_steps steps) old)
 Leaves old new (Err (Refused step why)) steps = (new ≡ old) × Stops old steps step why
 Leaves old new (Err (NotPromised why)) steps = new ≡ old
 Leaves old new (Err (Withdrawn step why)) steps = (new ≡ old) × Stops old steps step why
 Leaves old new (Err (Unfinished why)) steps = (n : ℕ) × (new ≡ option_map (after_steps (take n steps)) old)
-Leaves old new (Err (HalfWithdrawn step why back)) steps = Stops old steps step why
+Leaves old new (Err (HalfWithdrawn step why back)) steps =
+    (n : ℕ) × (n ≤ step) × (new ≡ option_map (after_steps (take n steps)) old) × Stops old steps step why
 
 -- Once something is written, the old entry of each step was at its path before.
 abbrev pub WereSeen : Option Held → Result (Unit {0}) RunError → List Change → Type 0

@@ -1,10 +1,13 @@
 -- What the call for recovery does.
-use Rattle.std.specs.Prelude.{◌≡◌, ℕ, List, [], ◌∷◌, Option, Some, Result, Ok, Err, IfSome}
+use Rattle.std.specs.Prelude.{◌≡◌, ◌≢◌, ◌⊎◌, ℕ, List, [], ◌∷◌, Option, Some, Result, Ok, Err, IfSome}
+use Rattle.std.specs.FinMap as map
+use Rattle.std.specs.Option.{option_map}
 use Rattle.link_tree.specs.declared.change.Change.{Change}
+use Rattle.link_tree.specs.declared.entry.Entry.{Entry}
 use Rattle.link_tree.specs.Trees.{Entries}
 use Rattle.tree_steps.specs.Steps.{steps_between}
 use Rattle.disk.specs.declared.disk.Oddity.{Oddity}
-use Rattle.disk.specs.Disks.{Held, StandsOddly, of_disk}
+use Rattle.disk.specs.Disks.{Held, Stands, StandsOddly, of_disk}
 use Rattle.disk.specs.Steps.{failures_with}
 use Rattle.disk.specs.Applied.{Stops, after_steps}
 use Rattle.disk.specs.Events.{Event}
@@ -22,6 +25,26 @@ abbrev pub HasNothingOdd : Held → List Change → Type 0
 HasNothingOdd h [] = Unit {0}
 HasNothingOdd h (step ∷ steps) = IsPlain h step.path × HasNothingOdd h steps
 
+-- Something else than this entry, or than none, is at the path: something odd always is.
+abbrev pub IsOther : Held → List ℕ → Option Entry → Type 0
+IsOther h path entry = (map.get h.entries path ≢ entry) ⊎ ((oddity : Oddity) × StandsOddly h path oddity)
+
+-- Steps, by what is at their paths. One is due if its old entry is there. If neither its old nor its
+-- new entry is there, somebody else has changed that. Otherwise it was made.
+pub data AreSorted (h : Held) : (steps due foreign : List Change) → Type 0 where
+  NoSteps : AreSorted h [] [] []
+  Due : (step : Change) (steps due foreign : List Change) → Stands h step.path step.before
+      → AreSorted h steps due foreign → AreSorted h (step ∷ steps) (step ∷ due) foreign
+  Foreign : (step : Change) (steps due foreign : List Change)
+      → IsOther h step.path step.before → IsOther h step.path step.after
+      → AreSorted h steps due foreign → AreSorted h (step ∷ steps) due (step ∷ foreign)
+  Made : (step : Change) (steps due foreign : List Change)
+      → IsOther h step.path step.before → Stands h step.path step.after
+      → AreSorted h steps due foreign → AreSorted h (step ∷ steps) due foreign
+
+abbrev pub AreAllSorted : Option Held → (steps due foreign : List Change) → Type 0
+AreAllSorted held steps due foreign = IfSome held (λ h. AreSorted h steps due foreign)
+
 -- A step that was not made has a reason.
 abbrev pub HasCause : {T : Type 0} → Option Held → Result T FinishError → (due : List Change) → Type 0
 HasCause held (Ok x) due = Unit {0}
@@ -36,6 +59,15 @@ Finishes held old new result before after =
     × IfSome held (λ h. HasNothingOdd h (steps_between before after) → due ≡ due_steps before after h.entries)
     × Does old new result (finishing (steps_between before after) due)
     × HasCause held result due
+    × (foreign : List Change)
+    × AreAllSorted held (steps_between before after) due foreign
+
+-- The steps that are due are made, whatever is at the paths, and those are returned at whose paths
+-- somebody else has changed what is there.
+abbrev pub FinishesAll : (old new : Option Held) → (foreign : List Change) → (before after : Entries) → Type 0
+FinishesAll old new foreign before after =
+    (due : List Change) × AreAllSorted old (steps_between before after) due foreign
+    × (new ≡ option_map (after_steps due) old)
 
 -- Each failure that ended a recovery is counted, and there is no other.
 abbrev pub failures_after_finish : {T : Type 0} → ℕ → Result T FinishError → ℕ

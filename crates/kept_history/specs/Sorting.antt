@@ -1,18 +1,18 @@
--- For the proofs of this crate: no public contract cites it. Steps, by what is at their paths.
-use Rattle.std.specs.Prelude.{◌≡◌, List, [], ◌∷◌, ◌++◌}
-use Rattle.std.specs.List.{filter}
+-- For the proofs of this crate: no public contract cites it. One step, by what is at its path.
+use Rattle.std.specs.Prelude.{◌≡◌, ◌⊎◌, ℕ, Bool, true, false, List, [], ◌∷◌, ◌++◌, Option, IfSome}
 use Rattle.link_tree.specs.declared.change.Change.{Change}
-use Rattle.link_tree.specs.Trees.{Entries}
-use Rattle.kept_history.specs.Recovery.{is_due, is_foreign}
-use Rattle.kept_history.specs.declared.recovery.Sorted.{Sorted}
+use Rattle.link_tree.specs.declared.entry.Entry.{Entry}
+use Rattle.disk.specs.Disks.{Held, Stands}
+use Rattle.kept_history.specs.Finishing.{IsOther}
+
+-- whether an entry, or none, was found at a path
+abbrev pub WasFound : Option Held → List ℕ → Option Entry → Bool → Type 0
+WasFound held path entry true = IfSome held (λ h. Stands h path entry)
+WasFound held path entry false = IfSome held (λ h. IsOther h path entry)
 
 -- One step was added to those that are due, or to those of others, or to none.
-abbrev pub SortsOne : Entries → (old new : Sorted) → Change → Type 0
-SortsOne entries old new step =
-    (new.due.items ≡ old.due.items ++ filter (is_due entries) (step ∷ []))
-    × (new.foreign.items ≡ old.foreign.items ++ filter (is_foreign entries) (step ∷ []))
-
-abbrev pub Sorts : Entries → Sorted → List Change → Type 0
-Sorts entries sorted steps =
-    (sorted.due.items ≡ filter (is_due entries) steps)
-    × (sorted.foreign.items ≡ filter (is_foreign entries) steps)
+abbrev pub SortsOne : Held → (due foreign due_now foreign_now : List Change) → Change → Type 0
+SortsOne h due foreign due_now foreign_now step =
+    (Stands h step.path step.before × (due_now ≡ due ++ step ∷ []) × (foreign_now ≡ foreign))
+    ⊎ (IsOther h step.path step.before × IsOther h step.path step.after × (due_now ≡ due) × (foreign_now ≡ foreign ++ step ∷ []))
+    ⊎ (IsOther h step.path step.before × Stands h step.path step.after × (due_now ≡ due) × (foreign_now ≡ foreign))

@@ -1,15 +1,13 @@
 //! What a run does first: it finishes one that was cut short.
 ghost use Rattle.std.specs.Prelude.{◌≡◌, [], ◌∷◌, IfOk, IfSome, OnOk};
-ghost use Rattle.std.specs.FinMap as map;
 ghost use Rattle.std.specs.Option.{option_map};
 ghost use Rattle.disk.specs.Disks.{failures_after};
 ghost use Rattle.disk.specs.Applied.{after_steps};
-ghost use Rattle.link_tree.specs.Differences.{same};
 ghost use Rattle.disk.specs.Events.{SyncHistory, Clear};
 ghost use Rattle.kept_history.specs.Recovery.{finishing};
 ghost use Rattle.kept_history.specs.Doing.{Does};
-ghost use Rattle.kept_history.specs.Finishing.{IsPlain, HasNothingOdd, HasCause, Finishes, IsFinished, AreForeign, failures_after_finish};
-ghost use Rattle.kept_history.specs.Sorting.{SortsOne, Sorts};
+ghost use Rattle.kept_history.specs.Finishing.{AreAllSorted, HasCause, Finishes, FinishesAll, IsFinished, AreForeign, failures_after_finish};
+ghost use Rattle.kept_history.specs.Sorting.{WasFound, SortsOne};
 
 use crate::kept_disk::KeptDisk;
 use crate::running::end_run;
@@ -67,7 +65,7 @@ fn is_there<D: KeptDisk>(
     path: &TreePath,
     entry: &Option<Entry>,
 ) -> Result<bool, DiskError>
-    ensures there { IfOk result (λ there. IfSome (D.holds disk.old) (λ h. IsPlain h path.now → there ≡ same (map.get h.entries path.now) entry.now)) }
+    ensures there { IfOk result (λ there. WasFound (D.holds disk.old) path.now entry.now there) }
     ensures kept { D.holds disk.new ≡ D.holds disk.old }
     ensures done { D.done disk.new ≡ D.done disk.old }
     ensures counted { D.failures disk.new ≡ failures_after (D.failures disk.old) result }
@@ -90,7 +88,7 @@ fn sort_step<D: KeptDisk>(
     sorted: &mut Sorted,
     step: &Change,
 ) -> Result<(), DiskError>
-    ensures sorted { OnOk result (IfSome (D.holds disk.old) (λ h. IsPlain h step.now.path → SortsOne h.entries sorted.old sorted.new step.now)) }
+    ensures sorted { OnOk result (IfSome (D.holds disk.old) (λ h. SortsOne h sorted.old.due.items sorted.old.foreign.items sorted.new.due.items sorted.new.foreign.items step.now)) }
     ensures kept { D.holds disk.new ≡ D.holds disk.old }
     ensures done { D.done disk.new ≡ D.done disk.old }
     ensures counted { D.failures disk.new ≡ failures_after (D.failures disk.old) result }
@@ -109,7 +107,7 @@ fn sort_steps<D: KeptDisk>(
     disk: &mut D,
     steps: &[Change],
 ) -> Result<Sorted, DiskError>
-    ensures sorted { IfOk result (λ sorted. IfSome (D.holds disk.old) (λ h. HasNothingOdd h steps.now → Sorts h.entries sorted steps.now)) }
+    ensures sorted { IfOk result (λ sorted. AreAllSorted (D.holds disk.old) steps.now sorted.due.items sorted.foreign.items) }
     ensures kept { D.holds disk.new ≡ D.holds disk.old }
     ensures done { D.done disk.new ≡ D.done disk.old }
     ensures counted { D.failures disk.new ≡ failures_after (D.failures disk.old) result }
@@ -175,6 +173,7 @@ pub fn finish<D: KeptDisk>(
     new: &Tree,
 ) -> Result<Vec<Change>, FinishError>
     ensures finishes { Finishes (D.holds disk.old) (D.done disk.old) (D.done disk.new) result old.now new.now }
+    ensures all { IfOk result (λ foreign. FinishesAll (D.holds disk.old) (D.holds disk.new) foreign.items old.now new.now) }
     ensures made { OnOk result (IsFinished (D.holds disk.old) (D.holds disk.new) old.now new.now) }
     ensures foreign { IfOk result (λ foreign. AreForeign (D.holds disk.old) foreign.items old.now new.now) }
     ensures counted { D.failures disk.new ≡ failures_after_finish (D.failures disk.old) result }

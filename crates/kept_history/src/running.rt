@@ -1,8 +1,9 @@
 //! A run on a root with a kept history.
-ghost use Rattle.std.specs.Prelude.{◌≡◌, [], ◌∷◌, ◌++◌, ℕ, List, Option, map as list_map, OnOk};
+ghost use Rattle.std.specs.Prelude.{◌≡◌, ◌≤◌, [], ◌∷◌, ◌++◌, ℕ, List, length, take, Option, map as list_map, IfErr, OnOk};
+ghost use Rattle.std.specs.Option.{option_map};
 ghost use Rattle.disk.specs.Disks.{Held, failures_after};
 ghost use Rattle.disk.specs.Steps.{failures_after_step};
-ghost use Rattle.disk.specs.Applied.{WereMade};
+ghost use Rattle.disk.specs.Applied.{WereMade, after_steps};
 ghost use Rattle.tree_steps.specs.Steps.{steps_between};
 ghost use Rattle.disk.specs.Events.{Event, Promise, Commit, Withdraw, Make, SyncHistory, way_back, with_events};
 ghost use Rattle.kept_history.specs.Runs.{ending};
@@ -85,6 +86,7 @@ pub(crate) fn end_run<D: KeptDisk>(disk: &mut D, steps: &[Change]) -> Result<(),
 /// Takes the steps back that were made, and removes the new history.
 fn withdraw<D: KeptDisk>(alloc: Global, disk: &mut D, steps: &[Change]) -> Result<(), StepError>
     ensures back { OnOk result ((old : Option Held) → WereMade old (D.holds disk.old) steps.now → D.holds disk.new ≡ old) }
+    ensures left { IfErr result (λ why. (n : ℕ) × (n ≤ length steps.now) × ((old : Option Held) → WereMade old (D.holds disk.old) steps.now → D.holds disk.new ≡ option_map (after_steps (take n steps.now)) old)) }
     ensures done { Does (D.done disk.old) (D.done disk.new) result (list_map Make (way_back steps.now) ++ ending Withdraw steps.now) }
     ensures counted { D.failures disk.new ≡ failures_after_step (D.failures disk.old) result }
 {

@@ -1,5 +1,5 @@
 -- Lists that are alike in what is shown of each element.
-use Rattle.std.proofs.Common.{◌≡◌, ℕ, suc, ◌+◌, ◌<◌, ◌≤◌, List, [], ◌∷◌, ◌++◌, length, take, get_or, map as list_map, refl, sym, ap, ◌∙◌, arith}
+use Rattle.std.proofs.Common.{◌≡◌, ℕ, zero, suc, ◌+◌, ◌<◌, ◌≤◌, List, [], ◌∷◌, ◌++◌, length, take, get_or, map as list_map, refl, sym, ap, ◌∙◌, arith}
 use Rattle.std.proofs.Math.Seq.{take-suc}
 use Rattle.std.proofs.lemmas.List.{take_all}
 
@@ -14,6 +14,14 @@ map-push f (y ∷ ys) x = ap (λ rest. f y ∷ rest) (map-push f ys x)
 pub map_same : {X : Type 0} (xs : List X) → list_map (λ x. x) xs ≡ xs
 map_same [] = refl
 map_same (x ∷ xs) = ap (λ rest. x ∷ rest) (map_same xs)
+
+module _ {X Y Z : Type 0} (f : X → Z) (g : Y → Z) where
+  -- lists that are alike are so at each place
+  pub alike_at : (xs : List X) (ys : List Y) (i : ℕ) (x : X) (y : Y) → x ≡ get_or xs i x → i < length xs → y ≡ get_or ys i y → list_map f xs ≡ list_map g ys → f x ≡ g y
+  alike_at [] ys i x y is within also same = absurd (omega (arith, within))
+  alike_at (a ∷ xs) [] i x y is within also same = absurd (cc)
+  alike_at (a ∷ xs) (b ∷ ys) zero x y is within also same = let here : f a ≡ g b = cc in ap f is ∙ here ∙ sym (ap g also)
+  alike_at (a ∷ xs) (b ∷ ys) (suc i) x y is within also same = alike_at xs ys i x y is (omega (arith, within)) also (cc)
 
 module _ {X Y Z : Type 0} (f : X → Z) (g : Y → Z) (xs : List X) (ys : List Y) (i : ℕ) where
   -- The first of them are alike.

@@ -43,4 +43,4 @@ module _ (replay : List ℕ → Entries) (history text : List ℕ) (held : Optio
   written (Err (NotPromised why)) h left = nothing_written h
   written (Err (Withdrawn step why)) h left = no_stop held step why left.1
   written (Err (Unfinished why)) h left = front_written h.0 h.2
-  written (Err (HalfWithdrawn step why back)) h left = no_stop held step why left
+  written (Err (HalfWithdrawn step why back)) h left = no_stop held step why left.3

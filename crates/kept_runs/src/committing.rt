@@ -3,7 +3,7 @@ ghost use Rattle.std.specs.Prelude.{◌≡◌, [], true, IfOk, OnOk};
 ghost use Rattle.unit_script.specs.Machine.{replay};
 ghost use Rattle.tree_steps.specs.Steps.{steps_between};
 ghost use Rattle.kept_history.specs.Doing.{Runs, Leaves, WereSeen, failures_after_run};
-ghost use Rattle.kept_history.specs.Finishing.{Finishes, IsFinished, AreForeign, failures_after_finish};
+ghost use Rattle.kept_history.specs.Finishing.{Finishes, FinishesAll, IsFinished, AreForeign, failures_after_finish};
 ghost use Rattle.kept_runs.specs.Disks.{RunsWhole, WritesWhole, Recovers};
 
 use crate::kept::Kept;
@@ -28,6 +28,7 @@ pub fn recover<D: KeptDisk>(
 ) -> Result<Vec<Change>, FinishError>
     ensures recovers { old.now.is_written ≡ true → new.now.is_written ≡ true → OnOk result (Recovers (D.holds disk.old) (D.done disk.old) (D.done disk.new) old.now.text.bytes.items new.now.text.bytes.items) }
     ensures finishes { Finishes (D.holds disk.old) (D.done disk.old) (D.done disk.new) result (replay old.now.history.first old.now.history.rows) (replay new.now.history.first new.now.history.rows) }
+    ensures all { IfOk result (λ foreign. FinishesAll (D.holds disk.old) (D.holds disk.new) foreign.items (replay old.now.history.first old.now.history.rows) (replay new.now.history.first new.now.history.rows)) }
     ensures made { OnOk result (IsFinished (D.holds disk.old) (D.holds disk.new) (replay old.now.history.first old.now.history.rows) (replay new.now.history.first new.now.history.rows)) }
     ensures foreign { IfOk result (λ foreign. AreForeign (D.holds disk.old) foreign.items (replay old.now.history.first old.now.history.rows) (replay new.now.history.first new.now.history.rows)) }
     ensures counted { D.failures disk.new ≡ failures_after_finish (D.failures disk.old) result }

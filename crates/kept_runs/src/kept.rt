@@ -10,6 +10,7 @@ ghost use Rattle.history.specs.Rows.{rows_after};
 ghost use Rattle.unit_script.specs.Actions.{asks, meaning};
 ghost use Rattle.unit_script.specs.Machine.{asked};
 ghost use Rattle.kept_rows.specs.Others.{rows_with};
+ghost use Rattle.kept_texts.specs.Texts.{begun_parts, begun_text, Is};
 ghost use Rattle.kept_runs.specs.Texts.{SaysIf};
 ghost use Rattle.kept_runs.specs.Runs.{is_kept, added};
 
@@ -79,7 +80,8 @@ impl Kept {
     ///
     /// Errors: `OutOfMemory`.
     pub fn begin(alloc: Global, first: Tree, header: Header) -> Result<Kept, KeptError>
-        ensures { IfOk result (λ kept. kept.history ≡ record { first = first; rows = []; limit = 1000000 }) }
+        ensures rows { IfOk result (λ kept. kept.history ≡ record { first = first; rows = []; limit = 1000000 }) }
+        ensures text { IfOk result (λ kept. Is kept.text (begun_text first header) (begun_parts first header)) }
     {
         let text = KeptText::begin(alloc, &first, header)?;
         let history = History::new(alloc, first)?;

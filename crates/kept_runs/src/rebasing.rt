@@ -1,7 +1,8 @@
 //! The same rows on another first tree.
-ghost use Rattle.std.specs.Prelude.{◌≡◌, true, IfOk, IfSome};
+ghost use Rattle.std.specs.Prelude.{◌≡◌, true, None, IfOk, IfSome};
 ghost use Rattle.kept_rows.specs.Others.{with_slots_of};
 ghost use Rattle.kept_runs.specs.Texts.{all_shown};
+ghost use Rattle.kept_runs.specs.Moves.{CannotMove, ShowsAlike, text_with};
 
 use crate::errors::KeptError;
 use crate::kept::Kept;
@@ -25,6 +26,7 @@ fn first_with(alloc: Global, first: &Tree, captured: &Tree) -> Result<Tree, Allo
 fn are_rows_on(first: &Tree, rows: &History<Action>, history: &History<Action>) -> bool
     ensures first { result ≡ true → first.now ≡ history.now.first }
     ensures rows { result ≡ true → all_shown rows.now.rows ≡ all_shown history.now.rows }
+    ensures no { first.now ≡ history.now.first → all_shown rows.now.rows ≡ all_shown history.now.rows → result ≡ true }
 {
     are_same(first, history.first()) && same_rows(rows.rows(), history.rows())
 }
@@ -32,7 +34,8 @@ fn are_rows_on(first: &Tree, rows: &History<Action>, history: &History<Action>) 
 impl Kept {
     /// The text with another first tree, if it has equal rows.
     fn with_first(&self, alloc: Global, first: &Tree) -> Result<Option<Kept>, KeptError>
-        ensures { IfOk result (λ found. IfSome found (λ kept. (kept.is_written ≡ true) × (first.now ≡ kept.history.first) × (all_shown self.now.history.rows ≡ all_shown kept.history.rows))) }
+        ensures none { IfOk result (λ found. found ≡ None → ShowsAlike (text_with self.now.text first.now) first.now self.now.history.rows → ⊥) }
+        ensures some { IfOk result (λ found. IfSome found (λ kept. (kept.is_written ≡ true) × (first.now ≡ kept.history.first) × (all_shown self.now.history.rows ≡ all_shown kept.history.rows))) }
     {
         let text = self.text.with_first(alloc, first)?;
         let history = history_of_text(alloc, text.bytes())?;
@@ -53,7 +56,8 @@ impl Kept {
     ///
     /// Errors: `OutOfMemory`.
     pub fn rebased(&self, alloc: Global, captured: &Tree) -> Result<Option<Kept>, KeptError>
-        ensures { IfOk result (λ found. IfSome found (λ kept. (kept.is_written ≡ true) × (with_slots_of captured.now self.now.history.first ≡ kept.history.first) × (all_shown self.now.history.rows ≡ all_shown kept.history.rows))) }
+        ensures none { IfOk result (λ found. found ≡ None → CannotMove self.now.text (with_slots_of captured.now self.now.history.first) self.now.history.rows) }
+        ensures some { IfOk result (λ found. IfSome found (λ kept. (kept.is_written ≡ true) × (with_slots_of captured.now self.now.history.first ≡ kept.history.first) × (all_shown self.now.history.rows ≡ all_shown kept.history.rows))) }
     {
         let first = first_with(alloc, self.history.first(), captured)?;
         if first.len() > MAX_ENTRIES as usize {

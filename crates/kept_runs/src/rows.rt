@@ -7,7 +7,8 @@ use link_tree::{Change, Entry};
 use unit_script::Action;
 
 fn same_entry(one: &Option<Entry>, other: &Option<Entry>) -> bool
-    ensures { result ≡ true → one.now ≡ other.now }
+    ensures yes { result ≡ true → one.now ≡ other.now }
+    ensures no { one.now ≡ other.now → result ≡ true }
 {
     match (one, other) {
         (None, None) => true,
@@ -17,7 +18,8 @@ fn same_entry(one: &Option<Entry>, other: &Option<Entry>) -> bool
 }
 
 fn same_change(one: &Change, other: &Change) -> bool
-    ensures { result ≡ true → one.now ≡ other.now }
+    ensures yes { result ≡ true → one.now ≡ other.now }
+    ensures no { one.now ≡ other.now → result ≡ true }
 {
     one.path.text() == other.path.text()
         && same_entry(&one.before, &other.before)
@@ -25,7 +27,8 @@ fn same_change(one: &Change, other: &Change) -> bool
 }
 
 fn same_changes(ones: &[Change], others: &[Change]) -> bool
-    ensures { result ≡ true → ones.now ≡ others.now }
+    ensures yes { result ≡ true → ones.now ≡ others.now }
+    ensures no { ones.now ≡ others.now → result ≡ true }
 {
     if ones.len() != others.len() {
         return false;
@@ -40,7 +43,8 @@ fn same_changes(ones: &[Change], others: &[Change]) -> bool
 
 /// Whether two rows have the same operator, request, reply and changes.
 fn same_row(one: &Row<Action>, other: &Row<Action>) -> bool
-    ensures { result ≡ true → shown one.now ≡ shown other.now }
+    ensures yes { result ≡ true → shown one.now ≡ shown other.now }
+    ensures no { shown one.now ≡ shown other.now → result ≡ true }
 {
     one.operator.text() == other.operator.text()
         && one.request.same(&other.request)
@@ -50,7 +54,8 @@ fn same_row(one: &Row<Action>, other: &Row<Action>) -> bool
 
 /// Whether there are as many rows, each with the same operator, request, reply and changes.
 pub(crate) fn same_rows(ones: &[Row<Action>], others: &[Row<Action>]) -> bool
-    ensures { result ≡ true → all_shown ones.now ≡ all_shown others.now }
+    ensures yes { result ≡ true → all_shown ones.now ≡ all_shown others.now }
+    ensures no { all_shown ones.now ≡ all_shown others.now → result ≡ true }
 {
     if ones.len() != others.len() {
         return false;

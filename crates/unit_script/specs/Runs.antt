@@ -71,10 +71,10 @@ Silent (runs.WriteFault n) old new = Unit {0}
 Silent e old new = Keeps old new
 
 -- A read or write fault occurs only if the source or sink failed, or was interrupted too often. A
--- fault of the input is reported only if the source didn't fail; but a duplicate may be reported
--- after the source failed in a later entry.
+-- write fault or a fault of the input is reported only if the source didn't fail; but a duplicate
+-- may be reported after the source failed in a later entry.
 abbrev pub FaultCause : RunFault → (source_old source_new sink_old sink_new : Counters) → Type 0
-FaultCause (runs.WriteFault n) source_old source_new sink_old sink_new = HasCause sink_old sink_new
+FaultCause (runs.WriteFault n) source_old source_new sink_old sink_new = HasCause sink_old sink_new × IsCalm source_old source_new
 FaultCause (runs.InventoryRead n) source_old source_new sink_old sink_new = HasCause source_old source_new
 FaultCause runs.ReadFault source_old source_new sink_old sink_new = HasCause source_old source_new
 FaultCause (runs.Inventory fault n) source_old source_new sink_old sink_new = fault ≢ Duplicate → IsCalm source_old source_new

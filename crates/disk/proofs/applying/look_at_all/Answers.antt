@@ -8,7 +8,7 @@ use Rattle.disk.proofs.applying.look_at_all.Goals as goal
 pub returns-in-Err-clause-stops : goal.returns-in-Err-clause-stops
 returns-in-Err-clause-stops g c =
     looked c.args.steps.now c.loop-step.step c.index-steps-step.result c.index-steps-step.is c.loop-step-test.true
-    (g.D.Disk.holds c.args.disk.now) (g.D.Disk.holds c.loop-step.disk) c.in-Err.why c.loop-step.invariant.0 c.in-Err.ensures.looks
+    (g.D.Disk.holds c.args.disk.now) (g.D.Disk.holds c.loop-step.disk) c.in-Err.why c.loop-step.invariant.0 c.loop-step.invariant.3 c.in-Err.ensures.looks
 
 pub returns-in-Err-clause-kept : goal.returns-in-Err-clause-kept
 returns-in-Err-clause-kept g c = c.in-Err.ensures.kept ∙ c.loop-step.invariant.0
