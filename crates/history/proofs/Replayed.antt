@@ -120,7 +120,7 @@ module _ {O : Type 0} (asks : O → Bool) where
     replay_survivors t (row ∷ rows) =
         replay_survivors (after asks meaning (survivor asks row) t) rows ∙ replay_command (survivor asks row) (survivors asks rows) t
 
-    calls-after : (first : Entries) (rows : List (Row O)) (call : Call O) → calls_of (rows_after asks meaning first rows call) ≡ calls_of rows ++ call ∷ []
+    pub calls-after : (first : Entries) (rows : List (Row O)) (call : Call O) → calls_of (rows_after asks meaning first rows call) ≡ calls_of rows ++ call ∷ []
     calls-after first rows (operator, Do c) = calls-push rows (answered operator c (outcome_of meaning c (replay asks meaning first rows)))
     calls-after first rows (operator, Undo n) = calls-rows_undone operator rows n (undo_refusal asks rows n)
     calls-after first rows (operator, Redo n) = calls-rows_redone operator rows n (redo_refusal asks rows n)

@@ -48,14 +48,13 @@ fn rebase(alloc: Global, turn: &mut Turn, captured: &Tree) -> Result<bool, Failu
     if are_same_elsewhere(alloc, turn.kept.history().tree(), captured)? {
         return Ok(true);
     }
-    match turn.kept.rebased(alloc, captured) {
-        Ok(Some(kept)) => {
+    match turn.kept.rebased(alloc, captured)? {
+        Some(kept) => {
             turn.kept = kept;
             turn.is_new = true;
             Ok(true)
         }
-        Ok(None) => Ok(false),
-        Err(e) => Err(Failure::from(e)),
+        None => Ok(false),
     }
 }
 

@@ -1,11 +1,18 @@
--- The calls of lines, one line after another.
-use Rattle.std.proofs.Common.{◌≡◌, ℕ, zero, suc, ◌+◌, ◌<◌, ◌≤◌, List, [], ◌∷◌, length, drop, get_or, map as list_map, Option, Result, Ok, Err, refl, sym, ap, ◌∙◌, arith}
+-- The calls of lines and the text of those that have one, one line after another.
+use Rattle.std.proofs.Common.{◌≡◌, ℕ, zero, suc, ◌+◌, ◌<◌, ◌≤◌, Bool, cond, List, [], ◌∷◌, ◌++◌, length, take, drop, get_or, map as list_map, Option, Some, None, Result, Ok, Err, refl, sym, ap, ◌∙◌, arith}
+use Rattle.std.proofs.Math.Seq.{take-suc}
+use Rattle.std.proofs.lemmas.List.{append-nil, take_all}
+use Rattle.std.proofs.lemmas.List.Elements.{filter-append}
+use Rattle.std.specs.List.{filter}
 use Rattle.link_tree.specs.Inventory.{◌>>=◌}
 use Rattle.unit_script.specs.declared.call.Call.{Call}
 use Rattle.unit_script.specs.declared.reason.Reason.{Reason}
 use Rattle.unit_script.specs.Script.{with_call}
 use Rattle.unit_script.proofs.WordLists.{left_more}
-use Rattle.kept_runs.specs.Lines.{call_of, at_line, calls_onto}
+use Rattle.script_words.specs.Words.{lines_text}
+use Rattle.kept_rows.proofs.LineTexts.{lines_text_append}
+use Rattle.kept_runs.specs.Lines.{call_of, is_call, has_call, at_line, calls_onto}
+use Rattle.kept_runs.proofs.Alike.{map-push}
 
 pub line_adds : (calls : List Call) (number : ℕ) (line : List ℕ) (call : Option Call) → call_of line ≡ Ok call → (more : List (List ℕ))
     → calls_onto calls number (line ∷ more) ≡ calls_onto (with_call calls call) (number + 1) more
@@ -43,3 +50,27 @@ module _ {X : Type 0} (f : X → List ℕ) (xs : List X) (all : Result (List Cal
 
   pub all_read : (calls : List Call) → length xs ≤ i → LeadsToAll calls → all ≡ Ok calls
   all_read calls over h = sym h ∙ ap (λ left. calls_onto calls (i + 1) (list_map f left)) (drop_none i xs over) ∙ no_more calls (i + 1)
+
+-- a line without a call adds nothing to the text
+pub adds_none : (text line : List ℕ) → call_of line ≡ Ok None → text ≡ text ++ lines_text (filter has_call (line ∷ []))
+adds_none text line none = sym (ap (λ (b : Bool). text ++ lines_text (cond b (line ∷ []) [])) (ap is_call none) ∙ append-nil text)
+
+pub adds_line : (text new line : List ℕ) (call : Call) → call_of line ≡ Ok (Some call) → new ≡ text ++ lines_text (line ∷ []) → new ≡ text ++ lines_text (filter has_call (line ∷ []))
+adds_line text new line call some is = is ∙ sym (ap (λ (b : Bool). text ++ lines_text (cond b (line ∷ []) [])) (ap is_call some))
+
+module _ {X : Type 0} (f : X → List ℕ) (xs : List X) where
+  -- This is the text of those of the first i lines that have a call.
+  abbrev pub IsTextOf : ℕ → List ℕ → Type 0
+  IsTextOf i text = text ≡ lines_text (filter has_call (list_map f (take i xs)))
+
+  pub one_more_line : (i : ℕ) (d : X) (text new : List ℕ) → i < length xs → IsTextOf i text → new ≡ text ++ lines_text (filter has_call (f (get_or xs i d) ∷ [])) → IsTextOf (i + 1) new
+  one_more_line i d text new within before is =
+      let line : List ℕ = f (get_or xs i d) in
+      let next : suc i ≡ i + 1 = omega arith in
+      is ∙ ap (λ t. t ++ lines_text (filter has_call (line ∷ []))) before
+      ∙ sym (lines_text_append (filter has_call (list_map f (take i xs))) (filter has_call (line ∷ [])))
+      ∙ ap lines_text (sym (filter-append has_call (list_map f (take i xs)) (line ∷ [])))
+      ∙ ap (λ lines. lines_text (filter has_call lines)) (sym (map-push f (take i xs) (get_or xs i d)) ∙ ap (list_map f) (sym (take-suc xs i d within) ∙ ap (λ n. take n xs) next))
+
+  pub text_of_all : (i : ℕ) (text : List ℕ) → length xs ≤ i → IsTextOf i text → text ≡ lines_text (filter has_call (list_map f xs))
+  text_of_all i text over is = is ∙ ap (λ those. lines_text (filter has_call (list_map f those))) (take_all i xs over)

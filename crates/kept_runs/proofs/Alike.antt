@@ -1,13 +1,21 @@
--- Lists that are alike in what is shown of each element.
-use Rattle.std.proofs.Common.{◌≡◌, ℕ, zero, suc, ◌+◌, ◌<◌, ◌≤◌, List, [], ◌∷◌, ◌++◌, length, take, get_or, map as list_map, refl, sym, ap, ◌∙◌, arith}
+-- Lists of which the first elements are alike, or have something in common.
+use Rattle.std.proofs.Common.{◌≡◌, ℕ, zero, suc, ◌+◌, ◌<◌, ◌≤◌, List, [], ◌∷◌, ◌++◌, length, take, get_or, map as list_map, All, refl, sym, ap, subst, ◌∙◌, arith}
 use Rattle.std.proofs.Math.Seq.{take-suc}
 use Rattle.std.proofs.lemmas.List.{take_all}
+use Rattle.std.proofs.lemmas.List.Elements.{All-append, All-cons, All-nil}
 
 -- the first elements, with one more
-one_longer : {X : Type 0} (xs : List X) (i : ℕ) (x : X) → x ≡ get_or xs i x → i < length xs → take (i + 1) xs ≡ take i xs ++ x ∷ []
+pub one_longer : {X : Type 0} (xs : List X) (i : ℕ) (x : X) → x ≡ get_or xs i x → i < length xs → take (i + 1) xs ≡ take i xs ++ x ∷ []
 one_longer xs i x is within = let next : i + 1 ≡ suc i = omega arith in ap (λ n. take n xs) next ∙ take-suc xs i x within ∙ ap (λ y. take i xs ++ y ∷ []) (sym is)
 
-map-push : {X Y : Type 0} (f : X → Y) (xs : List X) (x : X) → list_map f (xs ++ x ∷ []) ≡ list_map f xs ++ f x ∷ []
+module _ {X : Type 0} (P : X → Type 0) (xs : List X) (i : ℕ) where
+  pub all_and_next : (x : X) → x ≡ get_or xs i x → i < length xs → All P (take i xs) → P x → All P (take (i + 1) xs)
+  all_and_next x is within before here = subst (All P) (sym (one_longer xs i x is within)) (All-append P (take i xs) (x ∷ []) before (All-cons P x [] here (All-nil P)))
+
+  pub all_at_end : length xs ≤ i → All P (take i xs) → All P xs
+  all_at_end over before = subst (All P) (take_all i xs over) before
+
+pub map-push : {X Y : Type 0} (f : X → Y) (xs : List X) (x : X) → list_map f (xs ++ x ∷ []) ≡ list_map f xs ++ f x ∷ []
 map-push f [] x = refl
 map-push f (y ∷ ys) x = ap (λ rest. f y ∷ rest) (map-push f ys x)
 

@@ -4,3 +4,6 @@ pub mod Adding
 pub mod Told
 pub mod Writes
 pub mod Whole
+pub mod Ruled
+pub mod Moving
+pub mod Accepted

@@ -1,4 +1,6 @@
--- Errors that come of others.
+-- Errors that other errors become.
+use Rattle.history.specs.declared.history.CallError.{CallError}
+use Rattle.history.specs.declared.history.CallError.TheVariants as calls
 use Rattle.kept_texts.specs.declared.faults.TextError.{TextError}
 use Rattle.kept_texts.specs.declared.faults.TextError.TheVariants as texts
 use Rattle.unit_script.specs.declared.run_fault.InputError.{InputError}
@@ -22,6 +24,10 @@ of_input (inputs.Fault fault) = keeps.Input fault
 of_input (inputs.InventoryRead n) = keeps.OutOfMemory
 of_input inputs.ReadFault = keeps.OutOfMemory
 of_input inputs.OutOfMemory = keeps.OutOfMemory
+
+abbrev pub of_call : CallError → MakeError
+of_call calls.Full = makes.Full
+of_call calls.OutOfMemory = makes.OutOfMemory
 
 abbrev pub others_of : MakeError → OthersError
 others_of makes.TooManyLines = others.TooManyLines

@@ -2,7 +2,7 @@
 ghost use Rattle.std.specs.Prelude.{◌≡◌};
 
 use history::CallError;
-use kept_texts::{LineFault, PushError, TextError};
+use kept_texts::{LineFault, TextError};
 use link_tree::TreePath;
 use std::alloc::{AllocError, AllocFailed};
 use thiserror::Error;
@@ -164,26 +164,24 @@ pub(crate) enum MakeError {
 }
 
 impl From<AllocError> for MakeError {
+    ghost use Rattle.kept_runs.specs.declared.errors.MakeError.TheVariants as makes;
+
+    ghost from_gives = { λ _ e. e ≡ makes.OutOfMemory };
+
     fn from(_e: AllocError) -> MakeError {
         MakeError::OutOfMemory
     }
 }
 
 impl From<CallError> for MakeError {
+    ghost use Rattle.kept_runs.specs.Faults.{of_call};
+
+    ghost from_gives = { λ error e. e ≡ of_call error };
+
     fn from(error: CallError) -> MakeError {
         match error {
             CallError::Full => MakeError::Full,
             CallError::OutOfMemory => MakeError::OutOfMemory,
-        }
-    }
-}
-
-impl From<PushError> for MakeError {
-    fn from(error: PushError) -> MakeError {
-        match error {
-            // Only lines of calls are appended.
-            PushError::BadLines | PushError::TooManyLines => MakeError::TooManyLines,
-            PushError::OutOfMemory => MakeError::OutOfMemory,
         }
     }
 }

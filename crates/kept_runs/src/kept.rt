@@ -1,5 +1,5 @@
 //! A history with its text.
-ghost use Rattle.std.specs.Prelude.{◌≡◌, ◌≤◌, true, false, [], length, IfOk, OnOk, OnErr};
+ghost use Rattle.std.specs.Prelude.{◌≡◌, ◌≢◌, ◌<◌, ◌≤◌, ◌+◌, true, false, [], Err, length, IfOk, OnOk, OnErr};
 ghost use Rattle.std.specs.Coded.{codes};
 ghost use Rattle.std.specs.FinMap as map;
 ghost use Rattle.link_tree.specs.Trees.{path_cmp};
@@ -8,19 +8,20 @@ ghost use Rattle.unit_file.specs.Notices.{line_cmp};
 ghost use Rattle.unit_file.specs.declared.notice.Notice.{Notice};
 ghost use Rattle.history.specs.Rows.{rows_after};
 ghost use Rattle.unit_script.specs.Actions.{asks, meaning};
-ghost use Rattle.unit_script.specs.Machine.{asked};
+ghost use Rattle.unit_script.specs.Machine.{asked, replay};
 ghost use Rattle.kept_rows.specs.Others.{rows_with};
-ghost use Rattle.kept_texts.specs.Texts.{begun_parts, begun_text, Is};
-ghost use Rattle.kept_runs.specs.Texts.{SaysIf};
-ghost use Rattle.kept_runs.specs.Runs.{is_kept, added};
+ghost use Rattle.kept_texts.specs.Texts.{are_call_lines, begun_parts, begun_text, Is};
+ghost use Rattle.kept_runs.specs.Texts.{Says, SaysIf};
+ghost use Rattle.kept_runs.specs.Runs.{is_kept, is_appended, added, IsAppended, IsTooLong};
+ghost use Rattle.kept_runs.specs.declared.errors.MakeError.TheVariants as makes;
 
-use crate::errors::{KeptError, MakeError};
+use crate::errors::MakeError;
 use crate::keeping::KeepIf;
 use crate::saying::says;
 use history::{History, Request};
-use kept_texts::{Header, KeptText, RunWords};
+use kept_texts::{Header, KeptText, PushError, RunWords};
 use link_tree::Tree;
-use std::alloc::Global;
+use std::alloc::{AllocError, Global};
 use unit_script::{Action, Call};
 
 /// The text of a history, and the rows of its calls.
@@ -37,10 +38,14 @@ pub struct Kept {
     ghost says: { SaysIf is_written text.bytes.items history.first history.rows } by { Prim.hlevel (codes, map.code {R = path_cmp} coded_path coded_entry, map.code {X = Notice} {R = line_cmp} coded_path (Prim.hlevel codes)) },
 }
 
-/// Makes one call.
+/// Makes one call. If it has no row, the history is as it was.
 fn make_call(history: &mut History<Action>, alloc: Global, call: Call) -> Result<(), MakeError>
     ensures first { history.new.first ≡ history.old.first }
+    ensures limit { history.new.limit ≡ history.old.limit }
     ensures rows { OnOk result (history.new.rows ≡ rows_after asks meaning history.old.first history.old.rows (asked call)) }
+    ensures err { OnErr result (history.new ≡ history.old) }
+    ensures full { result ≡ Err makes.Full → length history.old.rows ≡ history.old.limit }
+    ensures many { result ≢ Err makes.TooManyLines }
 {
     let Call { operator, request } = call;
     match request {
@@ -66,8 +71,11 @@ fn make_each(
     calls: Vec<Call>,
 ) -> Result<(), MakeError>
     ensures first { history.new.first ≡ history.old.first }
+    ensures limit { history.new.limit ≡ history.old.limit }
     ensures rows { OnOk result (history.new.rows ≡ rows_with history.old.first history.old.rows calls.items) }
     ensures more { OnOk result (length history.old.rows ≤ length history.new.rows) }
+    ensures full { result ≡ Err makes.Full → history.old.limit < length history.old.rows + length calls.items }
+    ensures many { result ≢ Err makes.TooManyLines }
 {
     for call in calls {
         make_call(history, alloc, call)?;
@@ -76,12 +84,11 @@ fn make_each(
 }
 
 impl Kept {
-    /// A history without calls, which begins with this tree.
-    ///
-    /// Errors: `OutOfMemory`.
-    pub fn begin(alloc: Global, first: Tree, header: Header) -> Result<Kept, KeptError>
+    /// A history without calls, which begins with this tree. Fails only if memory runs out.
+    pub fn begin(alloc: Global, first: Tree, header: Header) -> Result<Kept, AllocError>
         ensures rows { IfOk result (λ kept. kept.history ≡ record { first = first; rows = []; limit = 1000000 }) }
         ensures text { IfOk result (λ kept. Is kept.text (begun_text first header) (begun_parts first header)) }
+        ensures said { IfOk result (λ kept. Says kept.text.bytes.items first [] → kept.is_written ≡ true) }
     {
         let text = KeptText::begin(alloc, &first, header)?;
         let history = History::new(alloc, first)?;
@@ -116,11 +123,21 @@ impl Kept {
 
     /// Appends a run of the last rows, and reads the text again.
     fn push_run(&mut self, alloc: Global, lines: &[u8], words: &RunWords) -> Result<(), MakeError>
+        requires lines { are_call_lines lines.now ≡ true }
         ensures history { self.new.history ≡ self.old.history }
+        ensures appended { OnOk result (IsAppended self.old.text self.new.text words.now lines.now (replay self.old.history.first self.old.history.rows)) }
+        ensures said { OnOk result (Says self.new.text.bytes.items self.old.history.first self.old.history.rows → self.new.is_written ≡ true) }
         ensures err { OnErr result (self.new.is_written ≡ false) }
+        ensures full { result ≢ Err makes.Full }
+        ensures many { result ≡ Err makes.TooManyLines → IsTooLong self.old.text words.now lines.now (replay self.old.history.first self.old.history.rows) }
     {
         self.is_written = false;
-        self.text.push_run(words, lines, self.history.tree())?;
+        match self.text.push_run(words, lines, self.history.tree()) {
+            Ok(()) => {}
+            Err(PushError::BadLines) => unreachable!(),
+            Err(PushError::TooManyLines) => return Err(MakeError::TooManyLines),
+            Err(PushError::OutOfMemory) => return Err(MakeError::OutOfMemory),
+        }
         self.is_written = says(alloc, self.text.bytes(), &self.history)?;
         Ok(())
     }
@@ -128,8 +145,11 @@ impl Kept {
     /// Makes calls. No text is changed.
     fn make_each(&mut self, alloc: Global, calls: Vec<Call>) -> Result<(), MakeError>
         ensures first { self.new.history.first ≡ self.old.history.first }
+        ensures limit { self.new.history.limit ≡ self.old.history.limit }
         ensures rows { OnOk result (self.new.history.rows ≡ rows_with self.old.history.first self.old.history.rows calls.items) }
         ensures more { OnOk result (length self.old.history.rows ≤ length self.new.history.rows) }
+        ensures full { result ≡ Err makes.Full → self.old.history.limit < length self.old.history.rows + length calls.items }
+        ensures many { result ≢ Err makes.TooManyLines }
         ensures text { self.new.text ≡ self.old.text }
         ensures written { self.new.is_written ≡ false }
     {
@@ -147,12 +167,18 @@ impl Kept {
         words: &RunWords,
         keep_if: KeepIf,
     ) -> Result<usize, MakeError>
+        requires lines { are_call_lines lines.now ≡ true }
         ensures first { self.new.history.first ≡ self.old.history.first }
+        ensures limit { self.new.history.limit ≡ self.old.history.limit }
         ensures rows { OnOk result (self.new.history.rows ≡ rows_with self.old.history.first self.old.history.rows calls.items) }
         ensures count { IfOk result (λ n. n ≡ length (added self.old.history.rows self.new.history.rows)) }
         ensures before { self.new.is_written ≡ true → self.old.is_written ≡ true }
         ensures kept { OnOk result (self.new.is_written ≡ true → is_kept keep_if (added self.old.history.rows self.new.history.rows) ≡ true) }
-        ensures left { OnOk result (is_kept keep_if (added self.old.history.rows self.new.history.rows) ≡ false → self.new.text ≡ self.old.text) }
+        ensures left { OnOk result (is_appended self.old.is_written keep_if (added self.old.history.rows self.new.history.rows) ≡ false → self.new.text ≡ self.old.text) }
+        ensures appended { OnOk result (is_appended self.old.is_written keep_if (added self.old.history.rows self.new.history.rows) ≡ true → IsAppended self.old.text self.new.text words.now lines.now (replay self.new.history.first self.new.history.rows)) }
+        ensures said { OnOk result (is_appended self.old.is_written keep_if (added self.old.history.rows self.new.history.rows) ≡ true → Says self.new.text.bytes.items self.new.history.first self.new.history.rows → self.new.is_written ≡ true) }
+        ensures full { result ≡ Err makes.Full → self.old.history.limit < length self.old.history.rows + length calls.items }
+        ensures many { result ≡ Err makes.TooManyLines → (self.new.history.rows ≡ rows_with self.old.history.first self.old.history.rows calls.items) × IsTooLong self.old.text words.now lines.now (replay self.new.history.first self.new.history.rows) }
     {
         let before = self.history.rows().len();
         let was_written = self.is_written;

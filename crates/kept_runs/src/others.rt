@@ -1,10 +1,14 @@
 //! What others did since the last run.
-ghost use Rattle.std.specs.Prelude.{◌≡◌, ◌≢◌, ℕ, List, [], Err, true, length, IfOk, IfErr, OnOk};
+ghost use Rattle.std.specs.Prelude.{◌≡◌, ◌≢◌, ◌<◌, ◌+◌, ℕ, List, [], Err, true, false, length, All, IfOk, IfErr, OnOk};
+ghost use Rattle.kept_rows.specs.Lines.{CanBeWritten, lines_of_others};
 ghost use Rattle.kept_rows.specs.Others.{calls_of_others, rows_with, rows_with_others};
+ghost use Rattle.script_words.specs.Words.{lines_text};
 ghost use Rattle.tree_steps.specs.Steps.{slot_changes_between};
 ghost use Rattle.unit_script.specs.Machine.{replay};
-ghost use Rattle.kept_runs.specs.Runs.{added};
-ghost use Rattle.kept_runs.specs.Others.{IsNotWritable};
+ghost use Rattle.kept_runs.specs.declared.keeping.KeepIf.TheVariants as keeps;
+ghost use Rattle.kept_runs.specs.Runs.{added, is_appended, IsAppended, IsTooLong};
+ghost use Rattle.kept_runs.specs.Texts.{Says};
+ghost use Rattle.kept_runs.specs.Others.{IsNotWritable, others_text};
 ghost use Rattle.kept_runs.specs.declared.errors.OthersError.TheVariants as others;
 
 use crate::errors::OthersError;
@@ -18,7 +22,9 @@ use tree_steps::slot_changes_between;
 
 /// Refuses a change that no line can say.
 fn check_all(alloc: Global, changes: &[Change]) -> Result<(), OthersError>
-    ensures { IfErr result (λ e. IsNotWritable e changes.now) }
+    ensures all { OnOk result (All CanBeWritten changes.now) }
+    ensures fault { IfErr result (λ e. IsNotWritable e changes.now) }
+    ensures other { IfErr result (λ e. (e ≢ others.Full) × (e ≢ others.TooManyLines)) }
 {
     for change in changes {
         if !can_be_written(alloc, change)? {
@@ -36,10 +42,17 @@ impl Kept {
         changes: &[Change],
         words: &RunWords,
     ) -> Result<usize, OthersError>
+        requires writable { All CanBeWritten changes.now }
         ensures first { self.new.history.first ≡ self.old.history.first }
+        ensures limit { self.new.history.limit ≡ self.old.history.limit }
         ensures rows { OnOk result (self.new.history.rows ≡ rows_with self.old.history.first self.old.history.rows (calls_of_others changes.now)) }
         ensures count { IfOk result (λ n. n ≡ length (added self.old.history.rows self.new.history.rows)) }
         ensures before { self.new.is_written ≡ true → self.old.is_written ≡ true }
+        ensures left { OnOk result (is_appended self.old.is_written keeps.NoneRefused (added self.old.history.rows self.new.history.rows) ≡ false → self.new.text ≡ self.old.text) }
+        ensures appended { OnOk result (is_appended self.old.is_written keeps.NoneRefused (added self.old.history.rows self.new.history.rows) ≡ true → IsAppended self.old.text self.new.text words.now (lines_text (lines_of_others changes.now)) (replay self.new.history.first self.new.history.rows)) }
+        ensures said { OnOk result (is_appended self.old.is_written keeps.NoneRefused (added self.old.history.rows self.new.history.rows) ≡ true → Says self.new.text.bytes.items self.new.history.first self.new.history.rows → self.new.is_written ≡ true) }
+        ensures full { result ≡ Err others.Full → self.old.history.limit < length self.old.history.rows + length (calls_of_others changes.now) }
+        ensures many { result ≡ Err others.TooManyLines → (self.new.history.rows ≡ rows_with self.old.history.first self.old.history.rows (calls_of_others changes.now)) × IsTooLong self.old.text words.now (lines_text (lines_of_others changes.now)) (replay self.new.history.first self.new.history.rows) }
         ensures fault { IfErr result (λ e. IsNotWritable e changes.now) }
         ensures written { (path : List ℕ) → result ≢ Err (others.NotWritable path) }
     {
@@ -59,8 +72,12 @@ impl Kept {
     /// # Errors
     ///
     /// - `NotWritable`: no line can say what others did at this path. Nothing was changed.
-    /// - `TooManyLines`, `Full`, `OutOfMemory`. Rows may have been added that the text doesn't
-    ///   have.
+    /// - `Full`: with these rows, the history would have more than it may have.
+    /// - `TooManyLines`: with their lines, the text would have over 2,000,000 lines. All rows were
+    ///   added.
+    /// - `OutOfMemory`.
+    ///
+    /// Except after `NotWritable`, rows may have been added that the text doesn't have.
     pub fn take_in_others(
         &mut self,
         alloc: Global,
@@ -68,9 +85,15 @@ impl Kept {
         words: &RunWords,
     ) -> Result<usize, OthersError>
         ensures first { self.new.history.first ≡ self.old.history.first }
+        ensures limit { self.new.history.limit ≡ self.old.history.limit }
         ensures rows { OnOk result (self.new.history.rows ≡ rows_with_others self.old.history.first self.old.history.rows captured.now) }
         ensures count { IfOk result (λ n. n ≡ length (added self.old.history.rows self.new.history.rows)) }
         ensures before { self.new.is_written ≡ true → self.old.is_written ≡ true }
+        ensures left { OnOk result (is_appended self.old.is_written keeps.NoneRefused (added self.old.history.rows self.new.history.rows) ≡ false → self.new.text ≡ self.old.text) }
+        ensures appended { OnOk result (is_appended self.old.is_written keeps.NoneRefused (added self.old.history.rows self.new.history.rows) ≡ true → IsAppended self.old.text self.new.text words.now (others_text self.old.history.first self.old.history.rows captured.now) (replay self.new.history.first self.new.history.rows)) }
+        ensures said { OnOk result (is_appended self.old.is_written keeps.NoneRefused (added self.old.history.rows self.new.history.rows) ≡ true → Says self.new.text.bytes.items self.new.history.first self.new.history.rows → self.new.is_written ≡ true) }
+        ensures full { result ≡ Err others.Full → self.old.history.limit < length self.old.history.rows + length (calls_of_others (slot_changes_between (replay self.old.history.first self.old.history.rows) captured.now)) }
+        ensures many { result ≡ Err others.TooManyLines → (self.new.history.rows ≡ rows_with_others self.old.history.first self.old.history.rows captured.now) × IsTooLong self.old.text words.now (others_text self.old.history.first self.old.history.rows captured.now) (replay self.new.history.first self.new.history.rows) }
         ensures fault { IfErr result (λ e. IsNotWritable e (slot_changes_between (replay self.old.history.first self.old.history.rows) captured.now)) }
         ensures refused { (path : List ℕ) → result ≡ Err (others.NotWritable path) → self.new ≡ self.old }
         ensures none { slot_changes_between (replay self.old.history.first self.old.history.rows) captured.now ≡ [] → self.new ≡ self.old }

@@ -33,12 +33,26 @@ fn are_rows_on(first: &Tree, rows: &History<Action>, history: &History<Action>) 
 
 impl Kept {
     /// The text with another first tree, if it has equal rows.
-    fn with_first(&self, alloc: Global, first: &Tree) -> Result<Option<Kept>, KeptError>
+    fn with_first(&self, alloc: Global, first: &Tree) -> Result<Option<Kept>, AllocError>
         ensures none { IfOk result (λ found. found ≡ None → ShowsAlike (text_with self.now.text first.now) first.now self.now.history.rows → ⊥) }
+        ensures text { IfOk result (λ found. IfSome found (λ kept. kept.text.bytes.items ≡ text_with self.now.text first.now)) }
+        ensures limit { IfOk result (λ found. IfSome found (λ kept. kept.history.limit ≡ 1000000)) }
         ensures some { IfOk result (λ found. IfSome found (λ kept. (kept.is_written ≡ true) × (first.now ≡ kept.history.first) × (all_shown self.now.history.rows ≡ all_shown kept.history.rows))) }
     {
         let text = self.text.with_first(alloc, first)?;
-        let history = history_of_text(alloc, text.bytes())?;
+        let history = match history_of_text(alloc, text.bytes()) {
+            Ok(history) => history,
+            Err(KeptError::OutOfMemory) => return Err(AllocError),
+            Err(KeptError::Input(_)) => return Ok(None),
+            Err(KeptError::Full) => {
+                // It has more rows than this history, which may have no more than that.
+                let _rows = self.history.rows();
+                return Ok(None);
+            }
+            Err(KeptError::Text(..)) => unreachable!(),
+            Err(KeptError::RulesDiffer { .. }) => unreachable!(),
+            Err(KeptError::TreeDiffers { .. }) => unreachable!(),
+        };
         if are_rows_on(first, &self.history, &history) {
             Ok(Some(Kept {
                 text,
@@ -52,11 +66,11 @@ impl Kept {
 
     /// The same rows on a first tree that has, at paths that are no slots, what was captured. The
     /// result is `None` if a row would have another operator, request or reply, or other changes,
-    /// or if that tree would have over 65,536 entries.
-    ///
-    /// Errors: `OutOfMemory`.
-    pub fn rebased(&self, alloc: Global, captured: &Tree) -> Result<Option<Kept>, KeptError>
+    /// or if that tree would have over 65,536 entries. Fails only if memory runs out.
+    pub fn rebased(&self, alloc: Global, captured: &Tree) -> Result<Option<Kept>, AllocError>
         ensures none { IfOk result (λ found. found ≡ None → CannotMove self.now.text (with_slots_of captured.now self.now.history.first) self.now.history.rows) }
+        ensures text { IfOk result (λ found. IfSome found (λ kept. kept.text.bytes.items ≡ text_with self.now.text (with_slots_of captured.now self.now.history.first))) }
+        ensures limit { IfOk result (λ found. IfSome found (λ kept. kept.history.limit ≡ 1000000)) }
         ensures some { IfOk result (λ found. IfSome found (λ kept. (kept.is_written ≡ true) × (with_slots_of captured.now self.now.history.first ≡ kept.history.first) × (all_shown self.now.history.rows ≡ all_shown kept.history.rows))) }
     {
         let first = first_with(alloc, self.history.first(), captured)?;

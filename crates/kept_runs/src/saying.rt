@@ -11,14 +11,16 @@ use tree_steps::are_same;
 use unit_script::{Action, Call, Input, InputError, read_input};
 
 fn is_call_of(row: &Row<Action>, call: &Call) -> bool
-    ensures { result ≡ true → requested row.now ≡ asked call.now }
+    ensures yes { result ≡ true → requested row.now ≡ asked call.now }
+    ensures no { requested row.now ≡ asked call.now → result ≡ true }
 {
     row.operator.text() == call.operator.text() && row.request.same(&call.request)
 }
 
 /// Whether these are the calls of the rows.
 fn are_calls_of(rows: &[Row<Action>], calls: &[Call]) -> bool
-    ensures { result ≡ true → list_map requested rows.now ≡ list_map asked calls.now }
+    ensures yes { result ≡ true → list_map requested rows.now ≡ list_map asked calls.now }
+    ensures no { list_map requested rows.now ≡ list_map asked calls.now → result ≡ true }
 {
     if rows.len() != calls.len() {
         return false;
@@ -33,7 +35,8 @@ fn are_calls_of(rows: &[Row<Action>], calls: &[Call]) -> bool
 
 /// Whether an input has the first tree of a history and a call for each of its rows.
 fn is_input_of(input: &Input, history: &History<Action>) -> bool
-    ensures { result ≡ true → (text : List ℕ) → input_of text ≡ Ok (input.now.tree, input.now.calls.items) → Says text history.now.first history.now.rows }
+    ensures yes { result ≡ true → (text : List ℕ) → input_of text ≡ Ok (input.now.tree, input.now.calls.items) → Says text history.now.first history.now.rows }
+    ensures no { (text : List ℕ) → input_of text ≡ Ok (input.now.tree, input.now.calls.items) → Says text history.now.first history.now.rows → result ≡ true }
 {
     if !are_same(&input.tree, history.first()) {
         return false;
@@ -48,11 +51,15 @@ pub(crate) fn says(
     text: &[u8],
     history: &History<Action>,
 ) -> Result<bool, AllocError>
-    ensures { IfOk result (λ says. SaysIf says text.now history.now.first history.now.rows) }
+    ensures yes { IfOk result (λ says. SaysIf says text.now history.now.first history.now.rows) }
+    ensures no { IfOk result (λ says. Says text.now history.now.first history.now.rows → says ≡ true) }
 {
     match read_input(alloc, &mut FromRead::new(text)) {
         Ok(input) => Ok(is_input_of(&input, history)),
-        Err(InputError::OutOfMemory) => Err(AllocError),
-        Err(_) => Ok(false),
+        Err(InputError::Fault(_)) => Ok(false),
+        // A text in memory never fails to be read.
+        Err(InputError::InventoryRead(_) | InputError::ReadFault | InputError::OutOfMemory) => {
+            Err(AllocError)
+        }
     }
 }

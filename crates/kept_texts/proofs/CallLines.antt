@@ -1,14 +1,15 @@
--- Lines that can be appended as a run are lines of calls, each with its end.
-use Rattle.std.proofs.Common.{◌≡◌, ◌-◌, ◌==◌, ◌&&◌, ◌||◌, ℕ, suc, Bool, true, false, List, [], ◌∷◌, ◌++◌, codes, length, drop, refl, sym, ap, subst, ◌∙◌, arith, inl, inr}
+-- The lines that can be appended as a run are lines of calls, each with its end.
+use Rattle.std.proofs.Common.{◌≡◌, ◌-◌, ◌==◌, ◌&&◌, ◌||◌, ℕ, suc, Bool, true, false, List, [], ◌∷◌, ◌++◌, codes, length, drop, refl, sym, ap, subst, ◌∙◌, append_assoc, arith, inl, inr}
 use Rattle.std.specs.Prelude.{not, nat_eq}
 use Rattle.std.specs.List.{list_all, list_any, slice_split, onto_first, ends_with}
-use Rattle.std.proofs.lemmas.Bool.{and_parts, cases_Bool, false≢true, eqb-true}
+use Rattle.std.specs.Str.{bytes_eq}
+use Rattle.std.proofs.lemmas.Bool.{and_parts, and_from, cases_Bool, false≢true, eqb-true}
 use Rattle.script_words.specs.Words.{is_line_byte, lines_text}
 use Rattle.kept_texts.specs.Readings.{is_line_end}
 use Rattle.kept_texts.specs.Texts.{begins_comment, are_whole, are_call_lines}
-use Rattle.kept_texts.specs.Laws.{is_call_line, CallLinesAreLines}
-use Rattle.kept_texts.proofs.PartBytes.{same_bytes}
-use Rattle.kept_texts.proofs.LineSplits.{last, are_lines}
+use Rattle.kept_texts.specs.Laws.{is_call_line, CallLinesAreLines, LinesAreCallLines}
+use Rattle.kept_texts.proofs.PartBytes.{bytes_same, same_bytes}
+use Rattle.kept_texts.proofs.LineSplits.{last, are_lines, split_line, last_end}
 
 -- a text is these lines, each with its end
 record AreLines (text : List ℕ) (lines : List (List ℕ)) : Type 0 where
@@ -105,3 +106,38 @@ call_lines_are_lines text is =
     let found = whole text parts.0 in
     let none : list_any begins_comment (slice_split is_line_end text) ≡ false = of_not (list_any begins_comment (slice_split is_line_end text)) parts.1 in
     (found.0, found.1.is, calls_only found.0 found.1.clean (sym (ap (list_any begins_comment) found.1.split) ∙ none))
+
+-- with the end of the last line, an empty part comes last
+split_all : (lines : List (List ℕ)) → are_lines lines ≡ true → slice_split is_line_end (lines_text lines) ≡ lines ++ [] ∷ []
+split_all [] are = refl
+split_all (line ∷ lines) are =
+    let parts = and_parts (list_all is_line_byte line) (are_lines lines) are in
+    ap (slice_split is_line_end) (append_assoc line (codes "\n") (lines_text lines))
+    ∙ split_line line (lines_text lines) parts.0
+    ∙ ap (λ (ls : List (List ℕ)). line ∷ ls) (split_all lines parts.1)
+
+text_is_whole : (lines : List (List ℕ)) → are_whole (lines_text lines) ≡ true
+unfolding last
+text_is_whole [] = refl
+text_is_whole (line ∷ lines) =
+    or_last (length (lines_text (line ∷ lines)) == 0) (ends_with nat_eq (lines_text (line ∷ lines)) (codes "\n"))
+    (ap (bytes_eq (codes "\n")) (last_end line lines) ∙ bytes_same (codes "\n"))
+  where
+    or_last : (a b : Bool) → b ≡ true → (a || b) ≡ true
+    or_last true b h = refl
+    or_last false b h = h
+
+clean_lines : (lines : List (List ℕ)) → list_all is_call_line lines ≡ true → (are_lines lines ≡ true) × (list_any begins_comment (lines ++ [] ∷ []) ≡ false)
+clean_lines [] are = (refl, refl)
+clean_lines (line ∷ lines) are =
+    let parts = and_parts (is_call_line line) (list_all is_call_line lines) are in
+    let here = and_parts (list_all is_line_byte line) (not (begins_comment line)) parts.0 in
+    let rest = clean_lines lines parts.1 in
+    (and_from (list_all is_line_byte line) (are_lines lines) here.0 rest.0, rw (of_not (begins_comment line) here.1) rest.1)
+
+pub lines_are_call_lines : LinesAreCallLines
+unfolding are_call_lines
+lines_are_call_lines lines are =
+    let clean = clean_lines lines are in
+    and_from (are_whole (lines_text lines)) (not (list_any begins_comment (slice_split is_line_end (lines_text lines)))) (text_is_whole lines)
+    (ap (λ (ls : List (List ℕ)). not (list_any begins_comment ls)) (split_all lines clean.0) ∙ ap not clean.1)

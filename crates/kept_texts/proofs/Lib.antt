@@ -1,4 +1,4 @@
-mod CallLines
+pub mod CallLines
 mod LineReadings
 mod LineSplits
 mod LinesBack

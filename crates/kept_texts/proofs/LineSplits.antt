@@ -19,7 +19,7 @@ no_end b bs h =
     of_not true h = absurd (false≢true h)
     of_not false h = refl
 
-split_line : (line rest : List ℕ) → list_all is_line_byte line ≡ true → slice_split is_line_end (line ++ (codes "\n" ++ rest)) ≡ line ∷ slice_split is_line_end rest
+pub split_line : (line rest : List ℕ) → list_all is_line_byte line ≡ true → slice_split is_line_end (line ++ (codes "\n" ++ rest)) ≡ line ∷ slice_split is_line_end rest
 split_line [] rest h = refl
 split_line (b ∷ line) rest h = let here = no_end b line h in rw here.0 (rw (split_line line rest here.1) refl)
 
@@ -89,7 +89,7 @@ split_lines line (next ∷ lines) are =
     ∙ split_line line (init (lines_text (next ∷ lines))) parts.0
     ∙ ap (λ (ls : List (List ℕ)). line ∷ ls) (split_lines next lines parts.1)
 
-last_end : (line : List ℕ) (lines : List (List ℕ)) → last (lines_text (line ∷ lines)) ≡ codes "\n"
+pub last_end : (line : List ℕ) (lines : List (List ℕ)) → last (lines_text (line ∷ lines)) ≡ codes "\n"
 last_end line [] = ap last (append-nil (line ++ codes "\n")) ∙ last-append line (codes "\n") (omega arith) ∙ last_of_end
 last_end line (next ∷ lines) =
     last-append (line ++ codes "\n") (lines_text (next ∷ lines)) (line_length next (lines_text lines)) ∙ last_end next lines

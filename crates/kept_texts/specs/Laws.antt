@@ -74,7 +74,11 @@ TextsAreRead = (first : Entries) (header : Header) (runs : List Run)
     → read_text (begun_text first header ++ runs_text (begun_parts first header) runs)
     ≡ Ok (with_runs (begun_parts first header) runs)
 
--- Lines that can be appended as a run are lines of calls, each with its end.
+-- Lines that can be appended as a run are lines of calls, each with its end,
 abbrev pub CallLinesAreLines : Type 0
 CallLinesAreLines = (text : List ℕ) → are_call_lines text ≡ true
     → (lines : List (List ℕ)) × (text ≡ lines_text lines) × (list_all is_call_line lines ≡ true)
+
+-- and all lines of calls, each with its end, can be appended.
+abbrev pub LinesAreCallLines : Type 0
+LinesAreCallLines = (lines : List (List ℕ)) → list_all is_call_line lines ≡ true → are_call_lines (lines_text lines) ≡ true

@@ -1,5 +1,5 @@
 //! What holds of the texts of histories: each function does nothing, and its contract is the law.
-ghost use Rattle.kept_texts.specs.Laws.{HeadersAreRead, RunsAreRead, EndsAreRead, TextsAreRead, CallLinesAreLines};
+ghost use Rattle.kept_texts.specs.Laws.{HeadersAreRead, RunsAreRead, EndsAreRead, TextsAreRead, CallLinesAreLines, LinesAreCallLines};
 
 /// A header, and the first and the last line of a run, are read as the words for which they are
 /// written, and no other line is read as these words.
@@ -16,7 +16,8 @@ pub fn texts_are_read_back()
 {}
 
 /// The lines that `KeptText::push_run` accepts are lines of calls, each with its end, so that what
-/// it writes is read back.
+/// it writes is read back. It accepts all such lines.
 pub fn accepted_lines_are_lines()
-    ensures { CallLinesAreLines }
+    ensures lines { CallLinesAreLines }
+    ensures all { LinesAreCallLines }
 {}

@@ -210,10 +210,9 @@ fn rebased(alloc: Global) -> Result<Option<usize>, AllocError> {
     let first = entries(alloc, FIRST)?;
     let kept = with_runs(alloc, &first, &first)?;
     let today = entries(alloc, TODAY)?;
-    match kept.rebased(alloc, &today) {
-        Ok(Some(other)) => Ok(Some(other.history().first().len())),
-        Ok(None) => Ok(None),
-        Err(_) => Err(AllocError),
+    match kept.rebased(alloc, &today)? {
+        Some(other) => Ok(Some(other.history().first().len())),
+        None => Ok(None),
     }
 }
 

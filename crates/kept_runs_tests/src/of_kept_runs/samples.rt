@@ -20,8 +20,5 @@ pub(crate) fn begun(alloc: Global, first: &Tree) -> Result<Box<Kept>, AllocError
         id: [7; 16],
         root: label(alloc, b"/srv/a b")?,
     };
-    match Kept::begin(alloc, first.share()?, header) {
-        Ok(kept) => Ok(Box::new(alloc, kept)?),
-        Err(_) => Err(AllocError),
-    }
+    Ok(Box::new(alloc, Kept::begin(alloc, first.share()?, header)?)?)
 }
