@@ -1,4 +1,7 @@
 //! Errors of the directory of a history.
+ghost use Rattle.std.specs.Prelude.{◌≡◌};
+ghost use Rattle.real_roots.specs.declared.trouble.Trouble.TheVariants as troubles;
+ghost use Rattle.kept_roots.specs.declared.error.HistoryError.TheVariants as histories;
 
 use real_roots::Trouble;
 use std::alloc::{AllocError, AllocFailed, Global};
@@ -49,18 +52,24 @@ pub enum DirectoryFault {
 }
 
 impl From<Trouble> for HistoryError {
+    ghost from_gives = { λ trouble e. e ≡ histories.Trouble trouble };
+
     fn from(trouble: Trouble) -> HistoryError {
         HistoryError::Trouble(trouble)
     }
 }
 
 impl From<AllocError> for HistoryError {
+    ghost from_gives = { λ _ e. e ≡ histories.Trouble troubles.OutOfMemory };
+
     fn from(_e: AllocError) -> HistoryError {
         HistoryError::Trouble(Trouble::OutOfMemory)
     }
 }
 
 impl<T: Drop> From<AllocFailed<T>> for HistoryError {
+    ghost from_gives = { λ _ e. e ≡ histories.Trouble troubles.OutOfMemory };
+
     fn from(_e: AllocFailed<T>) -> HistoryError {
         HistoryError::Trouble(Trouble::OutOfMemory)
     }

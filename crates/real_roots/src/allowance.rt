@@ -1,6 +1,6 @@
 //! How much a run may read from a root.
-ghost use Rattle.std.specs.Prelude.{◌≡◌, ◌*◌, true, false, OnOk, OnErr};
-ghost use Rattle.real_roots.specs.Allowances.{is_allowed, left_after};
+ghost use Rattle.std.specs.Prelude.{◌≡◌, ◌*◌, true, false, OnOk, OnErr, IfErr};
+ghost use Rattle.real_roots.specs.Allowances.{is_allowed, left_after, IsTooMuch};
 
 use crate::trouble::{Trouble, too_much};
 use std::alloc::Global;
@@ -22,6 +22,7 @@ pub(crate) struct Allowance {
 impl Allowance {
     /// This number of MiB.
     pub fn of(mib: u32) -> Allowance
+        ensures in_all { result.mib ≡ mib }
         ensures left { result.left ≡ mib * 1048576 }
         ensures counted { result.is_counted ≡ true }
     {
@@ -36,6 +37,7 @@ impl Allowance {
     pub fn count(&mut self, is_counted: bool)
         ensures counted { self.new.is_counted ≡ is_counted }
         ensures left { self.new.left ≡ self.old.left }
+        ensures in_all { self.new.mib ≡ self.old.mib }
     {
         self.is_counted = is_counted;
     }
@@ -46,6 +48,7 @@ impl Allowance {
         ensures allowed { result ≡ is_allowed self.old.is_counted self.old.left bytes }
         ensures left { self.new.left ≡ left_after self.old.is_counted self.old.left bytes }
         ensures counted { self.new.is_counted ≡ self.old.is_counted }
+        ensures in_all { self.new.mib ≡ self.old.mib }
     {
         if !self.is_counted {
             return true;
@@ -61,8 +64,10 @@ impl Allowance {
     pub fn take(&mut self, alloc: Global, path: &str, bytes: usize) -> Result<(), Trouble>
         ensures left { self.new.left ≡ left_after self.old.is_counted self.old.left bytes }
         ensures counted { self.new.is_counted ≡ self.old.is_counted }
+        ensures in_all { self.new.mib ≡ self.old.mib }
         ensures allowed { OnOk result (is_allowed self.old.is_counted self.old.left bytes ≡ true) }
         ensures refused { OnErr result (is_allowed self.old.is_counted self.old.left bytes ≡ false) }
+        ensures error { IfErr result (IsTooMuch path.now self.old.mib) }
     {
         if self.allows(bytes as u64) {
             Ok(())

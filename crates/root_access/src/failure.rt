@@ -1,6 +1,8 @@
 //! Why a run fails, and its status.
 ghost use Rattle.std.specs.Prelude.{◌≡◌};
 ghost use Rattle.root_access.specs.Statuses.{status_of};
+ghost use Rattle.root_access.specs.Failures.{of_history, of_kept, of_lines};
+ghost use Rattle.root_access.specs.declared.failure.Failure.TheVariants as failures;
 
 use crate::bad_words::{BadWords, refused_word};
 use crate::links::{shown_target, with_link};
@@ -197,24 +199,32 @@ impl Failure {
 }
 
 impl From<AllocError> for Failure {
+    ghost from_gives = { λ _ e. e ≡ failures.OutOfMemory };
+
     fn from(_e: AllocError) -> Failure {
         Failure::OutOfMemory
     }
 }
 
 impl<T: Drop> From<AllocFailed<T>> for Failure {
+    ghost from_gives = { λ _ e. e ≡ failures.OutOfMemory };
+
     fn from(_e: AllocFailed<T>) -> Failure {
         Failure::OutOfMemory
     }
 }
 
 impl From<Trouble> for Failure {
+    ghost from_gives = { λ trouble e. e ≡ failures.Root trouble };
+
     fn from(trouble: Trouble) -> Failure {
         Failure::Root(trouble)
     }
 }
 
 impl From<HistoryError> for Failure {
+    ghost from_gives = { λ error e. e ≡ of_history error };
+
     fn from(e: HistoryError) -> Failure {
         match e {
             HistoryError::Trouble(trouble) => Failure::Root(trouble),
@@ -225,6 +235,8 @@ impl From<HistoryError> for Failure {
 }
 
 impl From<KeptError> for Failure {
+    ghost from_gives = { λ error e. e ≡ of_kept error };
+
     fn from(e: KeptError) -> Failure {
         match e {
             KeptError::RulesDiffer { run, rules } => Failure::OtherRules(run, rules, RULES),
@@ -238,6 +250,8 @@ impl From<KeptError> for Failure {
 }
 
 impl From<LinesError> for Failure {
+    ghost from_gives = { λ error e. e ≡ of_lines error };
+
     fn from(e: LinesError) -> Failure {
         match e {
             LinesError::Bad(line, reason) => Failure::BadLine(line, reason),

@@ -1,5 +1,5 @@
 //! A root whose odd entries are passed over and noted, as what only lists units reads it.
-ghost use Rattle.std.specs.Prelude.{◌≡◌, None};
+ghost use Rattle.std.specs.Prelude.{◌≡◌, [], Some, None};
 ghost use Rattle.disk.specs.Disks.{failures_after};
 
 use crate::everything::DIRECTORIES;
@@ -113,7 +113,8 @@ impl<'a> OddRoot<'a> {
     }
 }
 
-/// The same as a disk.
+/// The same as a disk that is only read: nothing is ever done to it, and `put` and `take` always
+/// fail.
 #[derive(Drop)]
 struct PassingOver<'a> {
     root: OddRoot<'a>,
@@ -138,7 +139,7 @@ impl<'a> Disk for PassingOver<'a> {
 
     ghost failures = { λ disk. disk.failures };
 
-    ghost done = { λ disk. None };
+    ghost done = { λ disk. Some [] };
 
     fn list(&mut self, alloc: Global, directory: &TreePath) -> Result<Listing, DiskError> {
         let listed = self.root.list(alloc, directory);
@@ -152,17 +153,15 @@ impl<'a> Disk for PassingOver<'a> {
 
     fn put(
         &mut self,
-        path: &TreePath,
-        before: &Option<Entry>,
-        entry: &Entry,
+        _path: &TreePath,
+        _before: &Option<Entry>,
+        _entry: &Entry,
     ) -> Result<(), DiskError> {
-        let made = self.root.disk.put(path, before, entry);
-        self.counted(made)
+        self.counted(Err(DiskError::Failed))
     }
 
-    fn take(&mut self, path: &TreePath, before: &Option<Entry>) -> Result<(), DiskError> {
-        let taken = self.root.disk.take(path, before);
-        self.counted(taken)
+    fn take(&mut self, _path: &TreePath, _before: &Option<Entry>) -> Result<(), DiskError> {
+        self.counted(Err(DiskError::Failed))
     }
 }
 

@@ -1,4 +1,7 @@
 //! How a run on a root with a history ends.
+ghost use Rattle.std.specs.Prelude.{◌≡◌};
+ghost use Rattle.root_access.specs.declared.failure.Failure.TheVariants as failures;
+ghost use Rattle.root_histories.specs.declared.ending.Stop.TheVariants as stops;
 
 use crate::kept_root::KeptRoot;
 use disk::{CaptureError, StepError};
@@ -22,24 +25,32 @@ pub enum Stop {
 }
 
 impl From<Failure> for Stop {
+    ghost from_gives = { λ failure stop. stop ≡ stops.Failed failure };
+
     fn from(failure: Failure) -> Stop {
         Stop::Failed(failure)
     }
 }
 
 impl From<AllocError> for Stop {
+    ghost from_gives = { λ _ stop. stop ≡ stops.Failed failures.OutOfMemory };
+
     fn from(_e: AllocError) -> Stop {
         Stop::Failed(Failure::OutOfMemory)
     }
 }
 
 impl<T: Drop> From<AllocFailed<T>> for Stop {
+    ghost from_gives = { λ _ stop. stop ≡ stops.Failed failures.OutOfMemory };
+
     fn from(_e: AllocFailed<T>) -> Stop {
         Stop::Failed(Failure::OutOfMemory)
     }
 }
 
 impl From<CaptureError> for Stop {
+    ghost from_gives = { λ e stop. stop ≡ stops.Uncaptured e };
+
     fn from(e: CaptureError) -> Stop {
         Stop::Uncaptured(e)
     }

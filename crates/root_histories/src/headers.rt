@@ -19,17 +19,10 @@ fn header_of(cx: Context<'_>, id: [u8; 16]) -> Result<Header, Failure> {
 /// Errors: no random number can be read; `ManyBytes`; out of memory.
 pub fn new_history(cx: Context<'_>, first: &Tree) -> Result<Kept, Failure> {
     let header = header_of(cx, new_id(cx.rt)?)?;
-    let kept = begun(cx.rt.alloc(), first, header)?;
+    let kept = Kept::begin(cx.rt.alloc(), first.share()?, header)?;
     match check_length(cx, &kept) {
         Ok(()) => Ok(kept),
         Err(failure) => Err(failure),
-    }
-}
-
-fn begun(alloc: Global, first: &Tree, header: Header) -> Result<Kept, Failure> {
-    match Kept::begin(alloc, first.share()?, header) {
-        Ok(kept) => Ok(kept),
-        Err(e) => Err(Failure::from(e)),
     }
 }
 
@@ -83,7 +76,7 @@ fn push_runs(alloc: Global, kept: &mut Kept, other: &Kept) -> Result<(), Failure
 pub fn adopted(cx: Context<'_>, other: &Kept) -> Result<Kept, Failure> {
     let alloc = cx.rt.alloc();
     let header = header_of(cx, other.text().header().id)?;
-    let mut kept = begun(alloc, other.history().first(), header)?;
+    let mut kept = Kept::begin(alloc, other.history().first().share()?, header)?;
     match push_runs(alloc, &mut kept, other) {
         Ok(()) => Ok(kept),
         Err(failure) => Err(failure),
