@@ -2,6 +2,7 @@
 ghost use Rattle.std.specs.Prelude.{◌≡◌};
 ghost use Rattle.real_roots.specs.declared.trouble.Trouble.TheVariants as troubles;
 ghost use Rattle.kept_roots.specs.declared.error.HistoryError.TheVariants as histories;
+ghost use Rattle.kept_roots.specs.Errors.{IsRefused, IsIfThere};
 
 use real_roots::Trouble;
 use std::alloc::{AllocError, AllocFailed, Global};
@@ -76,7 +77,9 @@ impl<T: Drop> From<AllocFailed<T>> for HistoryError {
 }
 
 /// What is wrong with a directory.
-pub(crate) fn refused(alloc: Global, path: &str, fault: DirectoryFault) -> HistoryError {
+pub(crate) fn refused(alloc: Global, path: &str, fault: DirectoryFault) -> HistoryError
+    ensures { IsRefused path.now fault result }
+{
     match String::from_str(alloc, path) {
         Ok(path) => HistoryError::At(path, fault),
         Err(_) => HistoryError::Trouble(Trouble::OutOfMemory),
@@ -84,7 +87,9 @@ pub(crate) fn refused(alloc: Global, path: &str, fault: DirectoryFault) -> Histo
 }
 
 /// A system call's result; `None` if there is no such file.
-pub(crate) fn if_there<T>(answer: io::Result<T>) -> io::Result<Option<T>> {
+pub(crate) fn if_there<T>(answer: io::Result<T>) -> io::Result<Option<T>>
+    ensures { IsIfThere answer result }
+{
     match answer {
         Ok(given) => Ok(Some(given)),
         Err(e) if e.kind() == io::ErrorKind::NotFound => Ok(None),

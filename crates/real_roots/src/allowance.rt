@@ -1,6 +1,7 @@
 //! How much a run may read from a root.
 ghost use Rattle.std.specs.Prelude.{◌≡◌, ◌*◌, true, false, OnOk, OnErr, IfErr};
-ghost use Rattle.real_roots.specs.Allowances.{is_allowed, left_after, IsTooMuch};
+ghost use Rattle.real_roots.specs.Allowances.{is_allowed, left_after};
+ghost use Rattle.real_roots.specs.Errors.{IsTooMuch};
 
 use crate::trouble::{Trouble, too_much};
 use std::alloc::Global;

@@ -1,4 +1,6 @@
 //! Changes beneath a root.
+ghost use Rattle.std.specs.Prelude.{◌≡◌, ◌↔◌, true, Err, OnOk, IfErr};
+ghost use Rattle.real_roots.specs.Errors.{IsKeptOrGone, MayStay};
 
 use crate::identity::{Identity, found_under};
 use crate::making::{Kept, sync_here};
@@ -20,7 +22,10 @@ pub(crate) struct Made {
 }
 
 /// The first error among several results.
-fn first_of(one: Result<(), Trouble>, other: Result<(), Trouble>) -> Result<(), Trouble> {
+fn first_of(one: Result<(), Trouble>, other: Result<(), Trouble>) -> Result<(), Trouble>
+    ensures ok { OnOk one (result ≡ other) }
+    ensures err { IfErr one (λ trouble. result ≡ Err trouble) }
+{
     match one {
         Ok(()) => other,
         Err(trouble) => Err(trouble),
@@ -319,7 +324,9 @@ impl<'a> RootFiles<'a> {
 }
 
 /// Whether a directory could not be removed since something is in it, or there is none.
-fn is_kept_or_gone(kind: io::ErrorKind) -> bool {
+fn is_kept_or_gone(kind: io::ErrorKind) -> bool
+    ensures { (result ≡ true) ↔ IsKeptOrGone kind }
+{
     kind == io::ErrorKind::DirectoryNotEmpty
         || kind == io::ErrorKind::AlreadyExists
         || kind == io::ErrorKind::NotFound
@@ -328,7 +335,9 @@ fn is_kept_or_gone(kind: io::ErrorKind) -> bool {
 /// Whether a directory that could not be removed may stay, since an empty one means nothing:
 /// something is in it, it is none, it is a mount point, or this user may not remove it, or nobody
 /// may where it is.
-pub fn may_stay(kind: io::ErrorKind) -> bool {
+pub fn may_stay(kind: io::ErrorKind) -> bool
+    ensures { (result ≡ true) ↔ MayStay kind }
+{
     is_kept_or_gone(kind)
         || kind == io::ErrorKind::NotADirectory
         || kind == io::ErrorKind::ResourceBusy
