@@ -1,5 +1,5 @@
 pub mod Alike
-pub mod Making
+pub mod MadeCalls
 pub mod Adding
 pub mod Told
 pub mod Writes

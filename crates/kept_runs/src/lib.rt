@@ -8,6 +8,7 @@ mod keeping;
 mod kept;
 mod laws;
 mod lines;
+mod making;
 mod others;
 mod reading;
 mod rebasing;

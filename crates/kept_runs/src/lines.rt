@@ -1,5 +1,5 @@
 //! The calls of a run, by their lines.
-ghost use Rattle.std.specs.Prelude.{◌≡◌, ◌<◌, ◌+◌, ◌++◌, [], ◌∷◌, ℕ, List, Some, Ok, Err, true, false, length, map as list_map, IfOk, IfErr, OnOk};
+ghost use Rattle.std.specs.Prelude.{◌≡◌, ◌<◌, ◌+◌, ◌++◌, [], ◌∷◌, ℕ, List, Some, Ok, Err, true, length, map as list_map, IfOk, IfErr, OnOk};
 ghost use Rattle.std.specs.List.{filter, slice_split};
 ghost use Rattle.byte_streams.specs.Reads.{Gives};
 ghost use Rattle.script_words.specs.Words.{lines_text};
@@ -11,8 +11,7 @@ ghost use Rattle.kept_rows.specs.Others.{rows_with};
 ghost use Rattle.kept_runs.specs.declared.errors.LinesError.TheVariants as faults;
 ghost use Rattle.kept_texts.specs.Texts.{are_call_lines};
 ghost use Rattle.kept_runs.specs.Lines.{is_line_end, call_of, has_call, call_lines, calls_onto, calls_of_lines, IsLineError};
-ghost use Rattle.kept_runs.specs.Runs.{is_kept, is_appended, added, IsAppended, IsTooLong};
-ghost use Rattle.kept_runs.specs.Texts.{Says};
+ghost use Rattle.kept_runs.specs.Runs.{is_kept, added, MadeFirst, IsLeft, IsTooLong};
 
 use crate::errors::LinesError;
 use crate::keeping::KeepIf;
@@ -127,9 +126,8 @@ impl Kept {
         ensures count { IfOk result (λ n. n ≡ length (added self.old.history.rows self.new.history.rows)) }
         ensures before { self.new.is_written ≡ true → self.old.is_written ≡ true }
         ensures kept { OnOk result (self.new.is_written ≡ true → is_kept keep_if (added self.old.history.rows self.new.history.rows) ≡ true) }
-        ensures left { OnOk result (is_appended self.old.is_written keep_if (added self.old.history.rows self.new.history.rows) ≡ false → self.new.text ≡ self.old.text) }
-        ensures appended { OnOk result (is_appended self.old.is_written keep_if (added self.old.history.rows self.new.history.rows) ≡ true → IsAppended self.old.text self.new.text words.now (call_lines lines.now) (replay self.new.history.first self.new.history.rows)) }
-        ensures said { OnOk result (is_appended self.old.is_written keep_if (added self.old.history.rows self.new.history.rows) ≡ true → Says self.new.text.bytes.items self.new.history.first self.new.history.rows → self.new.is_written ≡ true) }
+        ensures left { OnOk result (IsLeft self.old self.new keep_if words.now (call_lines lines.now)) }
+        ensures made { IfOk (calls_of_lines lines.now) (λ calls. MadeFirst self.old self.new calls) }
         ensures bad { (n : ℕ) (reason : WhyBad) → result ≡ Err (faults.Bad n reason) → (calls_of_lines lines.now ≡ Err (n, reason)) × (self.new ≡ self.old) }
         ensures full { result ≡ Err faults.Full → (calls : List CallSeen) × (calls_of_lines lines.now ≡ Ok calls) × (self.old.history.limit < length self.old.history.rows + length calls) }
         ensures many { result ≡ Err faults.TooManyLines → (calls : List CallSeen) × (calls_of_lines lines.now ≡ Ok calls) × (self.new.history.rows ≡ rows_with self.old.history.first self.old.history.rows calls) × IsTooLong self.old.text words.now (call_lines lines.now) (replay self.new.history.first self.new.history.rows) }

@@ -1,13 +1,12 @@
 //! What others did since the last run.
-ghost use Rattle.std.specs.Prelude.{◌≡◌, ◌≢◌, ◌<◌, ◌+◌, ℕ, List, [], Err, true, false, length, All, IfOk, IfErr, OnOk};
+ghost use Rattle.std.specs.Prelude.{◌≡◌, ◌≢◌, ◌<◌, ◌+◌, ℕ, List, [], Err, true, length, All, IfOk, IfErr, OnOk};
 ghost use Rattle.kept_rows.specs.Lines.{CanBeWritten, lines_of_others};
 ghost use Rattle.kept_rows.specs.Others.{calls_of_others, rows_with, rows_with_others};
 ghost use Rattle.script_words.specs.Words.{lines_text};
 ghost use Rattle.tree_steps.specs.Steps.{slot_changes_between};
 ghost use Rattle.unit_script.specs.Machine.{replay};
 ghost use Rattle.kept_runs.specs.declared.keeping.KeepIf.TheVariants as keeps;
-ghost use Rattle.kept_runs.specs.Runs.{added, is_appended, IsAppended, IsTooLong};
-ghost use Rattle.kept_runs.specs.Texts.{Says};
+ghost use Rattle.kept_runs.specs.Runs.{added, MadeFirst, IsLeft, IsTooLong};
 ghost use Rattle.kept_runs.specs.Others.{IsNotWritable, others_text};
 ghost use Rattle.kept_runs.specs.declared.errors.OthersError.TheVariants as others;
 
@@ -48,9 +47,8 @@ impl Kept {
         ensures rows { OnOk result (self.new.history.rows ≡ rows_with self.old.history.first self.old.history.rows (calls_of_others changes.now)) }
         ensures count { IfOk result (λ n. n ≡ length (added self.old.history.rows self.new.history.rows)) }
         ensures before { self.new.is_written ≡ true → self.old.is_written ≡ true }
-        ensures left { OnOk result (is_appended self.old.is_written keeps.NoneRefused (added self.old.history.rows self.new.history.rows) ≡ false → self.new.text ≡ self.old.text) }
-        ensures appended { OnOk result (is_appended self.old.is_written keeps.NoneRefused (added self.old.history.rows self.new.history.rows) ≡ true → IsAppended self.old.text self.new.text words.now (lines_text (lines_of_others changes.now)) (replay self.new.history.first self.new.history.rows)) }
-        ensures said { OnOk result (is_appended self.old.is_written keeps.NoneRefused (added self.old.history.rows self.new.history.rows) ≡ true → Says self.new.text.bytes.items self.new.history.first self.new.history.rows → self.new.is_written ≡ true) }
+        ensures left { OnOk result (IsLeft self.old self.new keeps.NoneRefused words.now (lines_text (lines_of_others changes.now))) }
+        ensures made { MadeFirst self.old self.new (calls_of_others changes.now) }
         ensures full { result ≡ Err others.Full → self.old.history.limit < length self.old.history.rows + length (calls_of_others changes.now) }
         ensures many { result ≡ Err others.TooManyLines → (self.new.history.rows ≡ rows_with self.old.history.first self.old.history.rows (calls_of_others changes.now)) × IsTooLong self.old.text words.now (lines_text (lines_of_others changes.now)) (replay self.new.history.first self.new.history.rows) }
         ensures fault { IfErr result (λ e. IsNotWritable e changes.now) }
@@ -89,9 +87,8 @@ impl Kept {
         ensures rows { OnOk result (self.new.history.rows ≡ rows_with_others self.old.history.first self.old.history.rows captured.now) }
         ensures count { IfOk result (λ n. n ≡ length (added self.old.history.rows self.new.history.rows)) }
         ensures before { self.new.is_written ≡ true → self.old.is_written ≡ true }
-        ensures left { OnOk result (is_appended self.old.is_written keeps.NoneRefused (added self.old.history.rows self.new.history.rows) ≡ false → self.new.text ≡ self.old.text) }
-        ensures appended { OnOk result (is_appended self.old.is_written keeps.NoneRefused (added self.old.history.rows self.new.history.rows) ≡ true → IsAppended self.old.text self.new.text words.now (others_text self.old.history.first self.old.history.rows captured.now) (replay self.new.history.first self.new.history.rows)) }
-        ensures said { OnOk result (is_appended self.old.is_written keeps.NoneRefused (added self.old.history.rows self.new.history.rows) ≡ true → Says self.new.text.bytes.items self.new.history.first self.new.history.rows → self.new.is_written ≡ true) }
+        ensures left { OnOk result (IsLeft self.old self.new keeps.NoneRefused words.now (others_text self.old.history.first self.old.history.rows captured.now)) }
+        ensures made { MadeFirst self.old self.new (calls_of_others (slot_changes_between (replay self.old.history.first self.old.history.rows) captured.now)) }
         ensures full { result ≡ Err others.Full → self.old.history.limit < length self.old.history.rows + length (calls_of_others (slot_changes_between (replay self.old.history.first self.old.history.rows) captured.now)) }
         ensures many { result ≡ Err others.TooManyLines → (self.new.history.rows ≡ rows_with_others self.old.history.first self.old.history.rows captured.now) × IsTooLong self.old.text words.now (others_text self.old.history.first self.old.history.rows captured.now) (replay self.new.history.first self.new.history.rows) }
         ensures fault { IfErr result (λ e. IsNotWritable e (slot_changes_between (replay self.old.history.first self.old.history.rows) captured.now)) }

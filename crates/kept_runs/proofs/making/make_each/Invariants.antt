@@ -1,6 +1,6 @@
 use Rattle.std.proofs.Common.{◌≡◌}
-use Rattle.kept_runs.proofs.Making.{WereMade}
-use Rattle.kept_runs.proofs.kept.make_each.Given as goal
+use Rattle.kept_runs.proofs.MadeCalls.{WereMade}
+use Rattle.kept_runs.proofs.making.make_each.Given as goal
 
 -- the calls so far were made
 abbrev pub invariant-loop-call : goal.invariant-loop-call
