@@ -1,7 +1,7 @@
 //! Why a run fails, and its status.
-ghost use Rattle.std.specs.Prelude.{◌≡◌};
+ghost use Rattle.std.specs.Prelude.{◌≡◌, string_bytes, IfOk};
 ghost use Rattle.root_access.specs.Statuses.{status_of};
-ghost use Rattle.root_access.specs.Failures.{of_history, of_kept, of_lines};
+ghost use Rattle.root_access.specs.Failures.{of_history, of_kept, of_lines, shown_text, IsAt, HasReason, reason_of as reason_of_oddity, IsOfRoot, IsOfCapture, IsOfStep};
 ghost use Rattle.root_access.specs.declared.failure.Failure.TheVariants as failures;
 
 use crate::bad_words::{BadWords, refused_word};
@@ -263,14 +263,18 @@ impl From<LinesError> for Failure {
 }
 
 /// A path as text for people.
-pub fn shown_path(alloc: Global, path: &TreePath) -> Result<String, AllocError> {
+pub fn shown_path(alloc: Global, path: &TreePath) -> Result<String, AllocError>
+    ensures { IfOk result (λ text. string_bytes text ≡ shown_text path.now) }
+{
     let mut text = Vec::new(alloc);
     push_shown(&mut text, path.text())?;
     String::from_utf8_lossy(alloc, &text)
 }
 
 /// A reason at a path.
-pub fn at(alloc: Global, path: &TreePath, reason: Reason) -> Failure {
+pub fn at(alloc: Global, path: &TreePath, reason: Reason) -> Failure
+    ensures { IsAt path.now reason result }
+{
     match shown_path(alloc, path) {
         Ok(path) => Failure::At(path, reason),
         Err(AllocError) => Failure::OutOfMemory,
@@ -278,14 +282,18 @@ pub fn at(alloc: Global, path: &TreePath, reason: Reason) -> Failure {
 }
 
 /// The same at a path to which a link of the root may lead.
-fn at_target(alloc: Global, disk: &mut RealDisk<'_>, path: &TreePath, reason: Reason) -> Failure {
+fn at_target(alloc: Global, disk: &mut RealDisk<'_>, path: &TreePath, reason: Reason) -> Failure
+    ensures { HasReason reason result }
+{
     match shown_target(alloc, disk, path) {
         Ok(path) => Failure::At(path, reason),
         Err(AllocError) => Failure::OutOfMemory,
     }
 }
 
-pub fn reason_of(oddity: Oddity) -> Reason {
+pub fn reason_of(oddity: Oddity) -> Reason
+    ensures { result ≡ reason_of_oddity oddity }
+{
     match oddity {
         Oddity::Directory => Reason::Directory,
         Oddity::Special => Reason::Special,
@@ -295,7 +303,9 @@ pub fn reason_of(oddity: Oddity) -> Reason {
 }
 
 /// What the system reported last.
-fn trouble_of(disk: RealDisk<'_>) -> Failure {
+fn trouble_of(disk: RealDisk<'_>) -> Failure
+    ensures { IsOfRoot result }
+{
     let mut disk = disk;
     match disk.take_trouble() {
         Some(trouble) => Failure::Root(trouble),
@@ -304,7 +314,9 @@ fn trouble_of(disk: RealDisk<'_>) -> Failure {
 }
 
 /// What the disk reported last, while something was read.
-pub fn read_trouble(alloc: Global, disk: &mut RealDisk<'_>) -> Failure {
+pub fn read_trouble(alloc: Global, disk: &mut RealDisk<'_>) -> Failure
+    ensures { IsOfRoot result }
+{
     match disk.take_trouble() {
         Some(trouble) => Failure::Root(with_link(alloc, disk, trouble)),
         None => Failure::OutOfMemory,
@@ -312,7 +324,9 @@ pub fn read_trouble(alloc: Global, disk: &mut RealDisk<'_>) -> Failure {
 }
 
 /// Why nothing was captured. If a link leads to what the reason is about, it is named too.
-pub fn capture_failure(alloc: Global, disk: &mut RealDisk<'_>, e: CaptureError) -> Failure {
+pub fn capture_failure(alloc: Global, disk: &mut RealDisk<'_>, e: CaptureError) -> Failure
+    ensures { IsOfCapture e result }
+{
     match e {
         CaptureError::Odd(path, oddity) => at_target(alloc, disk, &path, reason_of(oddity)),
         CaptureError::NoDirectory(path) => at(alloc, &path, Reason::NoDirectory),
@@ -324,7 +338,9 @@ pub fn capture_failure(alloc: Global, disk: &mut RealDisk<'_>, e: CaptureError) 
 }
 
 /// Why a step was not made, if those before it were reversed.
-pub fn step_failure(alloc: Global, disk: RealDisk<'_>, change: &Change, why: StepError) -> Failure {
+pub fn step_failure(alloc: Global, disk: RealDisk<'_>, change: &Change, why: StepError) -> Failure
+    ensures { IsOfStep change.now.path why result }
+{
     match why {
         StepError::Changed | StepError::Odd => at(alloc, &change.path, Reason::Changed),
         StepError::Failed => trouble_of(disk),

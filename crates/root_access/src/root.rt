@@ -1,4 +1,7 @@
 //! A root directory: what is in it, and the changes that are made in it.
+ghost use Rattle.std.specs.Prelude.{length, IfErr};
+ghost use Rattle.root_access.specs.Failures.{HasReason, IsHalfDone, SaysHowMany, IsNotSettled};
+ghost use Rattle.root_access.specs.declared.failure.Reason.TheVariants as reasons;
 
 use crate::failure::{Failure, Reason, at, capture_failure, shown_path, step_failure};
 use disk::{ApplyError, StepError, apply, capture};
@@ -102,7 +105,9 @@ fn half_done(
     steps: &[Change],
     made: usize,
     number: usize,
-) -> Failure {
+) -> Failure
+    ensures { IsHalfDone made (length steps.now) result }
+{
     let mut disk = disk;
     disk.settle_half();
     let path = match steps.get(number) {
@@ -133,7 +138,9 @@ fn taken_back(
 }
 
 /// Why the steps were not made.
-fn apply_failure(alloc: Global, disk: RealDisk<'_>, steps: &[Change], e: ApplyError) -> Failure {
+fn apply_failure(alloc: Global, disk: RealDisk<'_>, steps: &[Change], e: ApplyError) -> Failure
+    ensures { SaysHowMany e (length steps.now) result }
+{
     match e {
         ApplyError::TakenBack { step, why } => taken_back(alloc, disk, steps, step, why),
         ApplyError::HalfDone { step, made, .. } => half_done(alloc, disk, steps, made, step),
@@ -141,7 +148,9 @@ fn apply_failure(alloc: Global, disk: RealDisk<'_>, steps: &[Change], e: ApplyEr
 }
 
 /// Writes what was made to the disk. If that fails, all is made, but may not last.
-fn settle(disk: RealDisk<'_>, steps: &[Change]) -> Result<(), Failure> {
+fn settle(disk: RealDisk<'_>, steps: &[Change]) -> Result<(), Failure>
+    ensures { IfErr result (λ failure. IsNotSettled (length steps.now) failure) }
+{
     let mut disk = disk;
     match disk.settle() {
         Ok(()) => Ok(()),
@@ -165,7 +174,9 @@ pub fn make_tree(
 }
 
 /// Nothing may be changed at this path, since it is the vendor's.
-pub fn forbidden(alloc: Global, change: Option<&Change>) -> Failure {
+pub fn forbidden(alloc: Global, change: Option<&Change>) -> Failure
+    ensures { HasReason reasons.Vendor result }
+{
     match change {
         Some(change) => at(alloc, &change.path, Reason::Vendor),
         None => Failure::OutOfMemory,
