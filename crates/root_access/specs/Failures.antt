@@ -97,7 +97,7 @@ IsOfStep path steps.Odd failure = IsAt path reasons.Changed failure
 IsOfStep path steps.Failed failure = IsOfRoot failure
 IsOfStep path steps.OutOfMemory failure = failure ≡ failures.OutOfMemory
 
--- This number of so many steps are made.
+-- This number of all steps is made, and the others are not.
 abbrev pub IsHalfDone : (made all : ℕ) → Failure → Type 0
 IsHalfDone made all (failures.HalfDone n m path why) = (n ≡ made) × (m ≡ all)
 IsHalfDone made all other = ⊥
