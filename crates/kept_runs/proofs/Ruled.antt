@@ -4,9 +4,9 @@ use Rattle.std.proofs.Math.Seq.{drop-cons}
 use Rattle.std.proofs.lemmas.List.{take-append-drop, length-take-le}
 use Rattle.std.specs.Prelude.{not}
 use Rattle.std.specs.Str.{bytes_eq}
-use Rattle.std.proofs.lemmas.Bool.{false≢true, eq-eqb}
+use Rattle.std.proofs.lemmas.Bool.{false≢true}
+use Rattle.std.proofs.lemmas.Slice.Eq.{bytes_eq-Decides}
 use Rattle.link_tree.specs.Trees.{Entries}
-use Rattle.link_tree.proofs.Changed.{same_bytes}
 use Rattle.history.specs.declared.row.Row.{Row}
 use Rattle.unit_script.specs.declared.action.Action.{Action}
 use Rattle.unit_script.specs.Machine.{replay}
@@ -58,15 +58,12 @@ of_not : (b : Bool) → not b ≡ false → b ≡ true
 of_not true h = refl
 of_not false h = absurd (false≢true (sym h))
 
-equal_bytes : (xs : List ℕ) → bytes_eq xs xs ≡ true
-equal_bytes [] = refl
-equal_bytes (x ∷ xs) = rw (eq-eqb x x refl) (equal_bytes xs)
-
-bytes_same : (xs : List ℕ) → not (bytes_eq xs xs) ≡ true → ⊥
-bytes_same xs h = absurd (false≢true (sym (ap not (equal_bytes xs)) ∙ h))
-
 pub same_sums : (found kept : Sum) → not (bytes_eq found.bytes kept.bytes) ≡ false → kept ≡ found
-same_sums found kept h = let same : found.bytes ≡ kept.bytes = same_bytes found.bytes kept.bytes (of_not (bytes_eq found.bytes kept.bytes) h) in ap (λ bytes. record { bytes = bytes }) (sym same)
+same_sums found kept h =
+    let same : found.bytes ≡ kept.bytes = (bytes_eq-Decides found.bytes kept.bytes).0 (of_not (bytes_eq found.bytes kept.bytes) h) in
+    ap (λ bytes. record { bytes = bytes }) (sym same)
 
 pub other_sums : (found kept : Sum) → not (bytes_eq found.bytes kept.bytes) ≡ true → kept ≡ found → ⊥
-other_sums found kept h same = bytes_same found.bytes (ap (λ sum. not (bytes_eq found.bytes sum.bytes)) (sym same) ∙ h)
+other_sums found kept h same =
+    let itself : bytes_eq found.bytes found.bytes ≡ true = (bytes_eq-Decides found.bytes found.bytes).1 refl in
+    absurd (false≢true (sym (ap not itself) ∙ ap (λ sum. not (bytes_eq found.bytes sum.bytes)) (sym same) ∙ h))

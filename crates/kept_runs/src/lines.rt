@@ -101,7 +101,7 @@ fn read_lines(alloc: Global, lines: &[u8]) -> Result<ReadLines, LinesError>
 
 impl Kept {
     /// Makes the calls of lines, one after another. A call that is refused is no error: its row has
-    /// the reason. The lines that have calls are appended as a run, if it is to be kept. Returns
+    /// the reason. The lines that have calls are appended as a run, if the run is kept. Returns
     /// how many rows were added.
     ///
     /// # Errors
@@ -112,7 +112,8 @@ impl Kept {
     ///   made.
     /// - `OutOfMemory`.
     ///
-    /// Except after `Bad`, rows may have been added that the text doesn't have.
+    /// Except after `Bad`, rows may have been added that the text doesn't have. They are those of the
+    /// first calls.
     pub fn make_calls(
         &mut self,
         alloc: Global,

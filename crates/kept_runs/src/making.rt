@@ -102,8 +102,8 @@ impl Kept {
         make_each(&mut self.history, alloc, calls)
     }
 
-    /// Makes calls, and appends their lines as a run if it is to be kept. Returns how many rows
-    /// were added.
+    /// Makes calls, and appends their lines as a run if the run is kept. Returns how many rows were
+    /// added.
     pub(crate) fn make_run(
         &mut self,
         alloc: Global,

@@ -75,7 +75,8 @@ impl Kept {
     ///   added.
     /// - `OutOfMemory`.
     ///
-    /// Except after `NotWritable`, rows may have been added that the text doesn't have.
+    /// Except after `NotWritable`, rows may have been added that the text doesn't have. They are the
+    /// first of these.
     pub fn take_in_others(
         &mut self,
         alloc: Global,
