@@ -1,5 +1,6 @@
 //! How a run on a root with a history ends.
-ghost use Rattle.std.specs.Prelude.{◌≡◌};
+ghost use Rattle.std.specs.Prelude.{◌≡◌, Bool, Err, IfErr};
+ghost use Rattle.root_histories.specs.Endings.{is_of_nothing, Ends, IsAfter, IsOfRun, IsOfStepAt, IsOfStop, IsPromised, IsUnsynced, IsUnsyncedBack};
 ghost use Rattle.root_access.specs.declared.failure.Failure.TheVariants as failures;
 ghost use Rattle.root_histories.specs.declared.ending.Stop.TheVariants as stops;
 
@@ -62,7 +63,9 @@ fn step_failure(
     disk: &mut RealDisk<'_>,
     why: StepError,
     path: Option<String>,
-) -> Failure {
+) -> Failure
+    ensures { IsOfStepAt path why result }
+{
     match why {
         StepError::Changed | StepError::Odd => match path {
             Some(path) => Failure::At(path, Reason::Changed),
@@ -82,12 +85,16 @@ fn reason_of(alloc: Global, disk: &mut RealDisk<'_>) -> Result<String, AllocErro
 }
 
 /// The run is promised.
-fn promised(alloc: Global, disk: &mut RealDisk<'_>) -> Failure {
+fn promised(alloc: Global, disk: &mut RealDisk<'_>) -> Failure
+    ensures { IsPromised result }
+{
     Failure::Promised(reason_of(alloc, disk).unwrap_or(String::new(alloc)))
 }
 
 /// All was done, and may not last.
-fn unsynced(disk: &mut RealDisk<'_>) -> Failure {
+fn unsynced(disk: &mut RealDisk<'_>) -> Failure
+    ensures { IsUnsynced result }
+{
     match disk.take_trouble() {
         Some(trouble) => Failure::Unsynced(trouble),
         None => Failure::OutOfMemory,
@@ -115,12 +122,9 @@ fn step_text(
 }
 
 /// All was taken back since a step failed, and that may not last.
-fn unsynced_back(
-    alloc: Global,
-    disk: RealDisk<'_>,
-    why: StepError,
-    path: Option<String>,
-) -> Failure {
+fn unsynced_back(alloc: Global, disk: RealDisk<'_>, why: StepError, path: Option<String>) -> Failure
+    ensures { IsUnsyncedBack result }
+{
     let Troubles { last, before } = disk.into_troubles();
     let Some(trouble) = last else {
         return Failure::OutOfMemory;
@@ -131,13 +135,16 @@ fn unsynced_back(
     }
 }
 
+/// Why a run was not made, or not wholly.
 fn unmade_failure(
     alloc: Global,
     disk: RealDisk<'_>,
     is_ending: bool,
     error: RunError,
     path: Option<String>,
-) -> Failure {
+) -> Failure
+    ensures { IsOfRun is_ending error path result }
+{
     let mut disk = disk;
     match error {
         RunError::Refused { why, .. } | RunError::Withdrawn { why, .. } => {
@@ -151,14 +158,18 @@ fn unmade_failure(
 }
 
 /// Whether a run that failed so has changed nothing, by the status of its failure.
-pub fn is_of_nothing(failure: &Failure) -> bool {
+pub fn is_of_nothing(failure: &Failure) -> bool
+    ensures { result ≡ is_of_nothing failure.now }
+{
     let status = failure.status();
     status == 1 || status == 4
 }
 
 /// Removes the directories that were made for nothing. Returns the failure of the run, or why they
 /// can't be removed.
-pub fn after_nothing(disk: &mut RealDisk<'_>, failure: Failure) -> Failure {
+pub fn after_nothing(disk: &mut RealDisk<'_>, failure: Failure) -> Failure
+    ensures { IsAfter failure result }
+{
     if !is_of_nothing(&failure) {
         return failure;
     }
@@ -169,7 +180,9 @@ pub fn after_nothing(disk: &mut RealDisk<'_>, failure: Failure) -> Failure {
 }
 
 /// Why a run failed. The history is unlocked.
-fn failure_of(alloc: Global, root: KeptRoot<'_>, stop: Stop) -> Failure {
+fn failure_of(alloc: Global, root: KeptRoot<'_>, stop: Stop) -> Failure
+    ensures { (ending : Bool) × IsOfStop ending stop result }
+{
     let is_ending = root.disk.is_ending();
     let mut disk = root.disk.into_disk();
     match stop {
@@ -183,7 +196,9 @@ fn failure_of(alloc: Global, root: KeptRoot<'_>, stop: Stop) -> Failure {
 }
 
 /// Ends a run on a root with a history, which is unlocked.
-pub fn end(cx: Context<'_>, root: KeptRoot<'_>, ended: Result<u8, Stop>) -> Result<u8, Failure> {
+pub fn end(cx: Context<'_>, root: KeptRoot<'_>, ended: Result<u8, Stop>) -> Result<u8, Failure>
+    ensures { Ends ended result }
+{
     let mut root = root;
     root.notes.print(cx.rt);
     match ended {
@@ -197,7 +212,9 @@ pub fn disk_after<'a>(
     cx: Context<'_>,
     root: KeptRoot<'a>,
     begun: Result<(), Stop>,
-) -> Result<RealDisk<'a>, Failure> {
+) -> Result<RealDisk<'a>, Failure>
+    ensures { IfErr result (λ failure. Ends begun (Err failure)) }
+{
     let mut root = root;
     root.notes.print(cx.rt);
     match begun {

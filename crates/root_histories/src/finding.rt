@@ -1,4 +1,6 @@
 //! Whether a root has a history, and where.
+ghost use Rattle.std.specs.Prelude.{IfOk};
+ghost use Rattle.root_histories.specs.Readings.{IsTakenBy};
 
 use crate::kept_root::KeptRoot;
 use kept_roots::{HistoryDirectory, HistoryFile, HistoryPlace, open_directory};
@@ -77,12 +79,15 @@ pub fn with_history<'a>(
 ///
 /// Errors: the root or its history can't be locked, or can't be looked at; `NoHistory` if
 /// `--history` names a directory without one.
-pub fn take(cx: Context<'_>) -> Result<Taken<'_>, Failure> {
+pub fn take(cx: Context<'_>) -> Result<Taken<'_>, Failure>
+    ensures { IfOk result (IsTakenBy cx.entry.asked.now.history) }
+{
     let place = place_of(cx)?;
     let disk = take_root(cx.rt, cx.asked, cx.root)?;
     match with_history(cx, disk, &place)? {
         Taken::Plain(_) if cx.asked.history.is_some() => Err(Failure::NoHistory),
-        taken => Ok(taken),
+        Taken::Plain(disk) => Ok(Taken::Plain(disk)),
+        Taken::Kept(root) => Ok(Taken::Kept(root)),
     }
 }
 

@@ -1,4 +1,6 @@
 //! The header of a history, which says for which root it was begun.
+ghost use Rattle.std.specs.Prelude.{◌≡◌, [], length, Ok, IfOk};
+ghost use Rattle.root_histories.specs.Readings.{checked_length};
 
 use crate::marks::{label_of, new_id};
 use crate::reading::check_length;
@@ -17,7 +19,10 @@ fn header_of(cx: Context<'_>, id: [u8; 16]) -> Result<Header, Failure> {
 /// A history of this root without calls, which begins with this tree.
 ///
 /// Errors: no random number can be read; `ManyBytes`; out of memory.
-pub fn new_history(cx: Context<'_>, first: &Tree) -> Result<Kept, Failure> {
+pub fn new_history(cx: Context<'_>, first: &Tree) -> Result<Kept, Failure>
+    ensures rows { IfOk result (λ kept. kept.history ≡ record { first = first.now; rows = []; limit = 1000000 }) }
+    ensures short { IfOk result (λ kept. checked_length cx.entry.asked.now.history (length kept.history.rows) (length kept.text.bytes.items) ≡ Ok tt) }
+{
     let header = header_of(cx, new_id(cx.rt)?)?;
     let kept = Kept::begin(cx.rt.alloc(), first.share()?, header)?;
     match check_length(cx, &kept) {

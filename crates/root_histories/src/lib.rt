@@ -8,6 +8,7 @@ mod headers;
 mod kept_root;
 mod marks;
 mod notes;
+mod promise;
 mod reading;
 mod recovery;
 mod setting_aside;

@@ -1,4 +1,6 @@
 //! Reading a history.
+ghost use Rattle.std.specs.Prelude.{◌≡◌, length, IfOk};
+ghost use Rattle.root_histories.specs.Readings.{checked_length, is_of_other_root, is_of_text, most_bytes, unless_of_text, MayBeUsed};
 
 use crate::kept_root::KeptRoot;
 use kept_roots::{HistoryError, HistoryFile, MOST_BYTES};
@@ -15,7 +17,9 @@ const MOST_ROWS: usize = 100_000;
 const MOST_BYTES_NAMED: u64 = 1 << 31;
 
 /// At most this number of bytes of a history is read and written.
-pub fn most_bytes(cx: Context<'_>) -> u64 {
+pub fn most_bytes(cx: Context<'_>) -> u64
+    ensures { result ≡ most_bytes cx.entry.asked.now.history }
+{
     if cx.asked.history.is_some() {
         MOST_BYTES_NAMED
     } else {
@@ -32,7 +36,9 @@ pub fn shown(alloc: Global, bytes: &[u8]) -> Result<String, AllocError> {
 
 /// Whether the history was begun for another root. One that is in the root belongs to it, wherever
 /// the root is now.
-pub fn is_of_other_root(cx: Context<'_>, kept: &Kept) -> bool {
+pub fn is_of_other_root(cx: Context<'_>, kept: &Kept) -> bool
+    ensures { result ≡ is_of_other_root cx.entry.asked.now.history kept.now.text.parts.header.root cx.entry.path.now }
+{
     cx.asked.history.is_some() && kept.text().header().root.text() != cx.path.as_bytes()
 }
 
@@ -40,7 +46,9 @@ pub fn is_of_other_root(cx: Context<'_>, kept: &Kept) -> bool {
 /// can read what was written.
 ///
 /// Errors: `ManyRows`; `ManyBytes`.
-pub fn check_length(cx: Context<'_>, kept: &Kept) -> Result<(), Failure> {
+pub fn check_length(cx: Context<'_>, kept: &Kept) -> Result<(), Failure>
+    ensures { result ≡ checked_length cx.entry.asked.now.history (length kept.now.history.rows) (length kept.now.text.bytes.items) }
+{
     if cx.asked.history.is_none() && kept.history().rows().len() > MOST_ROWS {
         return Err(Failure::ManyRows);
     }
@@ -52,7 +60,9 @@ pub fn check_length(cx: Context<'_>, kept: &Kept) -> Result<(), Failure> {
 }
 
 /// Refuses a history of another root, and one that is very long.
-fn check(cx: Context<'_>, kept: &Kept) -> Result<(), Failure> {
+fn check(cx: Context<'_>, kept: &Kept) -> Result<(), Failure>
+    ensures { IfOk result (λ _. MayBeUsed cx.entry.asked.now cx.entry.path.now kept.now) }
+{
     if is_of_other_root(cx, kept) && !cx.asked.adopt {
         let root = shown(cx.rt.alloc(), kept.text().header().root.text())?;
         return Err(Failure::OtherRoot(root));
@@ -91,7 +101,9 @@ pub fn kept_of(alloc: Global, text: Vec<u8>) -> Result<Kept, Failure> {
 /// Whether the history itself is at fault, so that another one may begin in its place: its text,
 /// that of a promised run, or that its file is missing, too large or no file. Otherwise the system
 /// refused something, memory ran out, or the history is that of another root.
-pub fn is_of_text(failure: &Failure) -> bool {
+pub fn is_of_text(failure: &Failure) -> bool
+    ensures { result ≡ is_of_text failure.now }
+{
     match failure {
         Failure::Unreadable(_) | Failure::BadCall(..) => true,
         Failure::OnlyPromised | Failure::OtherPromise => true,
@@ -104,7 +116,9 @@ pub fn is_of_text(failure: &Failure) -> bool {
 }
 
 /// The reason why a history can't be read, unless its text is at fault.
-pub fn unless_of_text(failure: Failure) -> Result<(), Failure> {
+pub fn unless_of_text(failure: Failure) -> Result<(), Failure>
+    ensures { result ≡ unless_of_text failure }
+{
     if is_of_text(&failure) {
         Ok(())
     } else {
@@ -128,7 +142,9 @@ fn current_text(cx: Context<'_>, root: &mut KeptRoot<'_>) -> Result<Vec<u8>, Fai
 ///
 /// Errors: it can't be read, is only promised, is that of another root (unless `--adopt` is given),
 /// or has too many rows; out of memory.
-pub fn read_kept(cx: Context<'_>, root: &mut KeptRoot<'_>) -> Result<Kept, Failure> {
+pub fn read_kept(cx: Context<'_>, root: &mut KeptRoot<'_>) -> Result<Kept, Failure>
+    ensures { IfOk result (MayBeUsed cx.entry.asked.now cx.entry.path.now) }
+{
     let kept = kept_of(cx.rt.alloc(), current_text(cx, root)?)?;
     match check(cx, &kept) {
         Ok(()) => Ok(kept),

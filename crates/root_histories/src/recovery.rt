@@ -3,10 +3,10 @@
 use crate::ending::{Stop, disk_after, end};
 use crate::finding::{Taken, note_promise_of, take};
 use crate::kept_root::KeptRoot;
+use crate::promise::{Promise, is_before_calls, promise_of};
 use crate::reading::{is_of_text, kept_of, most_bytes, read_kept, shown};
 use kept_roots::HistoryFile;
 use kept_runs::{Kept, recover};
-use kept_texts::Run;
 use link_tree::Change;
 use real_roots::RealDisk;
 use root_access::{Context, Failure};
@@ -14,13 +14,6 @@ use std::alloc::{AllocError, Global};
 
 /// What is said before the failure if the history of a promised run can't be read.
 const UNREADABLE: &str = "history.next, with the run that is promised, can't be read";
-
-/// The history on the disk, and the one that a run was about to write.
-#[derive(Drop)]
-struct Promise {
-    old: Kept,
-    new: Kept,
-}
 
 /// The text that a run which was cut short was about to write. Before it is read, the directory is
 /// synced. What runs left that were cut short before their promise was removed when it was locked.
@@ -45,38 +38,7 @@ fn read_new(cx: Context<'_>, root: &mut KeptRoot<'_>, next: Vec<u8>) -> Result<K
     }
 }
 
-/// Whether two runs are the same: of the same moment and user, with as many calls, and the same
-/// tree after them.
-fn is_same_run(one: &Run, other: &Run) -> bool {
-    let (words, others) = (&one.words, &other.words);
-    one.calls == other.calls
-        && one.tree == other.tree
-        && words.outside == others.outside
-        && words.time.text() == others.time.text()
-        && words.login.text() == others.login.text()
-}
-
-/// Whether one history goes on where another one ends, as that of a run always does: it has the
-/// same runs first. (Its text may have another path of the root, if that was moved.)
-fn goes_on(old: &Kept, new: &Kept) -> bool {
-    let (old, new) = (old.text(), new.text());
-    new.header().id == old.header().id
-        && new.runs().len() >= old.runs().len()
-        && old
-            .runs()
-            .iter()
-            .zip(new.runs().iter())
-            .all(|(one, other)| is_same_run(one, other))
-}
-
-fn promise_of(old: Kept, new: Kept) -> Result<Promise, Failure> {
-    if goes_on(&old, &new) {
-        Ok(Promise { old, new })
-    } else {
-        Err(Failure::OtherPromise)
-    }
-}
-
+/// The promise of a run, with the history that it goes on from.
 fn read_promise(
     cx: Context<'_>,
     root: &mut KeptRoot<'_>,
@@ -96,14 +58,6 @@ pub fn rows_text(alloc: Global, count: usize) -> Result<String, AllocError> {
     } else {
         format!(in alloc; "{count} rows")
     }
-}
-
-/// Whether a run was cut short before its calls, when it wrote what others had done, or the history
-/// for this root. Such a run has no steps: the root already was as the new history says.
-fn is_before_calls(promise: &Promise) -> bool {
-    let before = promise.old.text().runs().len();
-    let added = promise.new.text().runs().get(before..).unwrap_or(&[]);
-    added.iter().all(|run| run.words.outside)
 }
 
 /// Says that the history was written, with these rows of others.

@@ -1,4 +1,7 @@
 //! Warnings on units that exist nowhere.
+ghost use Rattle.std.specs.Prelude.{◌≡◌};
+ghost use Rattle.std.specs.Option.{option_copied};
+ghost use Rattle.root_reports.specs.Warnings as warnings;
 
 use disk::{Disk, DiskError, Found as Looked};
 use footprint::Units;
@@ -37,7 +40,9 @@ fn is_missing<D: Disk>(alloc: Global, disk: &mut D, name: &UnitName) -> Result<b
 }
 
 /// Whether an entry is one of this name, or a link to one.
-fn is_of(path: &TreePath, entry: &Entry, name: &UnitName) -> bool {
+fn is_of(path: &TreePath, entry: &Entry, name: &UnitName) -> bool
+    ensures { result ≡ warnings.is_of name.now path.now entry.now }
+{
     match entry {
         Entry::Link(target) if last_part(target.text()) == name.text() => true,
         _ => path.file_name() == name.text(),
@@ -46,7 +51,9 @@ fn is_of(path: &TreePath, entry: &Entry, name: &UnitName) -> bool {
 
 /// Whether an entry of this name is removed: a link in a `.wants`, an alias, or the entry at a
 /// slot.
-fn is_removed(changes: &[Change], name: &UnitName) -> bool {
+fn is_removed(changes: &[Change], name: &UnitName) -> bool
+    ensures { result ≡ warnings.is_removed changes.now name.now }
+{
     changes.iter().any(|change| match (&change.before, &change.after) {
         (Some(before), None) => is_of(&change.path, before, name),
         _ => false,
@@ -76,7 +83,9 @@ fn push_missing<D: Disk>(
 }
 
 /// The units of a `disable` or an `unmask`.
-fn units_of(action: &Action) -> Option<&Units> {
+fn units_of(action: &Action) -> Option<&Units>
+    ensures { option_copied result ≡ warnings.removed_units action.now }
+{
     match action {
         Action::Disable(disable) => Some(&disable.units),
         Action::Unmask(unmask) => Some(&unmask.units),

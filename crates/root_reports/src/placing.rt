@@ -1,4 +1,10 @@
 //! A file that is put in the root with the bytes of standard input.
+ghost use Rattle.std.specs.Prelude.{◌≡◌, true, false, IfErr, IfOk};
+ghost use Rattle.history.specs.declared.row.Request.TheVariants.{Do};
+ghost use Rattle.link_tree.specs.Files.{is_contents};
+ghost use Rattle.link_tree.specs.declared.entry.Entry.TheVariants.{File};
+ghost use Rattle.root_access.specs.declared.failure.Failure.TheVariants as failures;
+ghost use Rattle.unit_script.specs.declared.action.Action.TheVariants as actions;
 
 use history::{Operator, Request};
 use link_tree::{Entry, FileError, PathError, TreePath};
@@ -22,7 +28,9 @@ pub fn path_for_input(command: &Command) -> Option<&str> {
 }
 
 /// The path that a word is.
-pub fn path_of(alloc: Global, text: &str) -> Result<TreePath, Failure> {
+pub fn path_of(alloc: Global, text: &str) -> Result<TreePath, Failure>
+    ensures { IfOk result (λ path. path ≡ text.now) }
+{
     match TreePath::parse(alloc, text.as_bytes()) {
         Ok(path) => Ok(path),
         Err(PathError::BadPath) => Err(Failure::bad_word(alloc, "bad path", text)?),
@@ -30,7 +38,10 @@ pub fn path_of(alloc: Global, text: &str) -> Result<TreePath, Failure> {
     }
 }
 
-fn file_of(alloc: Global, bytes: &[u8]) -> Result<Entry, Failure> {
+fn file_of(alloc: Global, bytes: &[u8]) -> Result<Entry, Failure>
+    ensures file { IfOk result (λ entry. entry ≡ File bytes.now) }
+    ensures large { IfErr result (λ failure. failure ≡ failures.InputTooLarge → is_contents bytes.now ≡ false) }
+{
     match Entry::file(alloc, bytes) {
         Ok(entry) => Ok(entry),
         Err(FileError::TooLarge) => Err(Failure::InputTooLarge),
@@ -44,7 +55,9 @@ pub fn call_for_input(
     operator: Operator,
     path: &str,
     bytes: &[u8],
-) -> Result<Call, Failure> {
+) -> Result<Call, Failure>
+    ensures { IfOk result (λ call. call ≡ record { operator = operator; request = Do (actions.PlaceEntry (record { path = path.now; entry = File bytes.now })) }) }
+{
     let path = path_of(alloc, path)?;
     let entry = file_of(alloc, bytes)?;
     let request = Request::Do(Action::PlaceEntry(PlaceEntry { path, entry }));

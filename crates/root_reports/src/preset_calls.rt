@@ -1,4 +1,6 @@
 //! The calls of presets on a tree.
+ghost use Rattle.std.specs.Prelude.{◌≡◌, ◌++◌, IfOk, OnOk};
+ghost use Rattle.root_reports.specs.Calls as calling;
 
 use crate::presets::units_in_mode;
 use footprint::Units;
@@ -15,7 +17,9 @@ fn push_units_call(
     operator: Operator,
     units: &Units,
     action: Action,
-) -> Result<(), AllocError> {
+) -> Result<(), AllocError>
+    ensures { OnOk result (calls.new.items ≡ calls.old.items ++ calling.call_for operator units.now action) }
+{
     if units.as_slice().is_empty() {
         return Ok(());
     }
@@ -45,7 +49,9 @@ fn push_preset(
     operator: Operator,
     scope: Scope,
     units: &Units,
-) -> Result<(), AllocError> {
+) -> Result<(), AllocError>
+    ensures { OnOk result (calls.new.items ≡ calls.old.items ++ calling.preset_for operator scope units.now) }
+{
     let preset = Action::Preset(Preset {
         scope,
         units: units.copy()?,
@@ -60,7 +66,9 @@ pub fn preset_all_calls(
     chosen: &Chosen,
     operator: Operator,
     scope: Scope,
-) -> Result<Vec<Call>, AllocError> {
+) -> Result<Vec<Call>, AllocError>
+    ensures { IfOk result (λ calls. calls.items ≡ calling.preset_all_calls operator scope chosen.now) }
+{
     let mut calls = Vec::new(alloc);
     let units = chosen.bare.copy()?;
     let disable = Action::Disable(Disable { scope, units });

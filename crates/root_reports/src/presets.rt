@@ -1,4 +1,8 @@
 //! The units that presets take: all of a tree, or those that a mode leaves.
+ghost use Rattle.std.specs.Prelude.{◌≡◌};
+ghost use Rattle.std.specs.List.{list_any};
+ghost use Rattle.std.specs.Str.{bytes_eq};
+ghost use Rattle.root_reports.specs.Calls as calling;
 
 use footprint::Units;
 use history::Operator;
@@ -10,7 +14,9 @@ use std::alloc::{AllocError, Global};
 use unit_lists::{Chosen, Mode, PresetError, names_in_mode, preset_names};
 use unit_name::UnitName;
 
-pub fn mode_of(mode: PresetMode) -> Mode {
+pub fn mode_of(mode: PresetMode) -> Mode
+    ensures { result ≡ calling.mode_of mode }
+{
     match mode {
         PresetMode::Full => Mode::Full,
         PresetMode::EnableOnly => Mode::EnableOnly,
@@ -26,7 +32,9 @@ fn is_unit(alloc: Global, tree: &Tree, name: &UnitName) -> Result<bool, AllocErr
     })
 }
 
-fn has(names: &[UnitName], name: &UnitName) -> bool {
+fn has(names: &[UnitName], name: &UnitName) -> bool
+    ensures { result ≡ list_any (λ other. bytes_eq other name.now) names.now }
+{
     names.iter().any(|other| other.text() == name.text())
 }
 

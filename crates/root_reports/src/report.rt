@@ -1,4 +1,7 @@
 //! What a run of calls prints, and its status.
+ghost use Rattle.std.specs.Prelude.{◌≡◌, IfOk};
+ghost use Rattle.root_runs.specs.declared.plan.Plan.TheVariants as plans;
+ghost use Rattle.root_reports.specs.Runs as runs;
 
 use crate::json::{answers_text, rows_text};
 use crate::made::Made;
@@ -38,7 +41,9 @@ fn is_script(asked: &Asked) -> bool {
 }
 
 /// Whether a command only asks.
-pub fn is_question(command: &Command) -> bool {
+pub fn is_question(command: &Command) -> bool
+    ensures { result ≡ runs.is_question command.now }
+{
     match command {
         Command::IsEnabled(_) | Command::GetDefault | Command::ListDependencies { .. } => true,
         _ => false,
@@ -156,7 +161,9 @@ fn report_of_script(
     asked: &Asked,
     made: &Made<'_>,
     script: &[u8],
-) -> Result<Report, AllocError> {
+) -> Result<Report, AllocError>
+    ensures { IfOk result (λ report. report.plan ≡ runs.plan_for asked.now.how made.now) }
+{
     let plan = made.plan(asked.how);
     let numbers = numbers_of(alloc, asked, made, script)?;
     Ok(Report {
@@ -172,7 +179,9 @@ fn report_of_command<D: Disk>(
     root: &str,
     disk: &mut D,
     made: &Made<'_>,
-) -> Result<Report, AllocError> {
+) -> Result<Report, AllocError>
+    ensures { IfOk result (λ report. report.plan ≡ runs.plan_for asked.now.how made.now) }
+{
     let plan = made.plan(asked.how);
     Ok(Report {
         plan,
@@ -189,7 +198,9 @@ pub fn report_of<D: Disk>(
     disk: &mut D,
     made: &Made<'_>,
     script: &[u8],
-) -> Result<Report, AllocError> {
+) -> Result<Report, AllocError>
+    ensures { IfOk result (λ report. report.plan ≡ runs.plan_for asked.now.how made.now) }
+{
     if is_script(asked) {
         report_of_script(alloc, asked, made, script)
     } else {
@@ -197,7 +208,9 @@ pub fn report_of<D: Disk>(
     }
 }
 
-fn status_of(asked: &Asked, made: &Made<'_>) -> u8 {
+fn status_of(asked: &Asked, made: &Made<'_>) -> u8
+    ensures { result ≡ runs.status_of asked.now.command made.now }
+{
     match &asked.command {
         Command::IsEnabled(_) => enabled_status(made.rows()),
         Command::Run { .. } if made.is_refused() => REFUSED_IN_SCRIPT,
@@ -212,7 +225,9 @@ fn print_forbidden(
     asked: &Asked,
     made: &Made<'_>,
     report: &Report,
-) -> Result<u8, Failure> {
+) -> Result<u8, Failure>
+    ensures { IfOk result (λ status. ⊥) }
+{
     if asked.how.dry_run {
         print_messages(rt, &report.messages);
         if is_script(asked) {
@@ -229,7 +244,10 @@ pub fn print_report(
     made: &Made<'_>,
     report: &Report,
     done: Done,
-) -> Result<u8, Failure> {
+) -> Result<u8, Failure>
+    ensures status { IfOk result (λ status. status ≡ runs.status_of asked.now.command made.now) }
+    ensures forbidden { IfOk result (λ status. report.now.plan ≡ plans.Forbid → ⊥) }
+{
     if report.plan == Plan::Forbid {
         return print_forbidden(rt, asked, made, report);
     }

@@ -1,4 +1,7 @@
 //! Warnings on units that were to be enabled, and whose files ask for no links.
+ghost use Rattle.std.specs.Prelude.{◌≡◌};
+ghost use Rattle.std.specs.Option.{option_copied};
+ghost use Rattle.root_reports.specs.Warnings as warnings;
 
 use crate::made::Made;
 use footprint::{StateWord, Units};
@@ -15,7 +18,9 @@ const NOTHING: &[u8] =
     b"has nothing to enable: no WantedBy=, RequiredBy=, UpheldBy=, Also= or Alias= in [Install]";
 
 /// The units of an `enable` or a `reenable`.
-fn units_of(action: &Action) -> Option<&Units> {
+fn units_of(action: &Action) -> Option<&Units>
+    ensures { option_copied result ≡ warnings.enabled_units action.now }
+{
     match action {
         Action::Enable(enable) => Some(&enable.units),
         Action::Reenable(reenable) => Some(&reenable.units),

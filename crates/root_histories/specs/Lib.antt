@@ -1,0 +1,3 @@
+pub mod Endings
+pub mod Promises
+pub mod Readings
