@@ -1,4 +1,6 @@
 //! How a history reaches the disk.
+ghost use Rattle.std.specs.Prelude.{◌≡◌, IfErr};
+ghost use Rattle.kept_calls.specs.Runs.{failed_step, IsOfMaking, IsOfWriting};
 
 use kept_history::RunError;
 use link_tree::Tree;
@@ -7,7 +9,9 @@ use std::alloc::{AllocError, Global};
 use tree_steps::steps_between;
 
 /// The step that failed, if one did.
-fn failed_step(error: RunError) -> Option<usize> {
+fn failed_step(error: RunError) -> Option<usize>
+    ensures { result ≡ failed_step error }
+{
     match error {
         RunError::Refused { step, .. } | RunError::Withdrawn { step, .. } => Some(step),
         RunError::HalfWithdrawn { step, .. } => Some(step),
@@ -33,7 +37,9 @@ fn failed_path(
 }
 
 /// Writes a history to the disk, before calls are made. The root already is as it says.
-pub fn write_to(alloc: Global, root: &mut KeptRoot<'_>, kept: &Kept) -> Result<(), Stop> {
+pub fn write_to(alloc: Global, root: &mut KeptRoot<'_>, kept: &Kept) -> Result<(), Stop>
+    ensures { IfErr result IsOfWriting }
+{
     match commit_others(alloc, &mut root.disk, kept) {
         Ok(()) => Ok(()),
         Err(_) if root.disk.is_ending() => Err(Stop::NotBegun),
@@ -47,7 +53,9 @@ pub fn commit_to(
     root: &mut KeptRoot<'_>,
     old: &Tree,
     kept: &Kept,
-) -> Result<(), Stop> {
+) -> Result<(), Stop>
+    ensures { IfErr result IsOfMaking }
+{
     match commit(alloc, &mut root.disk, old, kept) {
         Ok(()) => Ok(()),
         Err(error) => Err(Stop::Unmade(

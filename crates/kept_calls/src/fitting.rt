@@ -1,4 +1,8 @@
 //! Fitting a history to a root: what others did since the last run, and what is at no slot.
+ghost use Rattle.std.specs.Prelude.{◌≡◌, is_some, IfOk};
+ghost use Rattle.std.specs.List.{list_all};
+ghost use Rattle.link_tree.specs.Differences.{changes_between};
+ghost use Rattle.unit_paths.specs.Slots.{is_slot};
 
 use crate::committing::write_to;
 use link_tree::{Slot, Tree};
@@ -25,7 +29,9 @@ pub struct Turn {
 }
 
 /// Whether two trees are equal but for slots.
-fn are_same_elsewhere(alloc: Global, one: &Tree, other: &Tree) -> Result<bool, AllocError> {
+fn are_same_elsewhere(alloc: Global, one: &Tree, other: &Tree) -> Result<bool, AllocError>
+    ensures { IfOk result (λ same. same ≡ list_all (λ change. is_slot change.path) (changes_between one.now other.now)) }
+{
     let changes = changes_between(alloc, one, other)?;
     Ok(
         changes

@@ -1,4 +1,8 @@
 //! The lines by which the calls of a run are kept.
+ghost use Rattle.std.specs.Prelude.{◌≡◌, map as list_map, IfErr, IfOk};
+ghost use Rattle.unit_script.specs.Script.{words_of};
+ghost use Rattle.root_access.specs.declared.failure.Failure.TheVariants as failures;
+ghost use Rattle.kept_calls.specs.Lines as lined;
 
 use crate::fitting::Turn;
 use crate::with_later::lines_with_later;
@@ -65,7 +69,9 @@ impl<'w> Wanted<'w> {
 }
 
 /// Whether the verb of a call names a row.
-fn names_row(verb: &[u8]) -> bool {
+fn names_row(verb: &[u8]) -> bool
+    ensures { result ≡ lined.names_row verb.now }
+{
     verb == b"undo".as_slice() || verb == b"redo".as_slice()
 }
 
@@ -76,7 +82,9 @@ fn row_of(word: &[u8]) -> Option<u32> {
 }
 
 /// The row of the history that a row of this run is. No row has the number 0.
-fn row_in_history(row: u32, before: usize) -> u32 {
+fn row_in_history(row: u32, before: usize) -> u32
+    ensures { result ≡ lined.row_in_history row before }
+{
     if row == 0 {
         return 0;
     }
@@ -206,7 +214,9 @@ fn lines_for_all(
 /// The name of others is no operator's on a root with a history.
 ///
 /// Error: `OutsideAsOperator` if this is it.
-pub fn check_operator(operator: &[u8]) -> Result<(), Failure> {
+pub fn check_operator(operator: &[u8]) -> Result<(), Failure>
+    ensures { result ≡ lined.checked_operator operator.now }
+{
     if operator == OUTSIDE {
         Err(Failure::OutsideAsOperator)
     } else {
@@ -291,7 +301,9 @@ fn fault_of_line(
     alloc: Global,
     rows: Option<RowsOf>,
     line: &[u8],
-) -> Result<Option<Failure>, AllocError> {
+) -> Result<Option<Failure>, AllocError>
+    ensures { IfOk result (λ fault. fault ≡ lined.line_fault rows (words_of line.now)) }
+{
     let words = words_of(alloc, line)?;
     match words.as_slice() {
         [operator, ..] if operator.starts_with(b"#") => Ok(None),

@@ -1,5 +1,8 @@
 //! Calls on a root with a history. They are made on all that its slots have, and on what else they
 //! look at, which is captured round after round.
+ghost use Rattle.std.specs.Prelude.{◌≡◌, false, length, if◌then◌else◌, Ok, IfOk};
+ghost use Rattle.root_histories.specs.Readings.{checked_length};
+ghost use Rattle.kept_calls.specs.Runs as runs;
 
 use crate::fitting::{Turn, fit};
 use crate::lines::Wanted;
@@ -14,7 +17,9 @@ use std::alloc::AllocError;
 const MAX_ROUNDS: u32 = 65_537;
 
 /// A turn with the history that is on the disk.
-fn new_turn(cx: Context<'_>, root: &mut KeptRoot<'_>) -> Result<Turn, Failure> {
+fn new_turn(cx: Context<'_>, root: &mut KeptRoot<'_>) -> Result<Turn, Failure>
+    ensures { IfOk result (λ turn. (turn.is_new ≡ false) × (turn.before ≡ 0)) }
+{
     let kept = read_kept(cx, root)?;
     match kept.history().tree().share() {
         Ok(tree) => Ok(Turn {
@@ -40,7 +45,9 @@ fn fit_to_root(
 }
 
 /// When a run is kept.
-fn keep_if(cx: Context<'_>) -> KeepIf {
+fn keep_if(cx: Context<'_>) -> KeepIf
+    ensures { result ≡ runs.keep_if cx.entry.asked.now.how.keep_going }
+{
     if cx.asked.how.keep_going {
         KeepIf::Accepted
     } else {
@@ -96,7 +103,9 @@ fn fill_turn(
 }
 
 /// Refuses a run whose history no later run could read. One that isn't kept has no text.
-fn check_written(cx: Context<'_>, turn: &Turn) -> Result<(), Failure> {
+fn check_written(cx: Context<'_>, turn: &Turn) -> Result<(), Failure>
+    ensures { result ≡ (if turn.now.kept.is_written then checked_length cx.entry.asked.now.history (length turn.now.kept.history.rows) (length turn.now.kept.text.bytes.items) else Ok tt) }
+{
     if turn.kept.is_written() {
         check_length(cx, &turn.kept)
     } else {

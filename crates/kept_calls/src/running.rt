@@ -1,4 +1,6 @@
 //! Runs on a root with a history.
+ghost use Rattle.std.specs.Prelude.{◌≡◌, IfOk};
+ghost use Rattle.kept_calls.specs.Runs.{done_with};
 
 use crate::committing::commit_to;
 use crate::fitting::Turn;
@@ -9,7 +11,9 @@ use root_reports::{Made, Report, print_report, report_of};
 use root_runs::Plan;
 
 /// Writes the history and makes the changes, if a run is made and kept.
-fn make(cx: Context<'_>, root: &mut KeptRoot<'_>, turn: &Turn, plan: Plan) -> Result<Done, Stop> {
+fn make(cx: Context<'_>, root: &mut KeptRoot<'_>, turn: &Turn, plan: Plan) -> Result<Done, Stop>
+    ensures { IfOk result (λ done. done ≡ done_with plan turn.now.kept.is_written) }
+{
     if plan == Plan::Make && turn.kept.is_written() {
         commit_to(cx.rt.alloc(), root, &turn.tree, &turn.kept)?;
         return Ok(Done::Changes);

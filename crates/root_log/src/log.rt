@@ -1,4 +1,8 @@
 //! `log`: the rows of a history.
+ghost use Rattle.std.specs.Prelude.{◌≡◌, ◌+◌, ◌==◌, false, string_bytes, IfErr, IfOk, IfSome};
+ghost use Rattle.std.specs.Option.{option_map};
+ghost use Rattle.history.specs.Operators.{is_operator};
+ghost use Rattle.root_access.specs.declared.failure.Failure.TheVariants as failures;
 
 use crate::shown_row::{ShownRow, lines_of_rows, words_of_call};
 use crate::zone::LocalZone;
@@ -42,7 +46,10 @@ fn unit_of(alloc: Global, word: &Option<String>) -> Result<Option<UnitName>, Fai
     }
 }
 
-fn operator_of(word: &Option<String>) -> Result<Option<Operator>, Failure> {
+fn operator_of(word: &Option<String>) -> Result<Option<Operator>, Failure>
+    ensures ok { IfOk result (λ operator. operator ≡ option_map string_bytes word.now) }
+    ensures err { IfErr result (λ failure. (failure ≡ failures.BadOperator) × IfSome word.now (λ word. is_operator (string_bytes word) ≡ false)) }
+{
     match word {
         Some(word) => match Operator::parse(word.as_str().as_bytes()) {
             Ok(operator) => Ok(Some(operator)),

@@ -1,4 +1,6 @@
 //! `show`: one row of a history.
+ghost use Rattle.std.specs.Prelude.{◌≡◌, [], Some, None, IfNone, IfOk, IfSome};
+ghost use Rattle.root_log.specs.Rows.{refusal_of, row_at};
 
 use crate::shown_row::{ShownRow, lines_of_rows, words_of_call};
 use crate::zone::LocalZone;
@@ -34,7 +36,9 @@ fn undoing_of(alloc: Global, kept: &Kept, n: u32) -> Result<Undoing, AllocError>
     }
 }
 
-fn refused(alloc: Global, e: ToUndoError) -> Result<Undoing, AllocError> {
+fn refused(alloc: Global, e: ToUndoError) -> Result<Undoing, AllocError>
+    ensures { IfOk result (λ undoing. (undoing.rows.items ≡ []) × (undoing.refusal ≡ refusal_of e)) }
+{
     let refusal = match e {
         ToUndoError::NoSuchRow => UndoRefusal::NoSuchRow,
         ToUndoError::NotACommand => UndoRefusal::NotACommand,
@@ -52,7 +56,10 @@ fn row_of<'k>(
     alloc: Global,
     kept: &'k Kept,
     number: u32,
-) -> Result<Option<ShownRow<'k>>, AllocError> {
+) -> Result<Option<ShownRow<'k>>, AllocError>
+    ensures some { IfOk result (λ one. IfSome one (λ row. (row.number ≡ number) × (row_at kept.now.history.rows number ≡ Some row.row.now))) }
+    ensures none { IfOk result (λ one. IfNone one (row_at kept.now.history.rows number ≡ None)) }
+{
     let Some(place) = (number as usize).checked_sub(1) else {
         return Ok(None);
     };

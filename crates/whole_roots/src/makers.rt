@@ -1,4 +1,9 @@
 //! Which rows of a history made what is at paths of a root that is only looked at.
+ghost use Rattle.std.specs.Prelude.{◌≡◌, true};
+ghost use Rattle.std.specs.List.{list_any};
+ghost use Rattle.std.specs.Str.{bytes_eq};
+ghost use Rattle.std.specs.FinMap as map;
+ghost use Rattle.whole_roots.specs.Makers.{IsPassedOver};
 
 use history::{History, Operator};
 use link_tree::{PathError, Tree, TreePath};
@@ -21,7 +26,10 @@ pub struct MadeBy {
 }
 
 /// Whether the same is at a path of two trees.
-fn are_same_at(one: &Tree, other: &Tree, path: &TreePath) -> bool {
+fn are_same_at(one: &Tree, other: &Tree, path: &TreePath) -> bool
+    ensures yes { result ≡ true → map.get one.now path.now ≡ map.get other.now path.now }
+    ensures no { map.get one.now path.now ≡ map.get other.now path.now → result ≡ true }
+{
     match (one.get(path), other.get(path)) {
         (Some(one), Some(other)) => one.same(other),
         (None, None) => true,
@@ -31,7 +39,9 @@ fn are_same_at(one: &Tree, other: &Tree, path: &TreePath) -> bool {
 
 /// Whether a path has its row already: a link that leads nowhere is a unit's path, and one of its
 /// links too.
-fn has_maker(makers: &[MadeBy], path: &TreePath) -> bool {
+fn has_maker(makers: &[MadeBy], path: &TreePath) -> bool
+    ensures { result ≡ list_any (λ made. bytes_eq made.path path.now) makers.now }
+{
     makers.iter().any(|made| made.path.text() == path.text())
 }
 
@@ -90,7 +100,9 @@ pub fn makers_of(
 }
 
 /// Says why no rows are named. If `--history` names the history, it must be readable.
-fn check_passed_over(cx: Context<'_>, failure: Failure) -> Result<(), Failure> {
+fn check_passed_over(cx: Context<'_>, failure: Failure) -> Result<(), Failure>
+    ensures { IsPassedOver cx.entry.asked.now.history failure result }
+{
     if cx.asked.history.is_some() {
         return Err(failure);
     }

@@ -1,4 +1,6 @@
 //! What units are, and what enables or masks them: `status`.
+ghost use Rattle.std.specs.Prelude.{◌≡◌, IfOk};
+ghost use Rattle.whole_roots.specs.Makers.{note_text};
 
 use crate::makers::{MadeBy, look_at_root, makers_of};
 use link_tree::{Tree, TreePath, push_decimal};
@@ -28,7 +30,9 @@ fn names_of(alloc: Global, words: &[String]) -> Result<Vec<UnitName>, Failure> {
 }
 
 /// ` (row N by OPERATOR)`
-fn note_text(alloc: Global, maker: &MadeBy) -> Result<Vec<u8>, AllocError> {
+fn note_text(alloc: Global, maker: &MadeBy) -> Result<Vec<u8>, AllocError>
+    ensures { IfOk result (λ text. text.items ≡ note_text maker.now.row maker.now.operator) }
+{
     let mut text = Vec::from_slice(alloc, b" (row ")?;
     push_decimal(&mut text, maker.row as usize)?;
     text.extend_from_slice(b" by ")?;

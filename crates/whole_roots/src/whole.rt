@@ -1,4 +1,8 @@
 //! Commands on a whole root: its inventory, how it differs, and making it as an inventory says.
+ghost use Rattle.std.specs.Prelude.{◌≡◌, false, IfErr, IfOk};
+ghost use Rattle.link_tree.specs.Trees.{after_changes};
+ghost use Rattle.tree_steps.specs.Steps.{slot_changes_between};
+ghost use Rattle.whole_roots.specs.Slots.{is_forbidden, IsForbidden};
 
 use crate::json::{applied_text, changes_text};
 use byte_streams::ToWrite;
@@ -175,7 +179,11 @@ fn slot_changes(
     asked: &Asked,
     captured: &Tree,
     inventory: &Tree,
-) -> Result<Vec<Change>, Failure> {
+) -> Result<Vec<Change>, Failure>
+    ensures changes { IfOk result (λ changes. changes.items ≡ slot_changes_between captured.now inventory.now) }
+    ensures allowed { IfOk result (λ changes. is_forbidden asked.now.how.vendor changes.items ≡ false) }
+    ensures forbidden { IfErr result IsForbidden }
+{
     let changes = slot_changes_between(alloc, captured, inventory)?;
     let vendors = first_of_vendor(&changes);
     if vendors.is_some() && !asked.how.vendor {
@@ -196,7 +204,9 @@ fn applied(alloc: Global, asked: &Asked, changes: &[Change]) -> Result<Vec<u8>, 
 }
 
 /// A tree with the slots of an inventory.
-fn with_slots_of(alloc: Global, captured: &Tree, inventory: &Tree) -> Result<Tree, AllocError> {
+fn with_slots_of(alloc: Global, captured: &Tree, inventory: &Tree) -> Result<Tree, AllocError>
+    ensures { IfOk result (λ tree. tree ≡ after_changes (slot_changes_between captured.now inventory.now) captured.now) }
+{
     let changes = slot_changes_between(alloc, captured, inventory)?;
     captured.with_changes(&changes)
 }
