@@ -368,12 +368,18 @@ def masks(count):
     return ''.join('a mask many-%05d.service\n' % number for number in range(count))
 
 
+def with_signals():
+    """A shell has what it starts in the background ignore SIGINT, and so would the run."""
+    for number in (signal.SIGINT, signal.SIGTERM, signal.SIGHUP):
+        signal.signal(number, signal.SIG_DFL)
+
+
 def ended_by(unitroot, root, number, lines):
     """The status of a run that gets a signal once it has made 51 links. It gives way to this program,
     so that the signal comes in time on a busy machine, too."""
     running = subprocess.Popen(['nice', '-n', '19', unitroot.path, '--root=%s' % root, 'run'],
                                stdin=subprocess.PIPE, stdout=subprocess.DEVNULL,
-                               stderr=subprocess.DEVNULL)
+                               stderr=subprocess.DEVNULL, preexec_fn=with_signals)
     running.stdin.write(lines.encode())
     running.stdin.close()
     first = root + ETC + '/many-00050.service'
